@@ -1,0 +1,28 @@
+//! The traits of the outside, the limits of the bench link, and the small types that every layer shares.
+//!
+//! A [`Source`] gives bytes and a [`Sink`] takes them. Each counts its faults, and answers `Failed`
+//! exactly where that count rises. Implementations in memory tell what they hold; the adapters of
+//! standard input and output tell nothing of content.
+#![tactic(auto)]
+
+mod fail_plan;
+mod faults;
+mod limits;
+mod mem_sink;
+mod mem_source;
+mod memory;
+mod octets;
+mod sink;
+mod source;
+mod std_sink;
+mod std_source;
+
+pub use limits::{BULK_IN_SUBMIT, RESPONSE_MAX, SUBMIT_MAX};
+pub use mem_sink::MemSink;
+pub use mem_source::MemSource;
+pub use memory::Memory;
+pub use octets::Octets;
+pub use sink::{Sink, WriteStep};
+pub use source::{ReadStep, Source};
+pub use std_sink::StdSink;
+pub use std_source::StdSource;

@@ -1,0 +1,77 @@
+ghost use Rattle.std.specs.Prelude.{◌≡◌, ◌<◌, length, []};
+ghost use Rattle.tmc_base.specs.Source.{IsWithin, ReadTells, ReadCounts};
+
+use crate::fail_plan::FailPlan;
+use crate::faults::FaultCount;
+use crate::{ReadStep, Source};
+use std::marker::Model;
+
+/// A source in memory. It gives its bytes in pieces, and fails at the calls that it is told to.
+#[derive(Drop)]
+pub struct MemSource {
+    bytes: Vec<u8>,
+    at: usize,
+    most: usize,
+    plan: FailPlan,
+    faults: FaultCount,
+}
+
+impl Model for MemSource {
+    ghost use Rattle.std.specs.Prelude.{◌<◌, ◌≤◌, drop, length};
+    ghost use Rattle.tmc_base.specs.MemSource.{Held};
+
+    ghost Value = { Held };
+
+    ghost view = { λ a. record { left = drop a.at a.bytes.items; most = a.most; plan = a.plan; faults = a.faults } };
+
+    ghost invariant = { λ a. (a.at ≤ length a.bytes.items) × (0 < a.most) };
+}
+
+impl MemSource {
+    ghost use Rattle.tmc_base.specs.MemSource.{Held, Reads};
+
+    /// Gives `bytes` in pieces of at most `most` bytes. The calls in `fails`, counted from 1, fail; with
+    /// none it never fails.
+    pub fn new(bytes: Vec<u8>, most: usize, fails: Vec<u32>) -> MemSource
+        requires { 0 < most }
+        ensures { result ≡ record { left = bytes.items; most = most; plan = record { fails = fails.items; calls = 0 }; faults = 0 } }
+    {
+        MemSource {
+            bytes,
+            at: 0,
+            most,
+            plan: FailPlan::new(fails),
+            faults: FaultCount::new(),
+        }
+    }
+}
+
+impl Source for MemSource {
+    ghost use Rattle.std.specs.Prelude.{Some};
+    ghost use Rattle.tmc_base.specs.MemSource.{Reads};
+
+    ghost left = { λ s. Some s.left };
+
+    ghost faults = { λ s. s.faults };
+
+    fn read(&mut self, buf: &mut [u8]) -> ReadStep
+        requires { 0 < length buf.old }
+        ensures within { IsWithin result (length buf.old) }
+        ensures told { ReadTells result buf.new (Some self.old.left) (Some self.new.left) }
+        ensures counts { ReadCounts result self.old.faults self.new.faults }
+        ensures goes { Reads self.old (length buf.old) result self.new }
+    {
+        if self.plan.next_fails() {
+            self.faults.raise();
+            return ReadStep::Failed;
+        }
+        let left = &self.bytes[self.at..];
+        if left.is_empty() {
+            return ReadStep::End;
+        }
+        let n = buf.len().min(self.most.min(left.len()));
+        buf[..n].copy_from_slice(&left[..n]);
+        self.at += n;
+        ReadStep::Got(n)
+    }
+}

@@ -1,0 +1,30 @@
+ghost use Rattle.std.specs.Prelude.{◌≡◌, ℕ, ◌<◌, List, Option, length, take};
+ghost use Rattle.tmc_base.specs.Sink.{IsWithin, WriteCounts, took_count, put_after};
+
+/// The answer of one write.
+#[derive(Clone, Copy, Debug, PartialEq, Eq)]
+pub enum WriteStep {
+    /// So many bytes of the piece went, at least one.
+    Took(usize),
+    /// The write failed, and the count of faults rose.
+    Failed,
+}
+
+/// Where bytes go.
+///
+/// `put` is the bytes put so far, where the sink tells them. `faults` is how many writes failed, up to
+/// the greatest `u64`.
+pub trait Sink {
+    ghost use Rattle.tmc_base.specs.declared.sink.WriteStep.{WriteStep};
+
+    ghost put: { Self → Option (List ℕ) };
+
+    ghost faults: { Self → ℕ };
+
+    /// Writes from the front of `piece`.
+    fn write(&mut self, piece: &[u8]) -> WriteStep
+        requires { 0 < length piece.now }
+        ensures within { IsWithin result (length piece.now) }
+        ensures told { put self.new ≡ put_after (take (took_count result) piece.now) (put self.old) }
+        ensures counts { WriteCounts result (faults self.old) (faults self.new) };
+}
