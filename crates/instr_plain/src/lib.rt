@@ -1,13 +1,10 @@
-// A library with one function.
+//! The plain instrument: what it answers to program messages, by IEEE 488.2, with no transfer and no packet.
 #![tactic(auto)]
 
-ghost use Rattle.std.specs.Prelude.{◌≡◌};
-ghost use Rattle.instr_plain.specs.Echo.{echo_of};
+mod instrument;
+mod plain;
+mod query;
 
-// The `ensures` clause is the contract: what `echo` returns is `echo_of` of its argument, a definition
-// in `specs/Echo.antt`, which a caller's clause can cite too.
-pub fn echo(x: usize) -> usize
-    ensures { result ≡ echo_of x }
-{
-    x
-}
+pub use instrument::Instrument;
+pub use plain::{Plain, RemoteState};
+pub use query::{Query, is_message};

@@ -1,13 +1,6 @@
-// A library with one function.
+//! Transfers of the USB Test and Measurement Class (USBTMC 1.0) and its subclass USB488 1.0.
 #![tactic(auto)]
 
-ghost use Rattle.std.specs.Prelude.{◌≡◌};
-ghost use Rattle.tmc_wire.specs.Echo.{echo_of};
+mod header;
 
-// The `ensures` clause is the contract: what `echo` returns is `echo_of` of its argument, a definition
-// in `specs/Echo.antt`, which a caller's clause can cite too.
-pub fn echo(x: usize) -> usize
-    ensures { result ≡ echo_of x }
-{
-    x
-}
+pub use header::{BULK_HEADER, InHeader, OutHeader, in_bytes, out_bytes};

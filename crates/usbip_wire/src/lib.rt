@@ -1,13 +1,12 @@
-// A library with one function.
+//! USB/IP messages, version 0x0111, as the Linux kernel documents them. All fields are big-endian.
+//!
+//! Each `put_` call appends one spelling of its message, and takes no memory.
 #![tactic(auto)]
 
-ghost use Rattle.std.specs.Prelude.{◌≡◌};
-ghost use Rattle.usbip_wire.specs.Echo.{echo_of};
+mod ret_submit;
+mod submit;
+mod urb;
 
-// The `ensures` clause is the contract: what `echo` returns is `echo_of` of its argument, a definition
-// in `specs/Echo.antt`, which a caller's clause can cite too.
-pub fn echo(x: usize) -> usize
-    ensures { result ≡ echo_of x }
-{
-    x
-}
+pub use ret_submit::{RetSubmitHead, put_ret_submit};
+pub use submit::{SubmitHead, put_submit};
+pub use urb::{Dir, ENDPOINT_MAX, URB_HEADER};

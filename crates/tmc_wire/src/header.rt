@@ -1,0 +1,71 @@
+ghost use Rattle.std.specs.Prelude.{◌≡◌, ◌++◌};
+ghost use Rattle.tmc_wire.specs.Header.{IsOutHeader, IsInHeader, IsOutProper, IsInProper, out_header_bytes, in_header_bytes, prefix, sized};
+
+/// The bytes of a bulk header.
+pub const BULK_HEADER: usize = 12;
+
+/// MsgID of a message to the device (USBTMC 1.0, table 2).
+pub(crate) const DEV_DEP_MSG_OUT: u8 = 1;
+
+/// MsgID of a request of a message from the device.
+pub(crate) const REQUEST_DEV_DEP_MSG_IN: u8 = 2;
+
+/// MsgID of a message from the device.
+pub(crate) const DEV_DEP_MSG_IN: u8 = 2;
+
+/// MsgID of a trigger (USB488 1.0, table 1).
+pub(crate) const TRIGGER: u8 = 128;
+
+/// The header of a Bulk-OUT transfer (USBTMC 1.0, section 3.2; USB488 1.0, section 3.2.1).
+///
+/// Tags are 1 to 255. A size is in bytes, and at least 1.
+#[derive(Clone, Copy, Debug, PartialEq, Eq)]
+pub enum OutHeader {
+    /// DEV_DEP_MSG_OUT: `size` bytes of a message follow, and with `eom` they end it.
+    Message { tag: u8, size: u32, eom: bool },
+    /// REQUEST_DEV_DEP_MSG_IN: at most `size` bytes of the response are wanted.
+    Request { tag: u8, size: u32 },
+    /// TRIGGER.
+    Trigger { tag: u8 },
+}
+
+/// The header of a Bulk-IN transfer, DEV_DEP_MSG_IN (USBTMC 1.0, section 3.3): `size` bytes of the
+/// response to the request with this tag follow, and with `eom` they end it.
+#[derive(Clone, Copy, Debug, PartialEq, Eq)]
+pub struct InHeader {
+    pub tag: u8,
+    pub size: u32,
+    pub eom: bool,
+}
+
+/// A header with a size, with 0 in the bytes that it does not use.
+fn sized_bytes(msg_id: u8, tag: u8, size: u32, attributes: u8) -> [u8; 12]
+    ensures { result ≡ prefix msg_id tag 0 ++ sized size attributes 0 0 0 }
+{
+    let [first, second, third, fourth] = size.to_le_bytes();
+    [msg_id, tag, !tag, 0, first, second, third, fourth, attributes, 0, 0, 0]
+}
+
+/// The 12 bytes of a Bulk-OUT header. TransferSize is little-endian, and reserved bytes are 0.
+pub fn out_bytes(header: OutHeader) -> [u8; 12]
+    requires { IsOutProper header }
+    ensures written { result ≡ out_header_bytes header }
+    ensures spelled { IsOutHeader header result }
+{
+    match header {
+        OutHeader::Message { tag, size, eom } => {
+            sized_bytes(DEV_DEP_MSG_OUT, tag, size, u8::from(eom))
+        }
+        OutHeader::Request { tag, size } => sized_bytes(REQUEST_DEV_DEP_MSG_IN, tag, size, 0),
+        OutHeader::Trigger { tag } => [TRIGGER, tag, !tag, 0, 0, 0, 0, 0, 0, 0, 0, 0],
+    }
+}
+
+/// The 12 bytes of a Bulk-IN header. TransferSize is little-endian, and reserved bytes are 0.
+pub fn in_bytes(header: InHeader) -> [u8; 12]
+    requires { IsInProper header }
+    ensures written { result ≡ in_header_bytes header }
+    ensures spelled { IsInHeader header result }
+{
+    sized_bytes(DEV_DEP_MSG_IN, header.tag, header.size, u8::from(header.eom))
+}

@@ -1,0 +1,50 @@
+ghost use Rattle.std.specs.Prelude.{◌≡◌, ◌+◌, ◌*◌, ◌≤◌, ◌++◌, length};
+ghost use Rattle.usbip_wire.specs.Urb.{fields, direction_code};
+
+use bytes::BytesMut;
+
+/// The bytes in front of a URB message's data.
+pub const URB_HEADER: usize = 48;
+
+/// The greatest endpoint number.
+pub const ENDPOINT_MAX: u32 = 15;
+
+pub(crate) const CMD_SUBMIT: u32 = 1;
+
+pub(crate) const RET_SUBMIT: u32 = 3;
+
+/// The `number_of_packets` of a transfer that is not isochronous.
+pub(crate) const NOT_ISOCHRONOUS: u32 = 0xffff_ffff;
+
+/// Where the data of a transfer goes: to the device, or from it.
+#[derive(Clone, Copy, Debug, PartialEq, Eq)]
+pub enum Dir {
+    Out,
+    In,
+}
+
+impl Dir {
+    ghost use Rattle.usbip_wire.specs.Urb.{direction_code};
+
+    /// Its number in a URB header.
+    pub(crate) fn code(self) -> u32
+        ensures { result ≡ direction_code self }
+    {
+        match self {
+            Dir::Out => 0,
+            Dir::In => 1,
+        }
+    }
+}
+
+/// Appends these fields.
+#[tactic(auto, unfolding(crate::specs::Urb::fields))]
+pub(crate) fn put_fields(words: &[u32], out: &mut BytesMut)
+    requires { 4 * length words.now ≤ out.old.spare }
+    ensures items { out.new.items ≡ out.old.items ++ fields words.now }
+    ensures spare { out.new.spare + 4 * length words.now ≡ out.old.spare }
+{
+    for word in words {
+        out.extend_reserved(&word.to_be_bytes());
+    }
+}
