@@ -22,3 +22,10 @@ put_after bytes put = option_map (λ before. before ++ bytes) put
 abbrev pub WriteCounts : WriteStep → ℕ → ℕ → Type 0
 WriteCounts (Took n) before now = now ≡ before
 WriteCounts Failed before now = Rose before now × (before ≤ now)
+
+-- the sink was given a front of these bytes, where it tells it
+pub record PutsFront (bytes : List ℕ) (old new : Option (List ℕ)) : Type 0 where
+  pub front : List ℕ
+  pub rest : List ℕ
+  pub cut : bytes ≡ front ++ rest
+  pub put : new ≡ put_after front old

@@ -1,6 +1,6 @@
 use Rattle.std.proofs.Common.{inl, refl}
 use Rattle.usbip_wire.specs.Submit.{submit_bytes, unused}
-use Rattle.usbip_wire.proofs.Appends.{three_appended}
+use Rattle.tmc_base.proofs.Appends.{three_appended}
 use Rattle.usbip_wire.proofs.submit.put_submit.Goals as goal
 
 pub returns-clause-written : goal.returns-clause-written

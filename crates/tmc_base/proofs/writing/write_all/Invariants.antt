@@ -1,0 +1,13 @@
+use Rattle.std.proofs.Common.{◌≡◌, ◌≤◌, ◌-◌, take, length}
+use Rattle.tmc_base.specs.Sink.{put_after}
+use Rattle.tmc_base.proofs.writing.write_all.Given as goal
+
+abbrev pub invariant-pieces : goal.invariant-pieces
+invariant-pieces g l = record {
+  within : l.written ≤ length l.bytes;
+  put : g.K.Sink.put l.sink ≡ put_after (take l.written l.bytes) (g.K.Sink.put l.fn.sink);
+  counts : g.K.Sink.faults l.sink ≡ g.K.Sink.faults l.fn.sink;
+}
+
+abbrev pub decreases-pieces : goal.decreases-pieces
+decreases-pieces g l = length l.bytes - l.written

@@ -1,0 +1,116 @@
+-- what a call of the program does, by its status
+use Rattle.std.specs.Prelude.{◌≡◌, ◌⊎◌, ℕ, ◌≤◌, List, [], ◌∷◌, ◌++◌, length, codes, Option}
+use Rattle.tmc_base.specs.Faults.{Rose}
+use Rattle.tmc_base.specs.Source.{GivesFirst, HasEnded}
+use Rattle.tmc_base.specs.Sink.{PutsFront, put_after}
+use Rattle.instr_plain.specs.Exec.{IsMessage}
+use Rattle.tmc_tool.specs.declared.exchange.TheConstants.{ASK_LIMIT}
+use Rattle.tmc_tool.specs.declared.ask.TheConstants.{LINE_MAX}
+use Rattle.tmc_tool.specs.declared.status.Status.{Status}
+use Rattle.tmc_tool.specs.declared.status.Status.TheVariants.{Printed, Usage, Refused, SourceFault, SinkFault, NoMemory}
+use Rattle.tmc_tool.specs.Exchange.{Crosses}
+use Rattle.tmc_tool.specs.Report.{Told, Asked, Settled, Exec as exec_entry, Took, Reports}
+
+-- the number that a status is to the shell
+abbrev pub code_of : Status → ℕ
+code_of Printed = 0
+code_of Usage = 1
+code_of Refused = 2
+code_of SourceFault = 3
+code_of SinkFault = 4
+code_of NoMemory = 5
+
+-- the words behind the program's name are `ask` alone
+abbrev pub IsAsk : List (List ℕ) → Type 0
+IsAsk words = words ≡ codes "ask" ∷ []
+
+-- the bytes are a message, with or without one NL behind it
+abbrev pub IsLine : List ℕ → List ℕ → Type 0
+IsLine bytes message = (bytes ≡ message) ⊎ (bytes ≡ message ++ 10 ∷ [])
+
+-- the bytes are a line that can be asked
+pub record IsQuestion (bytes : List ℕ) : Type 0 where
+  pub message : List ℕ
+  pub known : IsMessage message
+  pub line : IsLine bytes message
+
+-- what is told of the outside: the bytes left in the source, those put into the sink, and the counts of faults
+pub record Outside : Type 0 where
+  pub left : Option (List ℕ)
+  pub read_faults : ℕ
+  pub put : Option (List ℕ)
+  pub write_faults : ℕ
+
+-- these bytes were read: the first of the source, and all of them or at least the most that a line may have
+pub record ReadsLine (bytes : List ℕ) (before after : Outside) : Type 0 where
+  pub first : GivesFirst bytes before.left after.left
+  pub enough : HasEnded after.left ⊎ (LINE_MAX ≤ length bytes)
+  pub counts : after.read_faults ≡ before.read_faults
+
+-- nothing was read
+pub record ReadsNothing (before after : Outside) : Type 0 where
+  pub left : after.left ≡ before.left
+  pub counts : after.read_faults ≡ before.read_faults
+
+-- nothing was put
+pub record PutsNothing (before after : Outside) : Type 0 where
+  pub put : after.put ≡ before.put
+  pub counts : after.write_faults ≡ before.write_faults
+
+-- this text was put whole
+pub record Puts (text : List ℕ) (before after : Outside) : Type 0 where
+  pub put : after.put ≡ put_after text before.put
+  pub counts : after.write_faults ≡ before.write_faults
+
+-- what is told of one ask of this message, answered with this response
+abbrev pub told_of : (message response sent taken : List ℕ) → Told
+told_of message response sent taken = record {
+  tickets = record { session = 0; limit = ASK_LIMIT; last = 1; message = message; bytes = response } ∷ [];
+  book = Asked 1 ∷ Settled 1 ∷ [];
+  log = exec_entry 1 message ∷ Took (length response) ∷ [];
+  up = sent;
+  down = taken;
+}
+
+-- this text is the true report of asking these bytes: the plain instrument executes the message from power-on, its
+-- response crosses the link, and the report tells exactly these bytes
+pub record Answers (bytes text : List ℕ) : Type 0 where
+  pub message : List ℕ
+  pub response : List ℕ
+  pub sent : List ℕ
+  pub taken : List ℕ
+  pub line : IsLine bytes message
+  pub crossed : Crosses message response sent taken
+  pub reported : Reports (told_of message response sent taken) text
+
+-- the text that is due with a status, by the words and by what was read
+abbrev pub Due : List (List ℕ) → Outside → Outside → Status → List ℕ → Type 0
+Due words before after Printed text =
+    IsAsk words × ((bytes : List ℕ) × GivesFirst bytes before.left after.left × HasEnded after.left × (after.read_faults ≡ before.read_faults) × Answers bytes text)
+Due words before after Usage text = (IsAsk words → ⊥) × ReadsNothing before after × (text ≡ codes "usage\n")
+Due words before after Refused text =
+    IsAsk words × ((bytes : List ℕ) × ReadsLine bytes before after × (IsQuestion bytes → ⊥)) × (text ≡ codes "refused line 1 NotYet\n")
+Due words before after SourceFault text = ⊥
+Due words before after SinkFault text = ⊥
+Due words before after NoMemory text = ⊥
+
+-- some text is due with the status, and was put whole
+abbrev pub IsWritten : List (List ℕ) → Status → Outside → Outside → Type 0
+IsWritten words status before after = (text : List ℕ) × Due words before after status text × Puts text before after
+
+-- what each status means
+abbrev pub Ends : List (List ℕ) → Status → Outside → Outside → Type 0
+Ends words Printed before after = IsWritten words Printed before after
+Ends words Usage before after = IsWritten words Usage before after
+Ends words Refused before after = IsWritten words Refused before after
+Ends words SourceFault before after = IsAsk words × Rose before.read_faults after.read_faults × PutsNothing before after
+Ends words SinkFault before after =
+    Rose before.write_faults after.write_faults
+    × ((status : Status) × (text : List ℕ) × Due words before after status text × PutsFront text before.put after.put)
+Ends words NoMemory before after = IsAsk words × (after.read_faults ≡ before.read_faults) × PutsNothing before after
+
+-- a text was written whole and the status is its own, or the sink failed and took a front of it
+abbrev pub Writes : Status → List ℕ → Status → Option (List ℕ) → ℕ → Option (List ℕ) → ℕ → Type 0
+Writes status text result old_put old_faults new_put new_faults =
+    ((result ≡ status) × (new_put ≡ put_after text old_put) × (new_faults ≡ old_faults))
+    ⊎ ((result ≡ SinkFault) × Rose old_faults new_faults × PutsFront text old_put new_put)
