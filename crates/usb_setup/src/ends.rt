@@ -1,0 +1,54 @@
+ghost use Rattle.std.specs.Prelude.{◌≡◌, ◌<◌, ◌^◌, ◌↔◌, length, Ok, Err, MatchOption};
+ghost use Rattle.usb_setup.specs.declared.desc_fault.DescFault.{DescFault};
+ghost use Rattle.usb_setup.specs.declared.ends.Ends.{Ends};
+ghost use Rattle.usb_setup.specs.Interface.{Finds, FaultIs};
+ghost use Rattle.usb_setup.specs.Descriptors.{BeginsWithConfiguration, bConfigurationValue, IsBrokenAt};
+
+use crate::DescFault;
+use crate::scan::Scan;
+use crate::standard::CONFIGURATION;
+
+/// The USBTMC interface of a device, and the addresses of its endpoints.
+#[derive(Clone, Copy, Debug, PartialEq, Eq)]
+pub struct Ends {
+    /// bConfigurationValue of the configuration: what SET_CONFIGURATION selects it by.
+    pub configuration: u8,
+    /// bInterfaceNumber of the interface.
+    pub interface: u8,
+    /// bInterfaceProtocol: 0 is USBTMC alone, 1 is USB488.
+    pub protocol: u8,
+    /// bEndpointAddress of the first Bulk-OUT endpoint.
+    pub bulk_out: u8,
+    /// bEndpointAddress of the first Bulk-IN endpoint, bit 7 set.
+    pub bulk_in: u8,
+    /// bEndpointAddress of the first Interrupt-IN endpoint, bit 7 set, where there is one.
+    pub notify: Option<u8>,
+    /// wMaxPacketSize of the first Interrupt-IN endpoint, in bytes; 0 where there is none.
+    pub notify_size: u16,
+}
+
+/// bConfigurationValue of the configuration descriptor that begins the list, or `None` where none does.
+fn configuration_value(bytes: &[u8]) -> Option<u8>
+    ensures { MatchOption result
+        (IsBrokenAt bytes.now 0)
+        (λ value. BeginsWithConfiguration bytes.now × (value ≡ bConfigurationValue bytes.now)) }
+{
+    match bytes {
+        [(9..), CONFIGURATION, _, _, _, value, ..] => Some(*value),
+        _ => None,
+    }
+}
+
+/// The first interface of class 0xFE, subclass 0x03 and protocol 0 or 1 in a configuration's descriptors, with
+/// its first Bulk-OUT, Bulk-IN and Interrupt-IN endpoints: USB 2.0 sections 9.5, 9.6.3, 9.6.5 and 9.6.6. Its
+/// endpoints are those up to the next interface descriptor. Descriptors of other types are skipped by their
+/// length. Takes no memory.
+pub fn find_interface(bytes: &[u8]) -> Result<Ends, DescFault>
+    requires { length bytes.now < 2 ^ 32 }
+    ensures found { (ends : Ends) → (result ≡ Ok ends) ↔ Finds bytes.now ends }
+    ensures fault { (fault : DescFault) → (result ≡ Err fault) ↔ FaultIs bytes.now fault }
+{
+    let configuration = configuration_value(bytes).ok_or(DescFault::Length { at: 0 })?;
+    let scan = Scan::of(bytes)?;
+    scan.ends(configuration)
+}
