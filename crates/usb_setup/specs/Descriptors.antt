@@ -1,7 +1,7 @@
 -- lists of descriptors: USB 2.0 chapter 9
 use Rattle.std.specs.Prelude.{◌≡◌, ◌≢◌, ◌⊎◌, ℕ, ◌+◌, ◌*◌, ◌<◌, ◌≤◌, List, [], ◌++◌, length, slice_index, ◌==◌, if◌then◌else◌}
 use Rattle.std.specs.List.{concat, AllByRecursion}
-use Rattle.usb_setup.specs.Standard.{configuration_type, interface_type, endpoint_type}
+use Rattle.usb_setup.specs.Standard.{configuration_type, interface_type, endpoint_type, ConfigurationDescriptor, InterfaceDescriptor, EndpointDescriptor}
 
 -- the two bytes from a place on, the low one first
 abbrev pub word_at : ℕ → List ℕ → ℕ
@@ -84,3 +84,24 @@ pub record IsBadAt (bytes : List ℕ) (at : ℕ) : Type 0 where
 abbrev pub IsBrokenAt : List ℕ → ℕ → Type 0
 IsBrokenAt bytes at =
     ((at ≡ 0) × ¬ BeginsWithConfiguration bytes) ⊎ (BeginsWithConfiguration bytes × IsBadAt bytes at)
+
+-- a descriptor's text has these fields at their offsets, and begins with its size and its type
+pub record HasConfigurationFields (text : List ℕ) (d : ConfigurationDescriptor) : Type 0 where
+  pub size : bLength text ≡ size_of configuration_type
+  pub kind : bDescriptorType text ≡ configuration_type
+  pub value : bConfigurationValue text ≡ d.bConfigurationValue
+
+pub record HasInterfaceFields (text : List ℕ) (d : InterfaceDescriptor) : Type 0 where
+  pub size : bLength text ≡ size_of interface_type
+  pub kind : bDescriptorType text ≡ interface_type
+  pub number : bInterfaceNumber text ≡ d.bInterfaceNumber
+  pub class : bInterfaceClass text ≡ d.bInterfaceClass
+  pub subclass : bInterfaceSubClass text ≡ d.bInterfaceSubClass
+  pub protocol : bInterfaceProtocol text ≡ d.bInterfaceProtocol
+
+pub record HasEndpointFields (text : List ℕ) (d : EndpointDescriptor) : Type 0 where
+  pub size : bLength text ≡ size_of endpoint_type
+  pub kind : bDescriptorType text ≡ endpoint_type
+  pub address : bEndpointAddress text ≡ d.bEndpointAddress
+  pub attributes : bmAttributes text ≡ d.bmAttributes
+  pub max_packet_size : wMaxPacketSize text ≡ d.wMaxPacketSize

@@ -1,5 +1,5 @@
 -- what the instrument says of itself
-use Rattle.std.specs.Prelude.{ℕ, zero, suc, List, [], ◌∷◌, ◌++◌, codes}
+use Rattle.std.specs.Prelude.{ℕ, List, [], ◌∷◌, ◌++◌, codes, slice_index_or}
 use Rattle.usb_setup.specs.Standard.{DeviceDescriptor, device_layout, ConfigurationDescriptor, configuration_layout, InterfaceDescriptor, interface_layout, EndpointDescriptor, endpoint_layout, string_layout}
 
 -- USB 2.0, class by interface, packets of 64 bytes on endpoint 0, strings 1 to 3, one configuration
@@ -65,12 +65,9 @@ configuration_text =
     ++ endpoint_layout bulk_in
     ++ endpoint_layout interrupt_in
 
--- string 0 is the list of languages, English (United States) alone; the characters are those of ASCII
-abbrev pub string_words : ℕ → List ℕ
-string_words zero = 0x0409 ∷ []
-string_words (suc zero) = codes "EXAMPLE"
-string_words (suc (suc zero)) = codes "TMC1"
-string_words (suc (suc (suc _))) = codes "0"
+-- string 0 is the list of languages, English (United States) alone; the others are its characters, all ASCII
+abbrev pub strings : List (List ℕ)
+strings = (0x0409 ∷ []) ∷ codes "EXAMPLE" ∷ codes "TMC1" ∷ codes "0" ∷ []
 
 abbrev pub string_text : ℕ → List ℕ
-string_text index = string_layout (string_words index)
+string_text index = string_layout (slice_index_or strings index [])

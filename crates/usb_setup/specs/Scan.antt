@@ -1,4 +1,4 @@
--- what the scan of a list has found so far
+-- what the scan of a list has found so far: for the contracts of the scan's own functions, no public one
 use Rattle.std.specs.Prelude.{◌≡◌, ℕ, List, [], ◌++◌, Bool, true, false, Option, Some, None, Result, Ok, Err, option_map, find, if◌then◌else◌}
 use Rattle.std.specs.List.{concat, list_any, AllByRecursion}
 use Rattle.std.specs.Option.{option_or, option_map_or}

@@ -58,23 +58,14 @@ pub(crate) fn read_tmc_interface(descriptor: &[u8]) -> Option<Interface>
         (is_tmc descriptor.now ≡ false)
         (λ interface. (is_tmc descriptor.now ≡ true) × (interface ≡ interface_of descriptor.now)) }
 {
-    match descriptor {
-        [
-            _,
-            INTERFACE,
-            number,
-            _,
-            _,
-            TMC_CLASS,
-            TMC_SUBCLASS,
-            protocol @ (USBTMC | USB488),
-            ..
-        ] => {
-            Some(Interface {
-                number: *number,
-                protocol: *protocol,
-            })
-        }
+    let [_, INTERFACE, number, _, _, class, subclass, protocol, ..] = descriptor else {
+        return None;
+    };
+    match (*class, *subclass, *protocol) {
+        (TMC_CLASS, TMC_SUBCLASS, USBTMC | USB488) => Some(Interface {
+            number: *number,
+            protocol: *protocol,
+        }),
         _ => None,
     }
 }

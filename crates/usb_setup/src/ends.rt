@@ -39,10 +39,18 @@ fn configuration_value(bytes: &[u8]) -> Option<u8>
     }
 }
 
-/// The first interface of class 0xFE, subclass 0x03 and protocol 0 or 1 in a configuration's descriptors, with
-/// its first Bulk-OUT, Bulk-IN and Interrupt-IN endpoints: USB 2.0 sections 9.5, 9.6.3, 9.6.5 and 9.6.6. Its
-/// endpoints are those up to the next interface descriptor. Descriptors of other types are skipped by their
-/// length. Takes no memory.
+/// Finds the first interface of class 0xFE, subclass 0x03 and protocol 0 or 1 in the descriptors of a
+/// configuration, as GET_DESCRIPTOR gives them, and its first Bulk-OUT, Bulk-IN and Interrupt-IN endpoints: USB
+/// 2.0 sections 9.5, 9.6.3, 9.6.5 and 9.6.6.
+///
+/// An interface's endpoints are those up to the next interface descriptor, so each alternate setting is an
+/// interface of its own. Descriptors of other types are skipped by their length, and what a descriptor has
+/// beyond the size of its type is ignored. One pass; takes no memory.
+///
+/// # Errors
+///
+/// `Length` where the bytes are no list of descriptors, then `NoInterface`, `NoBulkOut` and `NoBulkIn`, the
+/// first that holds.
 pub fn find_interface(bytes: &[u8]) -> Result<Ends, DescFault>
     requires { length bytes.now < 2 ^ 32 }
     ensures found { (ends : Ends) → (result ≡ Ok ends) ↔ Finds bytes.now ends }

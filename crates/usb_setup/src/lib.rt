@@ -9,11 +9,15 @@ mod desc_fault;
 mod descriptor;
 mod ends;
 mod identity;
+mod offsets;
 mod scan;
 mod setup;
 mod standard;
+#[cfg(test)]
+mod tests;
 
 pub use desc_fault::DescFault;
 pub use ends::{Ends, find_interface};
 pub use identity::{configuration, device_descriptor, put_string};
+pub use offsets::offsets_are_laid_out;
 pub use setup::Setup;

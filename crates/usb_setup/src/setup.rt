@@ -7,20 +7,20 @@ pub struct Setup {
     /// bmRequestType: bit 7 is set where data goes to the host, bits 6 and 5 are the type of the request,
     /// bits 4 to 0 its recipient.
     pub request_type: u8,
-    /// bRequest.
+    /// bRequest, whose meaning depends on the type of the request.
     pub request: u8,
-    /// wValue.
+    /// wValue, a word whose meaning depends on the request.
     pub value: u16,
-    /// wIndex.
+    /// wIndex, mostly the number of an interface or the address of an endpoint.
     pub index: u16,
-    /// wLength: how many bytes of data may follow.
+    /// wLength: how many bytes of data the request has, or may get in answer.
     pub length: u16,
 }
 
 impl Setup {
     ghost use Rattle.usb_setup.specs.Setup.{setup_layout, Fits};
 
-    /// The setup that these bytes are.
+    /// The setup that these bytes are, in the order of the bus.
     pub fn from_bytes(bytes: [u8; 8]) -> Setup
         ensures laid_out { setup_layout result ≡ bytes }
 
@@ -46,7 +46,7 @@ impl Setup {
         }
     }
 
-    /// Its eight bytes.
+    /// Its eight bytes, in the order of the bus.
     pub fn to_bytes(self) -> [u8; 8]
         ensures { result ≡ setup_layout self }
     {
