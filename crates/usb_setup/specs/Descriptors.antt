@@ -1,7 +1,7 @@
 -- lists of descriptors: USB 2.0 chapter 9
 use Rattle.std.specs.Prelude.{◌≡◌, ◌≢◌, ◌⊎◌, ℕ, ◌+◌, ◌*◌, ◌<◌, ◌≤◌, List, [], ◌++◌, length, slice_index, ◌==◌, if◌then◌else◌}
 use Rattle.std.specs.List.{concat, AllByRecursion}
-use Rattle.usb_setup.specs.Standard.{configuration_type, interface_type, endpoint_type, ConfigurationDescriptor, InterfaceDescriptor, EndpointDescriptor}
+use Rattle.usb_setup.specs.Standard.{configuration_type, interface_type, endpoint_type, configuration_size, interface_size, endpoint_size, ConfigurationDescriptor, InterfaceDescriptor, EndpointDescriptor}
 
 -- the two bytes from a place on, the low one first
 abbrev pub word_at : ℕ → List ℕ → ℕ
@@ -43,11 +43,14 @@ bmAttributes d = slice_index d 3
 abbrev pub wMaxPacketSize : List ℕ → ℕ
 wMaxPacketSize d = word_at 4 d
 
--- the size of a descriptor of this type, 0 for a type that is skipped unread; longer ones are allowed,
--- and what they have more is ignored (section 9.5)
+-- the least length of a descriptor of this type, 0 for a type that is skipped unread; what a longer one has more
+-- is ignored, and a shorter one is invalid (section 9.5)
 abbrev pub size_of : ℕ → ℕ
 size_of t =
-    if t == configuration_type then 9 else if t == interface_type then 9 else if t == endpoint_type then 7 else 0
+    if t == configuration_type then configuration_size
+    else if t == interface_type then interface_size
+    else if t == endpoint_type then endpoint_size
+    else 0
 
 -- a descriptor with its length byte
 pub record IsDescriptor (d : List ℕ) : Type 0 where
@@ -57,7 +60,7 @@ pub record IsDescriptor (d : List ℕ) : Type 0 where
 
 -- a configuration descriptor is to stand first
 abbrev pub BeginsWithConfiguration : List ℕ → Type 0
-BeginsWithConfiguration bytes = (bDescriptorType bytes ≡ configuration_type) × (9 ≤ bLength bytes)
+BeginsWithConfiguration bytes = (bDescriptorType bytes ≡ configuration_type) × (configuration_size ≤ bLength bytes)
 
 -- the bytes are these descriptors in a row, a configuration descriptor first
 pub record AreDescriptors (bytes : List ℕ) (ds : List (List ℕ)) : Type 0 where

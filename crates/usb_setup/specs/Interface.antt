@@ -14,7 +14,7 @@ is_interface d = bDescriptorType d == interface_type
 abbrev pub is_endpoint : List ℕ → Bool
 is_endpoint d = bDescriptorType d == endpoint_type
 
--- class 0xFE (application specific), subclass 3 (USBTMC), protocol 0 (USBTMC alone) or 1 (USB488)
+-- USBTMC 1.0: class 0xFE (application specific), subclass 3, protocol 0, or 1 where it speaks USB488
 abbrev pub is_tmc : List ℕ → Bool
 is_tmc d =
     is_interface d

@@ -19,6 +19,19 @@ interface_type = 4
 abbrev pub endpoint_type : ℕ
 endpoint_type = 5
 
+-- the sizes that tables 9-8, 9-10, 9-12 and 9-13 give: bLength of a descriptor without more
+abbrev pub device_size : ℕ
+device_size = 18
+
+abbrev pub configuration_size : ℕ
+configuration_size = 9
+
+abbrev pub interface_size : ℕ
+interface_size = 9
+
+abbrev pub endpoint_size : ℕ
+endpoint_size = 7
+
 -- a field of two bytes, the low one first (section 8.1)
 abbrev pub word : ℕ → List ℕ
 word n = to_le_bytes w16 n
@@ -41,7 +54,7 @@ pub record DeviceDescriptor : Type 0 where
 -- its bytes: bLength and bDescriptorType, then its fields
 abbrev pub device_layout : DeviceDescriptor → List ℕ
 device_layout d =
-    18 ∷ device_type ∷ []
+    device_size ∷ device_type ∷ []
     ++ word d.bcdUSB
     ++ d.bDeviceClass ∷ d.bDeviceSubClass ∷ d.bDeviceProtocol ∷ d.bMaxPacketSize0 ∷ []
     ++ word d.idVendor
@@ -60,7 +73,7 @@ pub record ConfigurationDescriptor : Type 0 where
 
 abbrev pub configuration_layout : ConfigurationDescriptor → List ℕ
 configuration_layout d =
-    9 ∷ configuration_type ∷ []
+    configuration_size ∷ configuration_type ∷ []
     ++ word d.wTotalLength
     ++ d.bNumInterfaces ∷ d.bConfigurationValue ∷ d.iConfiguration ∷ d.bmAttributes ∷ d.bMaxPower ∷ []
 
@@ -76,7 +89,7 @@ pub record InterfaceDescriptor : Type 0 where
 
 abbrev pub interface_layout : InterfaceDescriptor → List ℕ
 interface_layout d =
-    9 ∷ interface_type ∷ d.bInterfaceNumber ∷ d.bAlternateSetting ∷ d.bNumEndpoints
+    interface_size ∷ interface_type ∷ d.bInterfaceNumber ∷ d.bAlternateSetting ∷ d.bNumEndpoints
     ∷ d.bInterfaceClass ∷ d.bInterfaceSubClass ∷ d.bInterfaceProtocol ∷ d.iInterface ∷ []
 
 -- table 9-13
@@ -88,7 +101,7 @@ pub record EndpointDescriptor : Type 0 where
 
 abbrev pub endpoint_layout : EndpointDescriptor → List ℕ
 endpoint_layout d =
-    7 ∷ endpoint_type ∷ d.bEndpointAddress ∷ d.bmAttributes ∷ [] ++ word d.wMaxPacketSize ++ d.bInterval ∷ []
+    endpoint_size ∷ endpoint_type ∷ d.bEndpointAddress ∷ d.bmAttributes ∷ [] ++ word d.wMaxPacketSize ++ d.bInterval ∷ []
 
 -- tables 9-15 and 9-16: the language codes of string 0, and the 16-bit characters of every other string
 abbrev pub string_layout : List ℕ → List ℕ

@@ -4,7 +4,8 @@ ghost use Rattle.usb_setup.specs.Interface.{is_tmc, is_endpoint};
 ghost use Rattle.usb_setup.specs.Scan.{interface_of, endpoint_of};
 
 use crate::standard::{
-    CONFIGURATION, ENDPOINT, INTERFACE, TMC_CLASS, TMC_SUBCLASS, USB488, USBTMC,
+    CONFIGURATION, CONFIGURATION_SIZE, ENDPOINT, ENDPOINT_SIZE, HEAD_SIZE, INTERFACE,
+    INTERFACE_SIZE, TMC_CLASS, TMC_SUBCLASS, USB488, USBTMC,
 };
 
 /// What is kept of a USBTMC interface.
@@ -22,14 +23,14 @@ pub(crate) struct Endpoint {
     pub(crate) max_packet_size: u16,
 }
 
-/// The size of a descriptor of this type, 0 for a type that is skipped unread.
-fn size_of_type(descriptor_type: u8) -> usize
+/// The least length of a descriptor of this type, 0 for a type that is skipped unread.
+fn size_of_type(descriptor_type: u8) -> u8
     ensures { result ≡ size_of descriptor_type }
 {
     match descriptor_type {
-        CONFIGURATION => 9,
-        INTERFACE => 9,
-        ENDPOINT => 7,
+        CONFIGURATION => CONFIGURATION_SIZE,
+        INTERFACE => INTERFACE_SIZE,
+        ENDPOINT => ENDPOINT_SIZE,
         _ => 0,
     }
 }
@@ -44,8 +45,11 @@ pub(crate) fn split_descriptor(bytes: &[u8]) -> Option<(&[u8], &[u8])>
     let [length, descriptor_type, ..] = bytes else {
         return None;
     };
+    if *length < HEAD_SIZE || *length < size_of_type(*descriptor_type) {
+        return None;
+    }
     let length = usize::from(*length);
-    if length < 2 || bytes.len() < length || length < size_of_type(*descriptor_type) {
+    if bytes.len() < length {
         return None;
     }
     Some(bytes.split_at(length))

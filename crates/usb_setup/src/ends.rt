@@ -6,7 +6,7 @@ ghost use Rattle.usb_setup.specs.Descriptors.{BeginsWithConfiguration, bConfigur
 
 use crate::DescFault;
 use crate::scan::Scan;
-use crate::standard::CONFIGURATION;
+use crate::standard::{CONFIGURATION, CONFIGURATION_SIZE};
 
 /// The USBTMC interface of a device, and the addresses of its endpoints.
 #[derive(Clone, Copy, Debug, PartialEq, Eq)]
@@ -34,7 +34,7 @@ fn configuration_value(bytes: &[u8]) -> Option<u8>
         (λ value. BeginsWithConfiguration bytes.now × (value ≡ bConfigurationValue bytes.now)) }
 {
     match bytes {
-        [(9..), CONFIGURATION, _, _, _, value, ..] => Some(*value),
+        [(CONFIGURATION_SIZE..), CONFIGURATION, _, _, _, value, ..] => Some(*value),
         _ => None,
     }
 }
@@ -45,7 +45,7 @@ fn configuration_value(bytes: &[u8]) -> Option<u8>
 ///
 /// An interface's endpoints are those up to the next interface descriptor, so each alternate setting is an
 /// interface of its own. Descriptors of other types are skipped by their length, and what a descriptor has
-/// beyond the size of its type is ignored. One pass; takes no memory.
+/// beyond the size of its type is ignored. The list has fewer than 2^32 bytes. One pass; takes no memory.
 ///
 /// # Errors
 ///

@@ -7,6 +7,15 @@ pub(crate) const INTERFACE: u8 = 4;
 /// bDescriptorType of an endpoint descriptor: table 9-5.
 pub(crate) const ENDPOINT: u8 = 5;
 
+/// The size of what every descriptor begins with, bLength and bDescriptorType: section 9.5.
+pub(crate) const HEAD_SIZE: u8 = 2;
+/// The size of a configuration descriptor: table 9-10.
+pub(crate) const CONFIGURATION_SIZE: u8 = 9;
+/// The size of an interface descriptor: table 9-12.
+pub(crate) const INTERFACE_SIZE: u8 = 9;
+/// The size of an endpoint descriptor: table 9-13.
+pub(crate) const ENDPOINT_SIZE: u8 = 7;
+
 /// The bits of bmAttributes that are an endpoint's transfer type: table 9-13.
 pub(crate) const TRANSFER_TYPE: u8 = 0x03;
 
