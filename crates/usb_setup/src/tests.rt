@@ -34,6 +34,7 @@ fn setups_both_ways(rt: HostRuntime) {
 
 #[test]
 fn own_descriptors_byte_by_byte(rt: HostRuntime) {
+    offsets_are_laid_out();
     assert_eq!(rt;
         device_descriptor(),
         [
@@ -158,6 +159,37 @@ fn changed_configurations(rt: HostRuntime) {
         }
         assert_eq!(rt; find_interface(&list), found, "changes {changes:?}");
     }
+}
+
+#[test]
+fn faults_say_what_to_do(rt: HostRuntime) -> Result<(), Fail> {
+    let cases = [
+        (
+            DescFault::Length { at: 18 },
+            "the descriptors are cut or damaged at byte 18; read the device's configuration again, with its \
+             wTotalLength as the length",
+        ),
+        (
+            DescFault::NoInterface,
+            "the configuration has no USBTMC interface; check that the right device is attached and in the \
+             configuration that offers USBTMC",
+        ),
+        (
+            DescFault::NoBulkOut,
+            "the USBTMC interface has no Bulk-OUT endpoint, which the class demands; update the device's \
+             firmware or use another device",
+        ),
+        (
+            DescFault::NoBulkIn,
+            "the USBTMC interface has no Bulk-IN endpoint, which the class demands; update the device's \
+             firmware or use another device",
+        ),
+    ];
+    for (fault, text) in cases {
+        let shown = format!(in rt.alloc(); "{fault}")?;
+        assert_eq!(rt; shown.as_str(), text);
+    }
+    Ok(())
 }
 
 fn length_fault(at: u32) -> Result<Ends, DescFault> {
