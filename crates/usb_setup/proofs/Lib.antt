@@ -1,0 +1,4 @@
+pub mod Lists
+pub mod Scanning
+pub mod Cutting
+pub mod Judging
