@@ -8,14 +8,14 @@ pub left-copied : (all left buf copied : List ℕ) (at n : ℕ) → left ≡ dro
 left-copied all left buf copied at n begins copy fits =
     let size : length copied ≡ n = ap length copy ∙ length-take-le n left fits in
     sym (ap (λ xs. xs ++ drop (at + n) all) (take_at copied buf n size ∙ copy)
-      ∙ (ap (λ xs. take n left ++ xs) (sym (drop-drop n at all) ∙ ap (drop n) (sym begins)) ∙ take-append-drop n left))
+    ∙ (ap (λ xs. take n left ++ xs) (sym (drop-drop n at all) ∙ ap (drop n) (sym begins)) ∙ take-append-drop n left))
 
 -- what a sink was given, after two pieces of one text
 pub put_further : (old mid new : Option (List ℕ)) (bytes : List ℕ) (at n : ℕ) → mid ≡ put_after (take at bytes) old → new ≡ put_after (take n (drop at bytes)) mid → new ≡ put_after (take (at + n) bytes) old
 put_further None mid new bytes at n e f = f ∙ ap (put_after (take n (drop at bytes))) e
 put_further (Some put) mid new bytes at n e f =
     f ∙ (ap (put_after (take n (drop at bytes))) e
-      ∙ ap (λ xs. Some xs) (append_assoc put (take at bytes) (take n (drop at bytes)) ∙ ap (λ xs. put ++ xs) (sym (take-add at n bytes))))
+    ∙ ap (λ xs. Some xs) (append_assoc put (take at bytes) (take n (drop at bytes)) ∙ ap (λ xs. put ++ xs) (sym (take-add at n bytes))))
 
 -- the front of a text that a sink was given
 pub front_put : (old new : Option (List ℕ)) (bytes : List ℕ) (at : ℕ) → new ≡ put_after (take at bytes) old → PutsFront bytes old new

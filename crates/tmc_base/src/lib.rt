@@ -7,6 +7,7 @@
 
 mod fail_plan;
 mod faults;
+mod field;
 mod limits;
 mod mem_sink;
 mod mem_source;
@@ -19,6 +20,7 @@ mod std_sink;
 mod std_source;
 mod writing;
 
+pub use field::{Field, Layer, Name};
 pub use limits::{BULK_IN_SUBMIT, RESPONSE_MAX, SUBMIT_MAX};
 pub use mem_sink::MemSink;
 pub use mem_source::MemSource;

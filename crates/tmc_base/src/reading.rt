@@ -21,7 +21,11 @@ pub enum ReadFault {
 const PIECE: usize = 4_096;
 
 /// Reads a source until it ends or has given `most` bytes, and no byte more.
-pub fn read_up_to<S: Source>(alloc: Global, source: &mut S, most: usize) -> Result<Vec<u8>, ReadFault>
+pub fn read_up_to<S: Source>(
+    alloc: Global,
+    source: &mut S,
+    most: usize,
+) -> Result<Vec<u8>, ReadFault>
     ensures first { IfOk result (λ bytes. GivesFirst bytes.items (S.left source.old) (S.left source.new)) }
     ensures most { IfOk result (λ bytes. length bytes.items ≤ most) }
     ensures ended { IfOk result (λ bytes. length bytes.items < most → HasEnded (S.left source.new)) }

@@ -48,11 +48,19 @@ line_size bytes message known (inr e) = omega (arith, ap length e, length-append
 
 pub refused_due : (before after : Outside) (bytes : List ℕ) → GivesFirst bytes before.left after.left → (length bytes < 7 → HasEnded after.left) → after.read_faults ≡ before.read_faults
     → (IsQuestion bytes → ⊥) → Due (codes "ask" ∷ []) before after Refused (codes "refused line 1 NotYet\n")
-refused_due before after bytes first ended counts unknown = (refl, (bytes, record {
-  first = first;
-  enough = ⊎_elim (λ short. inl (ended short)) (λ long. inr long) (cases_lt (length bytes) 7);
-  counts = counts;
-}, unknown), refl)
+refused_due before after bytes first ended counts unknown = (
+  refl,
+  (
+    bytes,
+    record {
+      first = first;
+      enough = ⊎_elim (λ short. inl (ended short)) (λ long. inr long) (cases_lt (length bytes) 7);
+      counts = counts;
+    },
+    unknown,
+  ),
+  refl,
+)
 
 pub printed_due : (before after : Outside) (bytes message text : List ℕ) → GivesFirst bytes before.left after.left → (length bytes < 7 → HasEnded after.left) → after.read_faults ≡ before.read_faults
     → IsMessage message → IsLine bytes message → Answers bytes text → Due (codes "ask" ∷ []) before after Printed text
@@ -124,9 +132,9 @@ ends_printed words Usage before after bytes e ask told question calm_source calm
 ends_printed words Refused before after bytes e ask told question calm_source calm_sink =
     let read = e.1.1 in
     absurd (⊎_elim
-      (λ ended. read.2 (subst IsQuestion (all_read bytes read.0 before.left after.left told read.1.first ended) question))
-      (λ long. omega (arith, long, not_shorter bytes read.0 before.left after.left told read.1.first, line_size bytes question.message question.known question.line))
-      read.1.enough)
+    (λ ended. read.2 (subst IsQuestion (all_read bytes read.0 before.left after.left told read.1.first ended) question))
+    (λ long. omega (arith, long, not_shorter bytes read.0 before.left after.left told read.1.first, line_size bytes question.message question.known question.line))
+    read.1.enough)
 ends_printed words SourceFault before after bytes e ask told question calm_source calm_sink = absurd (calm_source e.1)
 ends_printed words SinkFault before after bytes e ask told question calm_source calm_sink = absurd (calm_sink e.0)
 ends_printed words NoMemory before after bytes e ask told question calm_source calm_sink = inr refl

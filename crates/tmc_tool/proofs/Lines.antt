@@ -20,14 +20,14 @@ add_line : (letter : ℕ) (bytes piece left lines : List ℕ) → bytes ≡ piec
 add_line letter bytes piece left lines cut size some more =
     ⊎_elim
     (λ short.
-      let whole : length piece ≡ length bytes = omega (arith, size, short) in
-      let gone : left ≡ [] = empty left (omega (arith, whole, ap length cut, length-append piece left)) in
-      let alone : bytes ≡ piece = cut ∙ (ap (λ xs. piece ++ xs) gone ∙ append-nil piece) in
-      let last : stream_line letter piece ++ lines ≡ stream_line letter piece = ap (λ xs. stream_line letter piece ++ xs) (no_lines more gone) ∙ append-nil (stream_line letter piece) in
-      subst (λ xs. StreamLines letter xs (stream_line letter piece ++ lines)) (sym alone) (subst (λ ys. StreamLines letter piece ys) (sym last) (rest piece (omega (arith, whole, some)) (omega (arith, whole, short)))))
+    let whole : length piece ≡ length bytes = omega (arith, size, short) in
+    let gone : left ≡ [] = empty left (omega (arith, whole, ap length cut, length-append piece left)) in
+    let alone : bytes ≡ piece = cut ∙ (ap (λ xs. piece ++ xs) gone ∙ append-nil piece) in
+    let last : stream_line letter piece ++ lines ≡ stream_line letter piece = ap (λ xs. stream_line letter piece ++ xs) (no_lines more gone) ∙ append-nil (stream_line letter piece) in
+    subst (λ xs. StreamLines letter xs (stream_line letter piece ++ lines)) (sym alone) (subst (λ ys. StreamLines letter piece ys) (sym last) (rest piece (omega (arith, whole, some)) (omega (arith, whole, short)))))
     (λ long.
-      let filled : length piece ≡ 32 = omega (arith, size, long) in
-      subst (λ xs. StreamLines letter xs (stream_line letter piece ++ lines)) (sym cut) (full piece left lines filled more))
+    let filled : length piece ≡ 32 = omega (arith, size, long) in
+    subst (λ xs. StreamLines letter xs (stream_line letter piece ++ lines)) (sym cut) (full piece left lines filled more))
     (cases_lt (length bytes) 32)
 
 -- what follows the lines so far follows them behind one more line
@@ -58,4 +58,4 @@ joined text ticket book log up down tickets books logs up_count up_lines down_co
     ∙ (ap (λ xs. codes "hub running\nservice 0 -\n" ++ (tickets ++ (books ++ (logs ++ (xs ++ down))))) u
     ∙ (ap (λ xs. codes "hub running\nservice 0 -\n" ++ (tickets ++ (books ++ (logs ++ ((codes "up " ++ (up_count ++ (10 ∷ up_lines))) ++ xs))))) d
     ∙ ap (λ xs. codes "hub running\nservice 0 -\n" ++ (tickets ++ (books ++ (logs ++ (codes "up " ++ xs)))))
-      (append_assoc up_count (10 ∷ up_lines) (codes "down " ++ (down_count ++ (10 ∷ down_lines)))))))))
+    (append_assoc up_count (10 ∷ up_lines) (codes "down " ++ (down_count ++ (10 ∷ down_lines)))))))))

@@ -79,18 +79,18 @@ pub data StreamLines (letter : ℕ) : List ℕ → List ℕ → Type 0 where
   none : StreamLines letter [] []
   rest : (piece : List ℕ) → 0 < length piece → length piece < 32 → StreamLines letter piece (stream_line letter piece)
   full : (piece bytes lines : List ℕ) → length piece ≡ 32 → StreamLines letter bytes lines
-    → StreamLines letter (piece ++ bytes) (stream_line letter piece ++ lines)
+      → StreamLines letter (piece ++ bytes) (stream_line letter piece ++ lines)
 
 -- this text is the report of what is told
 pub record Reports (told : Told) (text : List ℕ) : Type 0 where
   pub up_lines : List ℕ
   pub down_lines : List ℕ
-  pub up : StreamLines 117 told.up up_lines      -- u
+  pub up : StreamLines 117 told.up up_lines  -- u
   pub down : StreamLines 100 told.down down_lines  -- d
   pub written : text
-    ≡ codes "hub running\nservice 0 -\n"
-    ++ (numbered ticket_line 1 told.tickets
-    ++ (numbered book_line 1 told.book
-    ++ (numbered log_line 1 told.log
-    ++ (codes "up " ++ (decimal (length told.up) ++ (codes "\n" ++ (up_lines
-    ++ (codes "down " ++ (decimal (length told.down) ++ (codes "\n" ++ down_lines))))))))))
+      ≡ codes "hub running\nservice 0 -\n"
+      ++ (numbered ticket_line 1 told.tickets
+      ++ (numbered book_line 1 told.book
+      ++ (numbered log_line 1 told.log
+      ++ (codes "up " ++ (decimal (length told.up) ++ (codes "\n" ++ (up_lines
+      ++ (codes "down " ++ (decimal (length told.down) ++ (codes "\n" ++ down_lines))))))))))

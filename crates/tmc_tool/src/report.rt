@@ -39,7 +39,9 @@ fn ticket(
 ) -> Result<String, Memory>
     ensures { IfOk result (λ text. string_bytes text ≡ ticket_line number (record { session = session; limit = ASK_LIMIT; last = last; message = message.now; bytes = bytes.now })) }
 {
-    let asked = format!(in alloc; "ticket {number} session {session} ask limit {ASK_LIMIT} last {last}")?;
+    let asked = format!(in alloc;
+        "ticket {number} session {session} ask limit {ASK_LIMIT} last {last}"
+    )?;
     let answered = answered(alloc, message, bytes)?;
     Ok(format!(in alloc; "{asked}{answered}")?)
 }

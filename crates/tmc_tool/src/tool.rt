@@ -23,7 +23,12 @@ use tmc_base::{Memory, ReadFault, Sink, Source, read_up_to, write_all};
 /// | 3 | a read of the source failed | nothing |
 /// | 4 | a write to the sink failed | a front of the text |
 /// | 5 | memory is wanting | nothing |
-pub fn tool_main<S: Source, K: Sink>(alloc: Global, words: &[String], source: &mut S, sink: &mut K) -> u8
+pub fn tool_main<S: Source, K: Sink>(
+    alloc: Global,
+    words: &[String],
+    source: &mut S,
+    sink: &mut K,
+) -> u8
     ensures ends { (status : Status) × (result ≡ code_of status) × Ends (map string_bytes words.now) status
         (record { left = S.left source.old; read_faults = S.faults source.old; put = K.put sink.old; write_faults = K.faults sink.old })
         (record { left = S.left source.new; read_faults = S.faults source.new; put = K.put sink.new; write_faults = K.faults sink.new }) }

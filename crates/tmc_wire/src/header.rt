@@ -43,7 +43,9 @@ fn sized_bytes(msg_id: u8, tag: u8, size: u32, attributes: u8) -> [u8; 12]
     ensures { result ≡ prefix msg_id tag 0 ++ sized size attributes 0 0 0 }
 {
     let [first, second, third, fourth] = size.to_le_bytes();
-    [msg_id, tag, !tag, 0, first, second, third, fourth, attributes, 0, 0, 0]
+    [
+        msg_id, tag, !tag, 0, first, second, third, fourth, attributes, 0, 0, 0,
+    ]
 }
 
 /// The 12 bytes of a Bulk-OUT header. TransferSize is little-endian, and reserved bytes are 0.
@@ -67,5 +69,10 @@ pub fn in_bytes(header: InHeader) -> [u8; 12]
     ensures written { result ≡ in_header_bytes header }
     ensures spelled { IsInHeader header result }
 {
-    sized_bytes(DEV_DEP_MSG_IN, header.tag, header.size, u8::from(header.eom))
+    sized_bytes(
+        DEV_DEP_MSG_IN,
+        header.tag,
+        header.size,
+        u8::from(header.eom),
+    )
 }

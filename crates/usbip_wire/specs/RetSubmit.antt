@@ -32,19 +32,19 @@ unused =
 unfoldable pub ret_submit_bytes : RetSubmitHead → Rest → List ℕ → List ℕ
 ret_submit_bytes head rest transferred =
     fields
-      ( RET_SUBMIT
-      ∷ head.seqnum
-      ∷ rest.devid
-      ∷ rest.direction
-      ∷ rest.ep
-      ∷ cast_unsigned w32 head.status
-      ∷ head.actual
-      ∷ rest.start_frame
-      ∷ rest.number_of_packets
-      ∷ rest.error_count
-      ∷ rest.padding_high
-      ∷ rest.padding_low
-      ∷ [])
+    (RET_SUBMIT
+    ∷ head.seqnum
+    ∷ rest.devid
+    ∷ rest.direction
+    ∷ rest.ep
+    ∷ cast_unsigned w32 head.status
+    ∷ head.actual
+    ∷ rest.start_frame
+    ∷ rest.number_of_packets
+    ∷ rest.error_count
+    ∷ rest.padding_high
+    ∷ rest.padding_low
+    ∷ [])
     ++ transferred
 
 -- the data comes with the answer to an IN submit, and none comes with the answer to an OUT submit

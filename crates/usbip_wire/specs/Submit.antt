@@ -22,17 +22,17 @@ unused = record { transfer_flags = 0; start_frame = 0; number_of_packets = NOT_I
 unfoldable pub submit_bytes : SubmitHead → Rest → List ℕ → List ℕ
 submit_bytes head rest transferred =
     fields
-      ( CMD_SUBMIT
-      ∷ head.seqnum
-      ∷ head.devid
-      ∷ direction_code head.dir
-      ∷ head.ep
-      ∷ rest.transfer_flags
-      ∷ head.length
-      ∷ rest.start_frame
-      ∷ rest.number_of_packets
-      ∷ rest.interval
-      ∷ [])
+    (CMD_SUBMIT
+    ∷ head.seqnum
+    ∷ head.devid
+    ∷ direction_code head.dir
+    ∷ head.ep
+    ∷ rest.transfer_flags
+    ∷ head.length
+    ∷ rest.start_frame
+    ∷ rest.number_of_packets
+    ∷ rest.interval
+    ∷ [])
     ++ (head.setup ++ transferred)
 
 -- the data goes with an OUT submit, and none goes with an IN submit

@@ -11,6 +11,6 @@ returns-clause-told c =
     let n = c.min-n.result in
     let begins : c.args.self.now.left ≡ drop at all = sym (ap (λ (h : Held). h.left) c.self.view_is) in
     let copy : c.copy_from_slice.new.self ≡ take n c.args.self.now.left =
-      c.copy_from_slice.ensures.after ∙ ap (take n) (ap (λ xs. take (length xs - at) (drop at xs)) c.deref.ensures.value ∙ (take_rest all at ∙ sym begins)) in
+    c.copy_from_slice.ensures.after ∙ ap (take n) (ap (λ xs. take (length xs - at) (drop at xs)) c.deref.ensures.value ∙ (take_rest all at ∙ sym begins)) in
     let fits : n ≤ length c.args.self.now.left = omega (arith, ap length begins, length-drop at all, c.deref.ensures.len, c.min-n.ensures) in
     (drop (at + n) all, left-copied all c.args.self.now.left (drop n c.args.buf.now) c.copy_from_slice.new.self at n begins copy fits, refl)
