@@ -1,18 +1,15 @@
 -- how a call of the program ends
-use Rattle.std.proofs.Common.{◌≡◌, ◌⊎◌, inl, inr, ⊎_elim, ℕ, ◌+◌, ◌<◌, ◌≤◌, List, [], ◌∷◌, ◌++◌, length, Option, Some, None, Bool, true, false, IsTrue, map, get_or, refl, sym, ap, ◌∙◌, subst, arith, length-append, append-nil, codes, lit≤}
+use Rattle.std.proofs.Common.{◌≡◌, inl, inr, ⊎_elim, ℕ, ◌<◌, ◌≤◌, List, [], ◌∷◌, length, Bool, true, false, IsTrue, map, get_or, refl, sym, ap, ◌∙◌, subst, arith, length-append, codes, lit≤}
 use Rattle.std.proofs.lemmas.Bool.{cases_lt, false≢true}
 use Rattle.std.proofs.lemmas.Slice.Eq.{bytes_eq-Decides}
 use Rattle.std.specs.Str.{bytes_eq}
-use Rattle.std.specs.Prelude.{IfSome, IsSome}
-use Rattle.tmc_base.specs.Faults.{Rose}
 use Rattle.tmc_base.specs.Source.{GivesFirst, HasEnded}
-use Rattle.tmc_base.specs.Sink.{PutsFront, put_after}
 use Rattle.instr_plain.specs.declared.query.Query.{Query}
 use Rattle.instr_plain.specs.declared.query.Query.TheVariants.{Identification, OperationComplete, Configured}
 use Rattle.instr_plain.specs.Exec.{IsMessage, header_of}
 use Rattle.tmc_tool.specs.declared.status.Status.{Status}
 use Rattle.tmc_tool.specs.declared.status.Status.TheVariants.{Printed, Usage, Refused, SourceFault, SinkFault, NoMemory}
-use Rattle.tmc_tool.specs.Tool.{IsAsk, IsLine, IsQuestion, Outside, ReadsLine, ReadsNothing, PutsNothing, Puts, Answers, Due, Ends, Writes, code_of}
+use Rattle.tmc_tool.specs.Tool.{IsAsk, IsLine, IsQuestion, Outside, Puts, Answers, Due, Ends, Writes}
 
 -- a text that is due was written, or a front of it was
 pub text_written : (words : List (List ℕ)) (before after : Outside) (status result : Status) (text : List ℕ) → Due words before after status text
@@ -82,59 +79,3 @@ is_alone words word false one test =
   where
     head : word ∷ [] ≡ codes "ask" ∷ [] → word ≡ codes "ask"
     head e = cc
-
--- a source that tells what it had, and was read to its end, gave all of it
-all_read : (bytes first : List ℕ) (before after : Option (List ℕ)) → before ≡ Some bytes → GivesFirst first before after → HasEnded after → bytes ≡ first
-all_read bytes first before after told gives ended =
-    let parts : GivesFirst first (Some bytes) after = subst (λ o. GivesFirst first o after) told gives in
-    let gone : HasEnded (Some parts.0) = subst HasEnded parts.2 ended in
-    parts.1 ∙ (ap (λ xs. first ++ xs) gone ∙ append-nil first)
-
-not_shorter : (bytes first : List ℕ) (before after : Option (List ℕ)) → before ≡ Some bytes → GivesFirst first before after → length first ≤ length bytes
-not_shorter bytes first before after told gives =
-    let parts : GivesFirst first (Some bytes) after = subst (λ o. GivesFirst first o after) told gives in
-    omega (arith, ap length parts.1, length-append first parts.0)
-
--- what was answered was a question
-asked_question : (bytes text : List ℕ) → Answers bytes text → IsQuestion bytes
-asked_question bytes text answers = record {
-  message = answers.message;
-  known = record { query = answers.crossed.executed.query; spelled = answers.crossed.executed.spelled };
-  line = answers.line;
-}
-
-pub ends_usage : (words : List (List ℕ)) (status : Status) (before after : Outside) → Ends words status before after
-    → (IsAsk words → ⊥) → (Rose before.write_faults after.write_faults → ⊥) → code_of status ≡ 1
-ends_usage words Printed before after e others calm = absurd (others e.1.0)
-ends_usage words Usage before after e others calm = refl
-ends_usage words Refused before after e others calm = absurd (others e.1.0)
-ends_usage words SourceFault before after e others calm = absurd (others e.0)
-ends_usage words SinkFault before after e others calm = absurd (calm e.0)
-ends_usage words NoMemory before after e others calm = absurd (others e.0)
-
-pub ends_refused : (words : List (List ℕ)) (status : Status) (before after : Outside) (bytes : List ℕ) → Ends words status before after
-    → IsAsk words → before.left ≡ Some bytes → (IsQuestion bytes → ⊥)
-    → (Rose before.read_faults after.read_faults → ⊥) → (Rose before.write_faults after.write_faults → ⊥) → (code_of status ≡ 2) ⊎ (code_of status ≡ 5)
-ends_refused words Printed before after bytes e ask told unknown calm_source calm_sink =
-    let read = e.1.1 in
-    absurd (unknown (subst IsQuestion (sym (all_read bytes read.0 before.left after.left told read.1 read.2)) (asked_question read.0 e.0 read.4)))
-ends_refused words Usage before after bytes e ask told unknown calm_source calm_sink = absurd (e.1.0 ask)
-ends_refused words Refused before after bytes e ask told unknown calm_source calm_sink = inl refl
-ends_refused words SourceFault before after bytes e ask told unknown calm_source calm_sink = absurd (calm_source e.1)
-ends_refused words SinkFault before after bytes e ask told unknown calm_source calm_sink = absurd (calm_sink e.0)
-ends_refused words NoMemory before after bytes e ask told unknown calm_source calm_sink = inr refl
-
-pub ends_printed : (words : List (List ℕ)) (status : Status) (before after : Outside) (bytes : List ℕ) → Ends words status before after
-    → IsAsk words → before.left ≡ Some bytes → IsQuestion bytes
-    → (Rose before.read_faults after.read_faults → ⊥) → (Rose before.write_faults after.write_faults → ⊥) → (code_of status ≡ 0) ⊎ (code_of status ≡ 5)
-ends_printed words Printed before after bytes e ask told question calm_source calm_sink = inl refl
-ends_printed words Usage before after bytes e ask told question calm_source calm_sink = absurd (e.1.0 ask)
-ends_printed words Refused before after bytes e ask told question calm_source calm_sink =
-    let read = e.1.1 in
-    absurd (⊎_elim
-    (λ ended. read.2 (subst IsQuestion (all_read bytes read.0 before.left after.left told read.1.first ended) question))
-    (λ long. omega (arith, long, not_shorter bytes read.0 before.left after.left told read.1.first, line_size bytes question.message question.known question.line))
-    read.1.enough)
-ends_printed words SourceFault before after bytes e ask told question calm_source calm_sink = absurd (calm_source e.1)
-ends_printed words SinkFault before after bytes e ask told question calm_source calm_sink = absurd (calm_sink e.0)
-ends_printed words NoMemory before after bytes e ask told question calm_source calm_sink = inr refl

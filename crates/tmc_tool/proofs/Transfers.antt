@@ -1,16 +1,11 @@
--- transfers as they are written are transfers
-use Rattle.std.proofs.Common.{◌≡◌, ℕ, zero, suc, ◌+◌, ◌-◌, ◌*◌, ◌%◌, ◌/◌, ◌<◌, ◌≤◌, List, [], ◌∷◌, ◌++◌, length, take, refl, sym, ap, ◌∙◌, subst, arith, length-append, replicate, lit<, lit≤}
-use Rattle.std.proofs.lemmas.List.{length-replicate}
+-- the sizes of what crosses the link
+use Rattle.std.proofs.Common.{◌≡◌, ℕ, zero, suc, ◌-◌, ◌%◌, ◌<◌, ◌≤◌, List, [], ◌∷◌, ◌++◌, length, take, refl, sym, ap, subst, arith, replicate, lit<, lit≤}
 use Rattle.std.proofs.lemmas.Fmt.{decimal_digit}
 use Rattle.instr_plain.specs.declared.plain.Plain.{Plain}
 use Rattle.instr_plain.specs.declared.query.Query.{Query}
 use Rattle.instr_plain.specs.declared.query.Query.TheVariants.{Identification, OperationComplete, Configured}
 use Rattle.instr_plain.specs.Standing.{Standing, power_on}
 use Rattle.instr_plain.specs.Exec.{Exec, response_of}
-use Rattle.tmc_wire.specs.declared.header.OutHeader.{OutHeader}
-use Rattle.tmc_wire.specs.declared.header.InHeader.{InHeader}
-use Rattle.tmc_wire.specs.Header.{IsOutHeader, IsInHeader}
-use Rattle.tmc_wire.specs.Transfer.{OutText, InText, data_size, alignment_of}
 
 -- at most three zeros
 pub zeros : (n : ℕ) → n < 4 → take {A = ℕ} n (0 ∷ 0 ∷ 0 ∷ []) ≡ replicate n 0
@@ -23,39 +18,6 @@ zeros (suc (suc (suc (suc n)))) h = absurd (omega (arith, h))
 -- the zeros align what stands behind a header of 12 bytes
 pub padding-lt : (n : ℕ) → (4 - n % 4) % 4 < 4
 padding-lt n = omega arith
-
-padded_by : (n quotient left : ℕ) → left < 4 → n ≡ 4 * quotient + left → (12 + (n + (4 - left) % 4)) % 4 ≡ 0
-padded_by n quotient zero h e = omega arith
-padded_by n quotient (suc zero) h e = omega arith
-padded_by n quotient (suc (suc zero)) h e = omega arith
-padded_by n quotient (suc (suc (suc zero))) h e = omega arith
-padded_by n quotient (suc (suc (suc (suc left)))) h e = absurd (omega (arith, h))
-
-pub padded : (n : ℕ) → (12 + (n + (4 - n % 4) % 4)) % 4 ≡ 0
-padded n = padded_by n (n / 4) (n % 4) (omega arith) (omega arith)
-
-pub out_text : (header : OutHeader) (head message bytes : List ℕ) → IsOutHeader header head → length head ≡ 12 → length message ≡ data_size header
-    → bytes ≡ head ++ (message ++ alignment_of (length message)) → OutText header message bytes
-out_text header head message bytes headed twelve counted layout = record {
-  head = head;
-  alignment = alignment_of (length message);
-  headed = headed;
-  counted = counted;
-  least = rw length-replicate (padding-lt (length message));
-  aligned = rw (layout, length-append, twelve, length-append, length-replicate) (padded (length message));
-  layout = layout;
-}
-
-pub in_text : (header : InHeader) (head message bytes : List ℕ) → IsInHeader header head → length message ≡ header.size
-    → bytes ≡ head ++ (message ++ alignment_of (length message)) → InText header message bytes
-in_text header head message bytes headed counted layout = record {
-  head = head;
-  alignment = alignment_of (length message);
-  headed = headed;
-  counted = counted;
-  least = rw length-replicate (padding-lt (length message));
-  layout = layout;
-}
 
 -- the responses to the queries from power-on are short
 pub response_size : (message response : List ℕ) (state : Plain) → Exec power_on message state response → (0 < length response) × (length response ≤ 19)

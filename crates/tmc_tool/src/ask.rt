@@ -31,11 +31,7 @@ pub(crate) fn ask(alloc: Global, message: &[u8]) -> Result<String, Memory>
     ensures { IfOk result (λ text. (line : List ℕ) → IsLine line message.now → Answers line (string_bytes text)) }
 {
     let exchange = run_query(alloc, message)?;
-    report(
-        alloc,
-        message,
-        exchange.response.as_slice(),
-        exchange.up.as_slice(),
-        exchange.down.as_slice(),
-    )
+    let response = exchange.response.as_slice();
+    let text = report(alloc, message, response, exchange.up.as_slice(), exchange.down.as_slice())?;
+    Ok(text)
 }

@@ -1,4 +1,4 @@
-use Rattle.std.proofs.Common.{◌≡◌, ◌++◌, [], length, ap, ◌∙◌}
+use Rattle.std.proofs.Common.{◌++◌, [], length, ap, ◌∙◌}
 use Rattle.tmc_base.proofs.Appends.{three_appended}
 use Rattle.tmc_tool.proofs.Transfers.{zeros, padding-lt}
 use Rattle.tmc_tool.proofs.exchange.transfer.Goals as goal

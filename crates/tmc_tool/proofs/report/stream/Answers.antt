@@ -1,4 +1,4 @@
-use Rattle.std.proofs.Common.{◌≡◌, ◌<◌, [], length, arith, rules}
+use Rattle.std.proofs.Common.{◌≡◌, ◌<◌, length, arith}
 use Rattle.std.proofs.lemmas.Bool.Decides.{nat_tests}
 use Rattle.tmc_tool.proofs.Lines.{line_more, lines_end, empty}
 use Rattle.tmc_tool.proofs.report.stream.Goals as goal

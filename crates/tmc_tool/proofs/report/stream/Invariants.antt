@@ -1,4 +1,4 @@
-use Rattle.std.proofs.Common.{◌≡◌, ℕ, ◌++◌, List, length, string_bytes}
+use Rattle.std.proofs.Common.{ℕ, ◌++◌, List, length, string_bytes}
 use Rattle.tmc_tool.specs.Report.{StreamLines}
 use Rattle.tmc_tool.proofs.report.stream.Given as goal
 

@@ -1,5 +1,4 @@
-use Rattle.std.proofs.Common.{◌≡◌, ◌∙◌, ap, string_bytes}
-use Rattle.std.specs.Str.{bytes_eq}
+use Rattle.std.proofs.Common.{string_bytes}
 use Rattle.tmc_tool.proofs.Ending.{map-one, is_alone}
 use Rattle.tmc_tool.proofs.tool.is_ask.Goals as goal
 

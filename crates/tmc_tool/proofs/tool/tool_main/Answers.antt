@@ -1,2 +1,0 @@
-use Rattle.std.proofs.Common.{◌∙◌}
-use Rattle.tmc_tool.proofs.tool.tool_main.Goals as goal
