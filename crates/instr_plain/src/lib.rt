@@ -4,6 +4,8 @@
 mod instrument;
 mod plain;
 mod query;
+#[cfg(test)]
+mod tests;
 
 pub use instrument::Instrument;
 pub use plain::{Plain, RemoteState};

@@ -20,6 +20,9 @@ mod std_sink;
 mod std_source;
 mod writing;
 
+#[cfg(test)]
+mod tests;
+
 pub use field::{Field, Layer, Name};
 pub use limits::{BULK_IN_SUBMIT, RESPONSE_MAX, SUBMIT_MAX};
 pub use mem_sink::MemSink;

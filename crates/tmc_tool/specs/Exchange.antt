@@ -1,6 +1,5 @@
 -- one query over the link: three submits, and their answers
 use Rattle.std.specs.Prelude.{◌≡◌, ℕ, ◌<◌, pos, true, List, [], ◌∷◌, ◌++◌, length, replicate}
-use Rattle.tmc_base.specs.declared.limits.TheConstants.{BULK_IN_SUBMIT}
 use Rattle.usbip_wire.specs.declared.urb.Dir.TheVariants.{Out, In}
 use Rattle.usbip_wire.specs.declared.submit.SubmitHead.{SubmitHead}
 use Rattle.usbip_wire.specs.declared.ret_submit.RetSubmitHead.{RetSubmitHead}
@@ -18,7 +17,30 @@ use Rattle.tmc_wire.specs.Transfer.{OutText, InText, alignment_of}
 use Rattle.instr_plain.specs.declared.plain.Plain.{Plain}
 use Rattle.instr_plain.specs.Standing.{power_on}
 use Rattle.instr_plain.specs.Exec.{Exec}
-use Rattle.tmc_tool.specs.declared.exchange.TheConstants.{DEVID, BULK_OUT, BULK_IN, MESSAGE_TAG, REQUEST_TAG, ASK_LIMIT}
+
+-- the instrument on the link: bus 1, device 2, with Bulk-OUT endpoint 1 and Bulk-IN endpoint 2
+abbrev pub devid : ℕ
+devid = 0x00010002
+
+abbrev pub bulk_out : ℕ
+bulk_out = 1
+
+abbrev pub bulk_in : ℕ
+bulk_in = 2
+
+-- the bytes that a read on Bulk-IN asks for
+abbrev pub read_size : ℕ
+read_size = 4096
+
+-- the tags of the message and of the request, and the longest response that is asked for
+abbrev pub message_tag : ℕ
+message_tag = 1
+
+abbrev pub request_tag : ℕ
+request_tag = 2
+
+abbrev pub ask_limit : ℕ
+ask_limit = 4000
 
 -- the three transfers: the message, the request of its response, and the response
 pub record Transfers : Type 0 where
@@ -29,20 +51,20 @@ pub record Transfers : Type 0 where
 -- the message goes whole in one transfer, a response of at most the limit is requested, and it comes whole in one
 -- transfer
 abbrev pub message_header : List ℕ → OutHeader
-message_header message = Message MESSAGE_TAG (length message) true
+message_header message = Message message_tag (length message) true
 
 abbrev pub request_header : OutHeader
-request_header = Request REQUEST_TAG ASK_LIMIT
+request_header = Request request_tag ask_limit
 
 abbrev pub response_header : List ℕ → InHeader
-response_header response = record { tag = REQUEST_TAG; size = length response; eom = true }
+response_header response = record { tag = request_tag; size = length response; eom = true }
 
 -- a submit of a transfer on Bulk-OUT, and of a read on Bulk-IN
 abbrev pub out_submit : ℕ → List ℕ → SubmitHead
-out_submit seqnum transfer = record { seqnum = seqnum; devid = DEVID; dir = Out; ep = BULK_OUT; length = length transfer; setup = replicate 8 0 }
+out_submit seqnum transfer = record { seqnum = seqnum; devid = devid; dir = Out; ep = bulk_out; length = length transfer; setup = replicate 8 0 }
 
 abbrev pub in_submit : ℕ → SubmitHead
-in_submit seqnum = record { seqnum = seqnum; devid = DEVID; dir = In; ep = BULK_IN; length = BULK_IN_SUBMIT; setup = replicate 8 0 }
+in_submit seqnum = record { seqnum = seqnum; devid = devid; dir = In; ep = bulk_in; length = read_size; setup = replicate 8 0 }
 
 -- an answer with status 0
 abbrev pub success : ℕ → List ℕ → RetSubmitHead
@@ -63,7 +85,7 @@ abbrev pub out_answer : ℕ → List ℕ → downward.Answer
 out_answer seqnum transfer = record { asked = record { dir = Out; size = length transfer }; message = downward.RetSubmit (success seqnum transfer) [] }
 
 abbrev pub in_answer : ℕ → List ℕ → downward.Answer
-in_answer seqnum transfer = record { asked = record { dir = In; size = BULK_IN_SUBMIT }; message = downward.RetSubmit (success seqnum transfer) transfer }
+in_answer seqnum transfer = record { asked = record { dir = In; size = read_size }; message = downward.RetSubmit (success seqnum transfer) transfer }
 
 abbrev pub answers : (message request response : List ℕ) → List downward.Answer
 answers message request response = out_answer 1 message ∷ out_answer 2 request ∷ in_answer 3 response ∷ []
@@ -78,8 +100,8 @@ pub record Exchanges (message response sent taken : List ℕ) (transfers : Trans
   pub told : OutText (message_header message) message transfers.message
   pub requested : OutText request_header [] transfers.request
   pub answered : InText (response_header response) response transfers.response
-  pub short : length transfers.response < BULK_IN_SUBMIT
-  pub submits : upward.SpellsAll DEVID (submits transfers.message transfers.request) sent
+  pub short : length transfers.response < read_size
+  pub submits : upward.SpellsAll devid (submits transfers.message transfers.request) sent
   pub answers : downward.SpellsAll (answers transfers.message transfers.request transfers.response) taken
 
 -- a transfer as this product writes it, with zeros behind its data

@@ -4,11 +4,9 @@ use Rattle.tmc_base.specs.Faults.{Rose}
 use Rattle.tmc_base.specs.Source.{GivesFirst, HasEnded}
 use Rattle.tmc_base.specs.Sink.{PutsFront, put_after}
 use Rattle.instr_plain.specs.Exec.{IsMessage}
-use Rattle.tmc_tool.specs.declared.exchange.TheConstants.{ASK_LIMIT}
-use Rattle.tmc_tool.specs.declared.ask.TheConstants.{LINE_MAX}
 use Rattle.tmc_tool.specs.declared.status.Status.{Status}
 use Rattle.tmc_tool.specs.declared.status.Status.TheVariants.{Printed, Usage, Refused, SourceFault, SinkFault, NoMemory}
-use Rattle.tmc_tool.specs.Exchange.{Crosses}
+use Rattle.tmc_tool.specs.Exchange.{Crosses, ask_limit}
 use Rattle.tmc_tool.specs.Report.{Told, Asked, Settled, Exec as exec_entry, Took, Reports}
 
 -- the number that a status is to the shell
@@ -41,10 +39,14 @@ pub record Outside : Type 0 where
   pub put : Option (List ℕ)
   pub write_faults : ℕ
 
--- these bytes were read: the first of the source, and all of them or at least the most that a line may have
+-- one byte more than the longest known message and its NL: with so many, what was read is no line that can be asked
+abbrev pub line_max : ℕ
+line_max = 7
+
+-- these bytes were read: the first of the source, and all of them or enough to know
 pub record ReadsLine (bytes : List ℕ) (before after : Outside) : Type 0 where
   pub first : GivesFirst bytes before.left after.left
-  pub enough : HasEnded after.left ⊎ (LINE_MAX ≤ length bytes)
+  pub enough : HasEnded after.left ⊎ (line_max ≤ length bytes)
   pub counts : after.read_faults ≡ before.read_faults
 
 -- nothing was read
@@ -65,7 +67,7 @@ pub record Puts (text : List ℕ) (before after : Outside) : Type 0 where
 -- what is told of one ask of this message, answered with this response
 abbrev pub told_of : (message response sent taken : List ℕ) → Told
 told_of message response sent taken = record {
-  tickets = record { session = 0; limit = ASK_LIMIT; last = 1; message = message; bytes = response } ∷ [];
+  tickets = record { session = 0; limit = ask_limit; last = 1; message = message; bytes = response } ∷ [];
   book = Asked 1 ∷ Settled 1 ∷ [];
   log = exec_entry 1 message ∷ Took (length response) ∷ [];
   up = sent;

@@ -32,6 +32,12 @@ pub(crate) fn ask(alloc: Global, message: &[u8]) -> Result<String, Memory>
 {
     let exchange = run_query(alloc, message)?;
     let response = exchange.response.as_slice();
-    let text = report(alloc, message, response, exchange.up.as_slice(), exchange.down.as_slice())?;
+    let text = report(
+        alloc,
+        message,
+        response,
+        exchange.up.as_slice(),
+        exchange.down.as_slice(),
+    )?;
     Ok(text)
 }

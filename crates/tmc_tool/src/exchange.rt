@@ -1,7 +1,7 @@
 //! One query over the link: the message goes out in one transfer, its response is requested and read.
 
 ghost use Rattle.std.specs.Prelude.{◌≡◌, ◌+◌, ◌*◌, ◌≤◌, ◌<◌, ◌^◌, ◌++◌, [], length, IfOk};
-ghost use Rattle.tmc_base.specs.declared.limits.TheConstants.{BULK_IN_SUBMIT, SUBMIT_MAX};
+ghost use Rattle.tmc_base.specs.declared.limits.TheConstants.{SUBMIT_MAX};
 ghost use Rattle.usbip_wire.specs.declared.urb.TheConstants.{URB_HEADER};
 ghost use Rattle.usbip_wire.specs.Submit.{submit_bytes};
 ghost use Rattle.usbip_wire.specs.Submit as submit;
@@ -14,7 +14,7 @@ ghost use Rattle.tmc_wire.specs.Transfer.{OutText, InText};
 ghost use Rattle.instr_plain.specs.declared.plain.Plain.{Plain};
 ghost use Rattle.instr_plain.specs.Standing.{power_on};
 ghost use Rattle.instr_plain.specs.Exec.{Exec, IsMessage};
-ghost use Rattle.tmc_tool.specs.Exchange.{Crosses, message_header, request_header, response_header, transfer_written, out_submit, in_submit, success, out_answer, in_answer, submits, submits_written, answers, answers_written};
+ghost use Rattle.tmc_tool.specs.Exchange.{devid, read_size, ask_limit, Crosses, message_header, request_header, response_header, transfer_written, out_submit, in_submit, success, out_answer, in_answer, submits, submits_written, answers, answers_written};
 
 use bytes::BytesMut;
 use instr_plain::Instrument;
@@ -74,7 +74,7 @@ fn respond(alloc: Global, message: &[u8]) -> Result<Vec<u8>, Memory>
     requires { IsMessage message.now }
     ensures executed { IfOk result (λ response. (state : Plain) × Exec power_on message.now state response.items) }
     ensures some { IfOk result (λ response. 0 < length response.items) }
-    ensures short { IfOk result (λ response. length response.items ≤ ASK_LIMIT) }
+    ensures short { IfOk result (λ response. length response.items ≤ ask_limit) }
 {
     let mut instrument = Instrument::new(alloc)?;
     instrument.execute(message)?;
@@ -113,10 +113,10 @@ fn request_transfer(alloc: Global) -> Result<BytesMut, Memory>
 /// The transfer of a whole response.
 fn response_transfer(alloc: Global, response: &[u8]) -> Result<BytesMut, Memory>
     requires some { 0 < length response.now }
-    requires short { length response.now ≤ ASK_LIMIT }
+    requires short { length response.now ≤ ask_limit }
     ensures text { IfOk result (λ bytes. InText (response_header response.now) response.now bytes.items) }
     ensures plain { IfOk result (λ bytes. bytes.items ≡ transfer_written (in_header_bytes (response_header response.now)) response.now) }
-    ensures short { IfOk result (λ bytes. length bytes.items < BULK_IN_SUBMIT) }
+    ensures short { IfOk result (λ bytes. length bytes.items < read_size) }
 {
     let header = InHeader {
         tag: REQUEST_TAG,
@@ -130,7 +130,7 @@ fn response_transfer(alloc: Global, response: &[u8]) -> Result<BytesMut, Memory>
 fn submits(alloc: Global, message: &[u8], request: &[u8]) -> Result<BytesMut, Memory>
     requires message { length message.now ≤ 2048 }
     requires request { length request.now ≤ 2048 }
-    ensures spelled { IfOk result (λ sent. upward.SpellsAll DEVID (submits message.now request.now) sent.items) }
+    ensures spelled { IfOk result (λ sent. upward.SpellsAll devid (submits message.now request.now) sent.items) }
     ensures plain { IfOk result (λ sent. sent.items ≡ submits_written message.now request.now) }
 {
     let mut up = BytesMut::with_capacity(alloc, 3 * URB_HEADER + message.len() + request.len())?;
@@ -149,7 +149,7 @@ fn answers(
 ) -> Result<BytesMut, Memory>
     requires message { length message.now ≤ 2048 }
     requires request { length request.now ≤ 2048 }
-    requires response { length response.now ≤ BULK_IN_SUBMIT }
+    requires response { length response.now ≤ read_size }
     ensures spelled { IfOk result (λ taken. downward.SpellsAll (answers message.now request.now response.now) taken.items) }
     ensures plain { IfOk result (λ taken. taken.items ≡ answers_written message.now request.now response.now) }
 {
@@ -178,7 +178,7 @@ fn submit_out(seqnum: u32, transfer: &[u8], up: &mut BytesMut)
     requires short { length transfer.now ≤ SUBMIT_MAX }
     requires room { URB_HEADER + length transfer.now ≤ up.old.spare }
     ensures written { up.new.items ≡ up.old.items ++ submit_bytes (out_submit seqnum transfer.now) submit.unused transfer.now }
-    ensures spelled { upward.Spells DEVID (upward.Submit (out_submit seqnum transfer.now) transfer.now) (submit_bytes (out_submit seqnum transfer.now) submit.unused transfer.now) }
+    ensures spelled { upward.Spells devid (upward.Submit (out_submit seqnum transfer.now) transfer.now) (submit_bytes (out_submit seqnum transfer.now) submit.unused transfer.now) }
     ensures spare { up.new.spare + (URB_HEADER + length transfer.now) ≡ up.old.spare }
 {
     let head = SubmitHead {
@@ -196,7 +196,7 @@ fn submit_out(seqnum: u32, transfer: &[u8], up: &mut BytesMut)
 fn submit_in(seqnum: u32, up: &mut BytesMut)
     requires { URB_HEADER ≤ up.old.spare }
     ensures written { up.new.items ≡ up.old.items ++ submit_bytes (in_submit seqnum) submit.unused [] }
-    ensures spelled { upward.Spells DEVID (upward.Submit (in_submit seqnum) []) (submit_bytes (in_submit seqnum) submit.unused []) }
+    ensures spelled { upward.Spells devid (upward.Submit (in_submit seqnum) []) (submit_bytes (in_submit seqnum) submit.unused []) }
 {
     let head = SubmitHead {
         seqnum,
@@ -227,7 +227,7 @@ fn answer_out(seqnum: u32, transfer: &[u8], down: &mut BytesMut)
 
 /// Answers a read on Bulk-IN with a transfer.
 fn answer_in(seqnum: u32, transfer: &[u8], down: &mut BytesMut)
-    requires short { length transfer.now ≤ BULK_IN_SUBMIT }
+    requires short { length transfer.now ≤ read_size }
     requires room { URB_HEADER + length transfer.now ≤ down.old.spare }
     ensures written { down.new.items ≡ down.old.items ++ ret_submit_bytes (success seqnum transfer.now) ret_submit.unused transfer.now }
     ensures spelled { downward.Spells (in_answer seqnum transfer.now).asked (in_answer seqnum transfer.now).message (ret_submit_bytes (success seqnum transfer.now) ret_submit.unused transfer.now) }

@@ -3,6 +3,7 @@
 ghost use Rattle.std.specs.Prelude.{◌≡◌, ◌≤◌, ◌<◌, ◌^◌, ◌∷◌, [], ◌++◌, length, IfOk, OnOk, string_bytes, codes, ℕ, List};
 ghost use Rattle.std.specs.Fmt.{decimal};
 ghost use Rattle.tmc_tool.specs.Report.{numbered, hex_word, counted, ticket_line, book_line, log_line, stream_line, StreamLines, Asked, Settled, Exec, Took, Reports};
+ghost use Rattle.tmc_tool.specs.Exchange.{ask_limit};
 ghost use Rattle.tmc_tool.specs.Tool.{told_of};
 
 use crate::exchange::ASK_LIMIT;
@@ -37,7 +38,7 @@ fn ticket(
     message: &[u8],
     bytes: &[u8],
 ) -> Result<String, Memory>
-    ensures { IfOk result (λ text. string_bytes text ≡ ticket_line number (record { session = session; limit = ASK_LIMIT; last = last; message = message.now; bytes = bytes.now })) }
+    ensures { IfOk result (λ text. string_bytes text ≡ ticket_line number (record { session = session; limit = ask_limit; last = last; message = message.now; bytes = bytes.now })) }
 {
     let asked = format!(in alloc;
         "ticket {number} session {session} ask limit {ASK_LIMIT} last {last}"

@@ -1,0 +1,69 @@
+use crate::*;
+use std::test::Fail;
+
+#[test]
+fn source_gives_its_bytes_in_pieces(rt: HostRuntime) -> Result<(), Fail> {
+    let bytes = b"abcde".to_vec(rt.alloc())?;
+    let fails = [2].to_vec(rt.alloc())?;
+    let mut source = MemSource::new(bytes, 2, fails);
+    let mut buf = [0; 4];
+    assert_eq!(rt; source.read(&mut buf), ReadStep::Got(2));
+    assert_eq!(rt; &buf[..2], b"ab".as_slice());
+    assert_eq!(rt; source.read(&mut buf), ReadStep::Failed);
+    assert_eq!(rt; source.read(&mut buf[..1]), ReadStep::Got(1));
+    assert_eq!(rt; &buf[..1], b"c".as_slice());
+    assert_eq!(rt; source.read(&mut buf), ReadStep::Got(2));
+    assert_eq!(rt; &buf[..2], b"de".as_slice());
+    assert_eq!(rt; source.read(&mut buf), ReadStep::End);
+    Ok(())
+}
+
+#[test]
+fn sink_takes_pieces_until_it_is_full(rt: HostRuntime) -> Result<(), Fail> {
+    let fails = [2].to_vec(rt.alloc())?;
+    let mut sink = MemSink::new(rt.alloc(), 5, 3, fails)?;
+    assert_eq!(rt; sink.write(b"abcdef"), WriteStep::Took(3));
+    assert_eq!(rt; sink.write(b"def"), WriteStep::Failed);
+    assert_eq!(rt; sink.write(b"def"), WriteStep::Took(2));
+    assert_eq!(rt; sink.write(b"f"), WriteStep::Failed);
+    assert_eq!(rt; sink.bytes(), b"abcde".as_slice());
+    Ok(())
+}
+
+#[test]
+fn reads_no_byte_past_the_most(rt: HostRuntime) -> Result<(), Fail> {
+    for (most, piece, want) in [(3, 2, "abc"), (5, 5, "abcde"), (9, 1, "abcde"), (0, 1, "")] {
+        let bytes = b"abcde".to_vec(rt.alloc())?;
+        let mut source = MemSource::new(bytes, piece, Vec::new(rt.alloc()));
+        let read = read_up_to(rt.alloc(), &mut source, most)?;
+        assert_eq!(rt; read.as_slice(), want.as_bytes(), "at most {most}");
+    }
+    let fails = [2].to_vec(rt.alloc())?;
+    let mut source = MemSource::new(b"abcde".to_vec(rt.alloc())?, 2, fails);
+    let fault = read_up_to(rt.alloc(), &mut source, 9).err();
+    assert_eq!(rt; fault, Some(ReadFault::Failed));
+    Ok(())
+}
+
+#[test]
+fn writes_all_or_a_front(rt: HostRuntime) -> Result<(), Fail> {
+    let mut sink = MemSink::new(rt.alloc(), 9, 2, Vec::new(rt.alloc()))?;
+    assert!(rt; write_all(&mut sink, b"abcde"));
+    assert_eq!(rt; sink.bytes(), b"abcde".as_slice());
+    let fails = [3].to_vec(rt.alloc())?;
+    let mut sink = MemSink::new(rt.alloc(), 9, 2, fails)?;
+    assert!(rt; !write_all(&mut sink, b"abcde"));
+    assert_eq!(rt; sink.bytes(), b"abcd".as_slice());
+    Ok(())
+}
+
+#[test]
+fn octets_keep_their_bytes(rt: HostRuntime) -> Result<(), Fail> {
+    let octets = Octets::from_slice(rt.alloc(), b"abc")?;
+    assert_eq!(rt; octets.as_slice(), b"abc".as_slice());
+    assert_eq!(rt; octets.len(), 3);
+    let again = Octets::from(octets.into_vec());
+    assert!(rt; !again.is_empty());
+    assert!(rt; Octets::new(rt.alloc()).is_empty());
+    Ok(())
+}
