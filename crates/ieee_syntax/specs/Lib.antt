@@ -1,0 +1,4 @@
+pub mod Kind
+pub mod Rounded
+pub mod Number
+pub mod Program
