@@ -2,3 +2,4 @@ pub mod Kind
 pub mod Rounded
 pub mod Number
 pub mod Program
+pub mod Automaton

@@ -10,6 +10,8 @@ mod fault;
 mod head;
 mod kind;
 mod nrf;
+mod number;
+mod place;
 mod unit;
 
 pub use args::Args;

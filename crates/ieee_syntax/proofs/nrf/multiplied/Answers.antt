@@ -4,6 +4,7 @@ use Rattle.ieee_syntax.proofs.nrf.multiplied.Goals as goal
 
 pub returns-then-zeros-gt6 : goal.returns-then-zeros-gt6
 returns-then-zeros-gt6 c =
-    elim c.then-zeros-gt6.either
-      [ inl many ↦ clamped-zeros_many c.args.digits c.args.zeros (omega arith) many
-      | inr great ↦ clamped-zeros_great c.args.digits c.args.zeros great.1 ]
+    elim c.then-zeros-gt6.either [
+      | inl many ↦ clamped-zeros_many c.args.digits c.args.zeros (omega arith) many
+      | inr great ↦ clamped-zeros_great c.args.digits c.args.zeros great.1
+    ]
