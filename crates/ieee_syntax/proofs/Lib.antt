@@ -1,1 +1,3 @@
+pub mod Completes
+pub mod Options
 pub mod Rounding

@@ -12,6 +12,8 @@ use Rattle.ieee_syntax.specs.declared.place.Place.{Place}
 use Rattle.ieee_syntax.specs.declared.place.Place.TheVariants as places
 use Rattle.ieee_syntax.specs.declared.place.Refusal.{Refusal}
 use Rattle.ieee_syntax.specs.declared.place.Refusal.TheVariants as refusal
+use Rattle.ieee_syntax.specs.declared.fault.SyntaxFault.{SyntaxFault}
+use Rattle.ieee_syntax.specs.declared.fault.SyntaxFault.TheVariants as faults
 use Rattle.ieee_syntax.specs.declared.unit.Unit.{Unit}
 use Rattle.ieee_syntax.specs.Kind.{kind_of}
 use Rattle.ieee_syntax.specs.Rounded.{signed}
@@ -229,3 +231,17 @@ abbrev pub Gives : {A : Type 0} → Result A Refusal → Option A → Type 0
 Gives (Ok value) answer = answer ≡ Some value
 Gives (Err refusal.Byte) answer = answer ≡ None
 Gives (Err refusal.Memory) answer = ⊤
+
+abbrev pub Steps : Result Place Refusal → List Unit → Option Scan → Type 0
+Steps (Ok place) units answer = answer ≡ Some (record { units = units; place = place })
+Steps (Err refusal.Byte) units answer = answer ≡ None
+Steps (Err refusal.Memory) units answer = ⊤
+
+abbrev pub Finishes : {D : Type 0} → Result D Refusal → List Unit → Option (List Unit) → Type 0
+Finishes (Ok done) units answer = answer ≡ Some units
+Finishes (Err refusal.Byte) units answer = answer ≡ None
+Finishes (Err refusal.Memory) units answer = ⊤
+
+abbrev pub fault_at : Refusal → ℕ → SyntaxFault
+fault_at refusal.Byte place = faults.At place
+fault_at refusal.Memory place = faults.Memory

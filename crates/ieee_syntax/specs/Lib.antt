@@ -3,3 +3,4 @@ pub mod Rounded
 pub mod Number
 pub mod Program
 pub mod Automaton
+pub mod Answers

@@ -47,7 +47,7 @@ Separated separator Item text [] = ⊥
 Separated separator Item text (x ∷ []) = Item text x
 Separated separator Item text (x ∷ y ∷ ys) =
     (item rest : List Kind) × (before behind : ℕ)
-    × (text ≡ item ++ (spaces before ++ separator ∷ spaces behind ++ rest))
+    × (text ≡ item ++ (spaces before ++ (separator ∷ (spaces behind ++ rest))))
     × Item item x × Separated separator Item rest (y ∷ ys)
 
 -- [ ws+ number ( ws* "," ws* number )* ]

@@ -9,13 +9,17 @@ mod args;
 mod fault;
 mod head;
 mod kind;
+mod laws;
 mod nrf;
 mod number;
 mod place;
+mod scan;
 mod unit;
 
 pub use args::Args;
 pub use fault::SyntaxFault;
 pub use head::Head;
+pub use laws::one_reading;
 pub use nrf::Nrf;
+pub use scan::units;
 pub use unit::Unit;

@@ -1,6 +1,6 @@
 ghost use Rattle.std.specs.Prelude.{◌≡◌, ◌++◌, ◌∷◌, [], ◌<◌, length, IfOk, IfSome, Some, option_map};
 ghost use Rattle.ieee_syntax.specs.declared.place.Place.TheVariants as places;
-ghost use Rattle.ieee_syntax.specs.Automaton.{IsSmall, NumberFits, PlaceFits, Gives, named, given, first_of, most_of, whole, at_unit, behind_star, longer, in_head, behind_query, at_number, in_number, advance, begin};
+ghost use Rattle.ieee_syntax.specs.Automaton.{IsSmall, NumberFits, PlaceFits, Gives, named, given, first_of, most_of, whole, at_unit, behind_star, longer, in_head, behind_query, at_number, in_number, advance, begin, fault_at};
 
 use crate::kind::Kind;
 use crate::number::Number;
@@ -45,6 +45,18 @@ impl<T: Drop> From<AllocFailed<T>> for Refusal {
 
     fn from(_error: AllocFailed<T>) -> Refusal {
         Refusal::Memory
+    }
+}
+
+impl Refusal {
+    /// What is said of the refusal of this byte.
+    pub(crate) fn at(self, place: u32) -> SyntaxFault
+        ensures { result ≡ fault_at self place }
+    {
+        match self {
+            Refusal::Byte => SyntaxFault::At(place),
+            Refusal::Memory => SyntaxFault::Memory,
+        }
     }
 }
 
