@@ -1,3 +1,5 @@
+pub mod Backs
 pub mod Completes
+pub mod Follows
 pub mod Options
 pub mod Rounding
