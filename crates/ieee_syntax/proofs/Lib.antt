@@ -3,3 +3,4 @@ pub mod Completes
 pub mod Follows
 pub mod Options
 pub mod Rounding
+pub mod Sound
