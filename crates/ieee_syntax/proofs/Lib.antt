@@ -1,5 +1,6 @@
 pub mod Backs
 pub mod Completes
+pub mod Digits
 pub mod Follows
 pub mod Options
 pub mod Rounding
