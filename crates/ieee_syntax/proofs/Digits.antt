@@ -1,5 +1,5 @@
 -- the scanner in a number that the grammar has
-use Rattle.std.proofs.Common.{◌≡◌, ◌⊎◌, inl, inr, ℕ, suc, zero, ◌+◌, ◌-◌, ◌<◌, ◌≤◌, ℤ, pos, ◌-ℤ◌, Bool, true, false, List, [], ◌∷◌, ◌++◌, length, fold, cond, eqb, nat_lt, Option, Some, None, refl, sym, ap, ◌∙◌, subst, append_assoc, zero-add, add-zero, arith}
+use Rattle.std.proofs.Common.{◌≡◌, ◌⊎◌, inl, inr, ℕ, suc, zero, ◌+◌, ◌-◌, ◌<◌, ◌≤◌, ℤ, pos, ◌-ℤ◌, Bool, true, false, List, [], ◌∷◌, ◌++◌, length, fold, cond, eqb, nat_lt, Option, Some, None, refl, sym, ap, ◌∙◌, subst, append_assoc, append-nil, zero-add, add-zero, arith}
 use Rattle.std.specs.Prelude.{option_map}
 use Rattle.std.proofs.lemmas.Bool.Decides.{nat_tests}
 use Rattle.std.proofs.lemmas.List.Sums.{fold-append}
@@ -16,6 +16,8 @@ use Rattle.ieee_syntax.specs.declared.unit.Unit.{Unit}
 use Rattle.ieee_syntax.specs.Rounded.{signed}
 use Rattle.ieee_syntax.specs.Number.{spaces, digits, with_digit, decimal, Sign, unsigned, plus, minus, sign_text, is_minus, Pointed, IsMantissa, IsPower, IsExponent, IsNumber}
 use Rattle.ieee_syntax.specs.Automaton.{Scan, next, begin, value_of, in_mantissa, push, push_power, with_point, no_mantissa, no_power, number_of, power_of, step, goes}
+
+use Rattle.ieee_syntax.proofs.Options.{cond_none}
 
 -- the scanner with these units at this place
 abbrev pub at : List Unit → Place → Option Scan
@@ -145,3 +147,97 @@ module _ (units : List Unit) (u : Unit) where
   exponent-reads m text value some (inr h) =
       let r = mark-reads m h.1 value h.3 in
       record { state = r.state; reached = rw h.2 (mantissa-mark m h.0 h.1 some ∙ r.reached); value = r.value }
+
+  -- a mantissa
+  record MantissaReads (negative : Bool) (text : List Kind) (whole fraction : List ℕ) : Type 0 where
+    mantissa : Mantissa
+    reached : fold goes (in_number (number.Mantissa (no_mantissa negative))) text ≡ in_number (number.Mantissa mantissa)
+    some : 0 < mantissa.count
+    sign : mantissa.negative ≡ negative
+    digits_are : mantissa.digits ≡ decimal (whole ++ fraction)
+    places : mantissa.places ≡ length fraction
+
+  point-step : (m : Mantissa) → m.point ≡ false → step units (places.Number u (number.Mantissa m)) Point ≡ in_number (number.Mantissa (with_point m))
+  point-step m e = rw e refl
+
+  pointed-reads : (negative : Bool) (text : List Kind) (whole fraction : List ℕ) → Pointed text whole fraction → 0 < length whole + length fraction → length whole + length fraction ≤ 32 → MantissaReads negative text whole fraction
+  pointed-reads negative text whole fraction (inl e) some few =
+      let none = no_mantissa negative in
+      let m = pushed none whole in
+      let all = pushed (with_point m) fraction in
+      let count : m.count ≡ 0 + length whole = pushed-count none whole in
+      record {
+        mantissa = all;
+        reached = rw e (chain (in_number (number.Mantissa none)) (in_number (number.Mantissa m)) (in_number (number.Mantissa all)) (digits whole) (Point ∷ digits fraction)
+          (mantissa-digits none whole (omega arith))
+          (ap (λ o. fold goes o (digits fraction)) (point-step m (pushed-point none whole)) ∙ mantissa-digits (with_point m) fraction (omega arith)));
+        some = omega (arith, pushed-count (with_point m) fraction);
+        sign = pushed-negative (with_point m) fraction ∙ pushed-negative none whole;
+        digits_are = pushed-digits (with_point m) fraction ∙ (ap (λ x. fold with_digit x fraction) (pushed-digits none whole) ∙ sym (fold-append with_digit 0 whole fraction));
+        places = omega (arith, pushed-places (with_point m) fraction refl, pushed-no_places none whole refl);
+      }
+  pointed-reads negative text whole fraction (inr e) some few =
+      let none = no_mantissa negative in
+      record {
+        mantissa = pushed none whole;
+        reached = rw e.0 (mantissa-digits none whole (omega arith));
+        some = omega (arith, pushed-count none whole, ap length e.1);
+        sign = pushed-negative none whole;
+        digits_are = pushed-digits none whole ∙ ap decimal (sym (ap (λ xs. whole ++ xs) e.1 ∙ append-nil whole));
+        places = omega (arith, pushed-no_places none whole refl, ap length e.1);
+      }
+
+  -- a mantissa and what stands behind it
+  unsigned-reads : (negative : Bool) (mantissa exponent : List Kind) (whole fraction : List ℕ) (power : ℤ) (n : Nrf) → IsMantissa mantissa whole fraction → IsExponent exponent power
+    → n ≡ record { negative = negative; digits = decimal (whole ++ fraction); exponent = power -ℤ pos (length fraction) }
+    → Reads (in_number (number.Mantissa (no_mantissa negative))) (mantissa ++ exponent) n
+  unsigned-reads negative mantissa exponent whole fraction power n h behind means =
+      let m = pointed-reads negative mantissa whole fraction h.spelled h.some h.few in
+      let r = exponent-reads m.mantissa exponent power m.some behind in
+      let same : number_of m.mantissa power ≡ n = rw (m.sign, m.digits_are, m.places) (sym means) in
+      record {
+        state = r.state;
+        reached = chain _ (in_number (number.Mantissa m.mantissa)) (in_number r.state) mantissa exponent m.reached r.reached;
+        value = r.value ∙ ap Some same;
+      }
+
+  -- a place where a number may begin
+  abbrev pub Opens : Place → Type 0
+  Opens p = (k : Kind) (s : Number) → begin k ≡ Some s → step units p k ≡ in_number s
+
+  first-step : (p : Place) → Opens p → (mantissa rest : List Kind) (whole fraction : List ℕ) → Pointed mantissa whole fraction → 0 < length whole + length fraction
+    → fold goes (at units p) (mantissa ++ rest) ≡ fold goes (in_number (number.Mantissa (no_mantissa false))) (mantissa ++ rest)
+  first-step p opens mantissa rest [] fraction (inl e) some =
+      rw e (ap (λ o. fold goes o (digits fraction ++ rest)) (opens Point (number.Mantissa (with_point (no_mantissa false))) refl))
+  first-step p opens mantissa rest (d ∷ whole) fraction (inl e) some =
+      rw e (ap (λ o. fold goes o ((digits whole ++ (Point ∷ digits fraction)) ++ rest)) (opens (Digit d) (number.Mantissa (push (no_mantissa false) d)) refl))
+  first-step p opens mantissa rest [] fraction (inr e) some = absurd (omega (arith, ap length e.1))
+  first-step p opens mantissa rest (d ∷ whole) fraction (inr e) some =
+      rw e.0 (ap (λ o. fold goes o (digits whole ++ rest)) (opens (Digit d) (number.Mantissa (push (no_mantissa false) d)) refl))
+
+  signed-reads : (p : Place) → Opens p → (sign : Sign) (mantissa exponent : List Kind) (whole fraction : List ℕ) (n : Nrf) → IsMantissa mantissa whole fraction
+    → Reads (in_number (number.Mantissa (no_mantissa (is_minus sign)))) (mantissa ++ exponent) n → Reads (at units p) (sign_text sign ++ (mantissa ++ exponent)) n
+  signed-reads p opens unsigned mantissa exponent whole fraction n h r =
+      record { state = r.state; reached = first-step p opens mantissa exponent whole fraction h.spelled h.some ∙ r.reached; value = r.value }
+  signed-reads p opens plus mantissa exponent whole fraction n h r =
+      record { state = r.state; reached = ap (λ o. fold goes o (mantissa ++ exponent)) (opens Plus (number.Mantissa (no_mantissa false)) refl) ∙ r.reached; value = r.value }
+  signed-reads p opens minus mantissa exponent whole fraction n h r =
+      record { state = r.state; reached = ap (λ o. fold goes o (mantissa ++ exponent)) (opens Minus (number.Mantissa (no_mantissa true)) refl) ∙ r.reached; value = r.value }
+
+  pub number-reads : (p : Place) → Opens p → (text : List Kind) (n : Nrf) → IsNumber text n → Reads (at units p) text n
+  number-reads p opens text n h =
+      let r = signed-reads p opens h.sign h.mantissa h.exponent h.whole h.fraction n h.mantissa_is
+        (unsigned-reads (is_minus h.sign) h.mantissa h.exponent h.whole h.fraction h.power n h.mantissa_is h.exponent_is h.means) in
+      record { state = r.state; reached = rw h.spelled r.reached; value = r.value }
+
+  -- white space behind a number
+  pub number-space : (s : Number) (n : Nrf) → value_of s ≡ Some n → (t : Number) × (step units (places.Number u s) Space ≡ in_number t) × (value_of t ≡ Some n)
+  number-space (number.Mantissa m) n e =
+      let t = cond_none (eqb m.count 0) (Some (number_of m (pos 0))) n e in
+      (number.Gap m, rw t.0 refl, t.1)
+  number-space (number.Gap m) n e = (number.Gap m, refl, e)
+  number-space (number.Mark m) n e = cc
+  number-space (number.Power m p) n e =
+      let t = cond_none (eqb p.count 0) (Some (number_of m (power_of p))) n e in
+      (number.PowerGap m p, rw t.0 refl, t.1)
+  number-space (number.PowerGap m p) n e = (number.PowerGap m p, refl, e)
