@@ -1,4 +1,5 @@
 pub mod Backs
+pub mod Complete
 pub mod Completes
 pub mod Digits
 pub mod Follows
