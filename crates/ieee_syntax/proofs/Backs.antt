@@ -89,7 +89,7 @@ unit-back p q Space text us e other h = absurd (other refl)
 unit-back p q Star text us e other h = on_unit us (StarThen text) (λ v vs. Spaced (Star ∷ text) (v ∷ vs)) (spaced-star text) (into places.Star q text us e h)
 unit-back p q (Letter code) text us e other h =
     on_unit us (HeadThen (first_of (code ∷ [])) false text) (λ v vs. Spaced (Letter code ∷ text) (v ∷ vs)) (spaced-head false code text)
-      (into (places.Head (first_of (code ∷ [])) false) q text us e h)
+    (into (places.Head (first_of (code ∷ [])) false) q text us e h)
 unit-back p q _ text us e other h = cc
 
 start-back : (q : Place) (k : Kind) (text : List Kind) (us : List Unit) → at_unit places.Start k ≡ Some q → After q text us → AtStart (k ∷ text) us
@@ -104,8 +104,8 @@ separator-back q k text us e h = unit-back places.Separator q k text us e (λ s.
 star-back : (q : Place) (k : Kind) (text : List Kind) (us : List Unit) → behind_star k ≡ Some q → After q text us → OnUnit us (StarThen (k ∷ text))
 star-back q (Letter code) text us e h =
     on_unit us (HeadThen (first_of (42 ∷ code ∷ [])) true text) (StarThen (Letter code ∷ text))
-      (λ v vs t. record { first = code; rest = text; spelled = refl; head = t })
-      (into (places.Head (first_of (42 ∷ code ∷ [])) true) q text us e h)
+    (λ v vs t. record { first = code; rest = text; spelled = refl; head = t })
+    (into (places.Head (first_of (42 ∷ code ∷ [])) true) q text us e h)
 star-back q _ text us e h = cc
 
 -- one more byte of a head
@@ -126,7 +126,7 @@ longer-back u starred byte q text us e h =
     let t = cond_some (nat_lt (length u.head) (most_of starred)) (places.Head (named u (byte_in byte)) starred) q e in
     let less : length u.head < most_of starred = grind (arith, nat_tests) in
     on_unit us (HeadThen (named u (byte_in byte)) starred text) (HeadThen u starred (kind_in byte ∷ text)) (λ v vs g. head-longer u starred byte text v vs less g)
-      (into (places.Head (named u (byte_in byte)) starred) q text us (ap Some t.1) h)
+    (into (places.Head (named u (byte_in byte)) starred) q text us (ap Some t.1) h)
 
 or_true : (b : Bool) → (b || true) ≡ true
 or_true true = refl
@@ -141,10 +141,10 @@ head-back u starred q (Digit value) text us e h = longer-back u starred (digit v
 head-back u starred q Underscore text us e h = longer-back u starred underscore q text us e h
 head-back u starred q Question text us e h =
     on_unit us (QueryThen (record u { query = true }) text) (HeadThen u starred (Question ∷ text)) (head-query u starred text)
-      (into (places.Query (record u { query = true })) q text us e h)
+    (into (places.Query (record u { query = true })) q text us e h)
 head-back u starred q Space text us e h =
     on_unit us (GapThen u text) (HeadThen u starred (Space ∷ text)) (λ v vs g. head-ends u starred (Space ∷ text) v vs (given-gap u text v vs g))
-      (into (places.Gap u) q text us e h)
+    (into (places.Gap u) q text us e h)
 head-back u starred q _ text us e h = cc
 
 query-back : (u : Unit) (q : Place) (k : Kind) (text : List Kind) (us : List Unit) → behind_query u k ≡ Some q → After q text us → OnUnit us (QueryThen u (k ∷ text))
@@ -163,8 +163,8 @@ comma-number : (u : Unit) (q : Place) (k : Kind) (text : List Kind) (us : List U
 comma-number u q k text us e h =
     let t = option_map_some (places.Number u) (begin k) q e in
     on_unit us (NumberIn u t.0 text) (CommaThen u (k ∷ text))
-      (λ v vs g. record { gap = 0; rest = k ∷ text; n = g.n; ns = g.ns; spelled = refl; listed = listed-begin k t.0 text g.n g.ns vs t.1 g.then; unit_is = g.unit_is })
-      (into (places.Number u t.0) q text us (ap Some t.2) h)
+    (λ v vs g. record { gap = 0; rest = k ∷ text; n = g.n; ns = g.ns; spelled = refl; listed = listed-begin k t.0 text g.n g.ns vs t.1 g.then; unit_is = g.unit_is })
+    (into (places.Number u t.0) q text us (ap Some t.2) h)
 
 gap-back : (u : Unit) (q : Place) (k : Kind) (text : List Kind) (us : List Unit) → at_number (places.Gap u) u k ≡ Some q → After q text us → OnUnit us (GapThen u (k ∷ text))
 gap-back u q Space text us e h = on_unit us (GapThen u text) (GapThen u (Space ∷ text)) (gap-space u text) (into (places.Gap u) q text us e h)
@@ -187,14 +187,14 @@ number-goes : (u : Unit) (s : Number) (q : Place) (k : Kind) (text : List Kind) 
 number-goes u s q k text us e h =
     let t = option_map_some (places.Number u) (next s k) q e in
     on_unit us (NumberIn u t.0 text) (NumberIn u s (k ∷ text))
-      (λ v vs g. record { n = g.n; ns = g.ns; then = number-next s t.0 k text g.n g.ns vs t.1 g.then; unit_is = g.unit_is })
-      (into (places.Number u t.0) q text us (ap Some t.2) h)
+    (λ v vs g. record { n = g.n; ns = g.ns; then = number-next s t.0 k text g.n g.ns vs t.1 g.then; unit_is = g.unit_is })
+    (into (places.Number u t.0) q text us (ap Some t.2) h)
 
 number-back : (u : Unit) (s : Number) (q : Place) (k : Kind) (text : List Kind) (us : List Unit) → in_number u s k ≡ Some q → After q text us → OnUnit us (NumberIn u s (k ∷ text))
 number-back u s q Comma text us e h =
     let t = option_map_some (λ value. places.Comma (given u value)) (value_of s) q e in
     on_unit us (CommaThen (given u t.0) text) (NumberIn u s (Comma ∷ text)) (λ v vs g. number-comma u s t.0 text v vs t.1 g)
-      (into (places.Comma (given u t.0)) q text us (ap Some t.2) h)
+    (into (places.Comma (given u t.0)) q text us (ap Some t.2) h)
 number-back u s q k text us e h = number-goes u s q k text us e h
 
 pub advance-back : (p q : Place) (k : Kind) (text : List Kind) (us : List Unit) → advance p k ≡ Some q → After q text us → After p (k ∷ text) us

@@ -95,11 +95,11 @@ numbers-lead units p u opens text n (m ∷ ms) h =
     let g = number-spaces units u r.state n r.value h.2 in
     let l = numbers-lead units (places.Comma v) v (opens-comma units v) rest m ms h.6 in
     let behind : fold goes (at units (places.Comma v)) (spaces h.3 ++ rest) ≡ at units l.place =
-      chain (at units (places.Comma v)) (at units (places.Comma v)) (at units l.place) (spaces h.3) rest (spaces-stay units (places.Comma v) refl h.3) l.reached in
+    chain (at units (places.Comma v)) (at units (places.Comma v)) (at units l.place) (spaces h.3) rest (spaces-stay units (places.Comma v) refl h.3) l.reached in
     let comma : fold goes (at units (places.Number u g.state)) (Comma ∷ (spaces h.3 ++ rest)) ≡ at units l.place =
-      ap (λ o. fold goes o (spaces h.3 ++ rest)) (comma-step units u g.state n g.value) ∙ behind in
+    ap (λ o. fold goes o (spaces h.3 ++ rest)) (comma-step units u g.state n g.value) ∙ behind in
     let before : fold goes (at units (places.Number u r.state)) (spaces h.2 ++ (Comma ∷ (spaces h.3 ++ rest))) ≡ at units l.place =
-      chain (at units (places.Number u r.state)) (at units (places.Number u g.state)) (at units l.place) (spaces h.2) (Comma ∷ (spaces h.3 ++ rest)) g.reached comma in
+    chain (at units (places.Number u r.state)) (at units (places.Number u g.state)) (at units l.place) (spaces h.2) (Comma ∷ (spaces h.3 ++ rest)) g.reached comma in
     record {
       place = l.place;
       reached = rw h.4 (chain (at units p) (at units (places.Number u r.state)) (at units l.place) item (spaces h.2 ++ (Comma ∷ (spaces h.3 ++ rest))) r.reached before);
@@ -122,7 +122,7 @@ data-leads units p u h text (n ∷ ns) d =
     gap-leads zero some numbers q e = absurd (omega arith)
     gap-leads (suc gap) some numbers q e =
         ap (λ o. fold goes o (spaces gap ++ numbers)) h.space
-          ∙ chain (at units (places.Gap u)) (at units (places.Gap u)) (at units q) (spaces gap) numbers (spaces-stay units (places.Gap u) refl gap) e
+        ∙ chain (at units (places.Gap u)) (at units (places.Gap u)) (at units q) (spaces gap) numbers (spaces-stay units (places.Gap u) refl gap) e
 
 -- a head
 less : (m n : ℕ) → m < n → nat_lt m n ≡ true
@@ -134,12 +134,12 @@ name-step units u starred (digit value) h = rw (less (length u.head) (most_of st
 name-step units u starred underscore h = rw (less (length u.head) (most_of starred) h) refl
 
 name-reads : (units : List Unit) (u : Unit) (starred : Bool) (more : List NameByte) → length u.head + length more ≤ most_of starred
-  → fold goes (at units (places.Head u starred)) (map kind_in more) ≡ at units (places.Head (record u { head = u.head ++ map byte_in more }) starred)
+    → fold goes (at units (places.Head u starred)) (map kind_in more) ≡ at units (places.Head (record u { head = u.head ++ map byte_in more }) starred)
 name-reads units u starred [] few = rw append-nil refl
 name-reads units u starred (b ∷ more) few =
     ap (λ o. fold goes o (map kind_in more)) (name-step units u starred b (omega arith))
-      ∙ (name-reads units (named u (byte_in b)) starred more (omega (arith, length-append u.head (byte_in b ∷ [])))
-      ∙ ap (λ head. at units (places.Head (record u { head = head }) starred)) (append_assoc u.head (byte_in b ∷ []) (map byte_in more)))
+    ∙ (name-reads units (named u (byte_in b)) starred more (omega (arith, length-append u.head (byte_in b ∷ [])))
+    ∙ ap (λ head. at units (places.Head (record u { head = head }) starred)) (append_assoc u.head (byte_in b ∷ []) (map byte_in more)))
 
 -- a place where a unit may begin
 record OpensUnit (units : List Unit) (p : Place) : Type 0 where
@@ -148,7 +148,7 @@ record OpensUnit (units : List Unit) (p : Place) : Type 0 where
   stays : step units p Space ≡ at units p
 
 head-first : (units : List Unit) (p : Place) → OpensUnit units p → (starred : Bool) (first : ℕ) (text : List Kind)
-  → fold goes (at units p) (star_text starred ++ (Letter first ∷ text)) ≡ fold goes (at units (places.Head (first_of (star_name starred ++ first ∷ [])) starred)) text
+    → fold goes (at units p) (star_text starred ++ (Letter first ∷ text)) ≡ fold goes (at units (places.Head (first_of (star_name starred ++ first ∷ [])) starred)) text
 head-first units p h true first text = ap (λ o. fold goes o (Letter first ∷ text)) h.star
 head-first units p h false first text = ap (λ o. fold goes o text) (h.letters first)
 
@@ -159,14 +159,16 @@ fits-head false first n h = omega arith
 head-reads : (units : List Unit) (p : Place) → OpensUnit units p → (text : List Kind) (name : List ℕ) → IsHead text name → (starred : Bool) × (fold goes (at units p) text ≡ at units (places.Head (first_of name) starred))
 head-reads units p opens text name h =
     let first = first_of (star_name h.star ++ h.first ∷ []) in
-    let same : (star_name h.star ++ h.first ∷ []) ++ map byte_in h.more ≡ name = append_assoc (star_name h.star) (h.first ∷ []) (map byte_in h.more) ∙ sym h.named in
-    (h.star, rw h.spelled (head-first units p opens h.star h.first (map kind_in h.more)
-      ∙ (name-reads units first h.star h.more (fits-head h.star h.first (length h.more) h.few)
-      ∙ ap (λ head. at units (places.Head (first_of head) h.star)) same)))
+    let same : (star_name h.star ++ h.first ∷ []) ++ map byte_in h.more ≡ name = append_assoc (star_name h.star) (h.first ∷ []) (map byte_in h.more) ∙ sym h.named in (
+      h.star,
+      rw h.spelled (head-first units p opens h.star h.first (map kind_in h.more)
+          ∙ (name-reads units first h.star h.more (fits-head h.star h.first (length h.more) h.few)
+          ∙ ap (λ head. at units (places.Head (first_of head) h.star)) same)),
+    )
 
 -- a `?`
 query-reads : (units : List Unit) (name : List ℕ) (starred query : Bool) → (p : Place)
-  × (fold goes (at units (places.Head (first_of name) starred)) (query_text query) ≡ at units p) × IsNamed units p (record { head = name; query = query; args = [] })
+    × (fold goes (at units (places.Head (first_of name) starred)) (query_text query) ≡ at units p) × IsNamed units p (record { head = name; query = query; args = [] })
 query-reads units name starred true = (places.Query (record { head = name; query = true; args = [] }), refl, record { unit = refl; space = refl })
 query-reads units name starred false = (places.Head (first_of name) starred, refl, record { unit = refl; space = refl })
 
@@ -176,7 +178,7 @@ unit-leads units p opens text u h =
     let query = query-reads units u.head head.0 u.query in
     let l = data-leads units query.0 (record { head = u.head; query = u.query; args = [] }) query.2 h.numbers u.args h.given in
     let behind : fold goes (at units (places.Head (first_of u.head) head.0)) (query_text u.query ++ h.numbers) ≡ at units l.place =
-      chain (at units (places.Head (first_of u.head) head.0)) (at units query.0) (at units l.place) (query_text u.query) h.numbers query.1 l.reached in
+    chain (at units (places.Head (first_of u.head) head.0)) (at units query.0) (at units l.place) (query_text u.query) h.numbers query.1 l.reached in
     record {
       place = l.place;
       reached = rw h.spelled (chain (at units p) (at units (places.Head (first_of u.head) head.0)) (at units l.place) h.head (query_text u.query ++ h.numbers) head.1 behind);
@@ -211,15 +213,15 @@ units-lead units p opens text u (v ∷ us) h =
     let first = leads-spaces units (at units p) h.0 u (unit-leads units p opens h.0 u h.5) h.2 in
     let l = units-lead done places.Separator (opens-separator done) h.1 v us h.6 in
     let behind : fold goes (at done places.Separator) (spaces h.3 ++ h.1) ≡ at l.units l.place =
-      chain (at done places.Separator) (at done places.Separator) (at l.units l.place) (spaces h.3) h.1 (spaces-stay done places.Separator refl h.3) l.reached in
+    chain (at done places.Separator) (at done places.Separator) (at l.units l.place) (spaces h.3) h.1 (spaces-stay done places.Separator refl h.3) l.reached in
     let separator : fold goes (at units first.place) (Semicolon ∷ (spaces h.3 ++ h.1)) ≡ at l.units l.place =
-      ap (λ o. fold goes o (spaces h.3 ++ h.1)) (separator-step units first.place u first.unit) ∙ behind in
+    ap (λ o. fold goes o (spaces h.3 ++ h.1)) (separator-step units first.place u first.unit) ∙ behind in
     record {
       units = l.units;
       place = l.place;
       last = l.last;
       reached = rw (h.4, ← append_assoc h.0 (spaces h.2) (Semicolon ∷ (spaces h.3 ++ h.1)))
-        (chain (at units p) (at units first.place) (at l.units l.place) (h.0 ++ spaces h.2) (Semicolon ∷ (spaces h.3 ++ h.1)) first.reached separator);
+          (chain (at units p) (at units first.place) (at l.units l.place) (h.0 ++ spaces h.2) (Semicolon ∷ (spaces h.3 ++ h.1)) first.reached separator);
       unit = l.unit;
       joined = l.joined ∙ append_assoc units (u ∷ []) (v ∷ us);
     }
@@ -250,10 +252,10 @@ message-reads text (u ∷ us) last h =
     let l = units-lead [] places.Start (opens-start []) h.2 u us h.4 in
     let g = place-spaces l.units l.place l.last l.unit h.1 in
     let whole_text : fold goes (Some start) (spaces h.0 ++ (h.2 ++ spaces h.1)) ≡ at l.units g.place =
-      chain (Some start) (Some start) (at l.units g.place) (spaces h.0) (h.2 ++ spaces h.1) (spaces-stay [] places.Start refl h.0)
-        (chain (Some start) (at l.units l.place) (at l.units g.place) h.2 (spaces h.1) l.reached g.reached) in
+    chain (Some start) (Some start) (at l.units g.place) (spaces h.0) (h.2 ++ spaces h.1) (spaces-stay [] places.Start refl h.0)
+    (chain (Some start) (at l.units l.place) (at l.units g.place) h.2 (spaces h.1) l.reached g.reached) in
     rw (h.3, fold-append goes (Some start) (spaces h.0 ++ (h.2 ++ spaces h.1)) (end_text last), whole_text)
-      (ends-whole l.units g.place l.last g.unit last ∙ ap Some l.joined)
+    (ends-whole l.units g.place l.last g.unit last ∙ ap Some l.joined)
 
 pub program-reads : (bytes : List ℕ) (us : List Unit) → Program bytes us → ended (reads bytes) ≡ Some us
 program-reads bytes us h = rw (reads-kinds bytes, h.spelled) (message-reads h.text us h.ended h.message)

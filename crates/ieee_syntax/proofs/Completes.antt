@@ -100,19 +100,20 @@ mark-sign sign text value h = record {
 
 behind-space : (text : List Kind) (value : ℤ) → Behind text value → Behind (Space ∷ text) value
 behind-space text value h =
-    elim h.exponent_is
-      [ inl none ↦ record {
-          exponent = [];
-          gap = suc h.gap;
-          spelled = ap (λ t. Space ∷ t) (h.spelled ∙ ap (λ t. t ++ spaces h.gap) none.0);
-          exponent_is = inl (refl, none.1);
-        }
+    elim h.exponent_is [
+      | inl none ↦ record {
+        exponent = [];
+        gap = suc h.gap;
+        spelled = ap (λ t. Space ∷ t) (h.spelled ∙ ap (λ t. t ++ spaces h.gap) none.0);
+        exponent_is = inl (refl, none.1);
+      }
       | inr there ↦ record {
-          exponent = Space ∷ h.exponent;
-          gap = h.gap;
-          spelled = ap (λ t. Space ∷ t) h.spelled;
-          exponent_is = inr (suc there.0, there.1, ap (λ t. Space ∷ t) there.2, there.3);
-        } ]
+        exponent = Space ∷ h.exponent;
+        gap = h.gap;
+        spelled = ap (λ t. Space ∷ t) h.spelled;
+        exponent_is = inr (suc there.0, there.1, ap (λ t. Space ∷ t) there.2, there.3);
+      }
+    ]
 
 behind-mark : (text : List Kind) (value : ℤ) → BehindMark text value → Behind (Letter 69 ∷ text) value
 behind-mark text value h = record {
@@ -149,8 +150,8 @@ mantissa-end m text value n some behind means = record {
 }
 
 mantissa-digit : (negative : Bool) (before count places : ℕ) (point : Bool) (d : ℕ) (text : List Kind) (n : Nrf) → count < 32
-  → Completes (number.Mantissa (push (record { negative = negative; digits = before; count = count; places = places; point = point }) d)) text n
-  → EndsMantissa negative before count places point (Digit d ∷ text) n
+    → Completes (number.Mantissa (push (record { negative = negative; digits = before; count = count; places = places; point = point }) d)) text n
+    → EndsMantissa negative before count places point (Digit d ∷ text) n
 mantissa-digit negative before count places true d text n room h = record {
   mantissa = Digit d ∷ h.mantissa;
   whole = [];
@@ -179,7 +180,7 @@ mantissa-digit negative before count places false d text n room h = record {
 }
 
 mantissa-point : (negative : Bool) (before count places : ℕ) (text : List Kind) (n : Nrf)
-  → EndsMantissa negative before count places true text n → EndsMantissa negative before count places false (Point ∷ text) n
+    → EndsMantissa negative before count places true text n → EndsMantissa negative before count places false (Point ∷ text) n
 mantissa-point negative before count places text n h = record {
   mantissa = Point ∷ h.mantissa;
   whole = [];

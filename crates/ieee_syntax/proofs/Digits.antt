@@ -16,7 +16,6 @@ use Rattle.ieee_syntax.specs.declared.unit.Unit.{Unit}
 use Rattle.ieee_syntax.specs.Rounded.{signed}
 use Rattle.ieee_syntax.specs.Number.{spaces, digits, with_digit, decimal, Sign, unsigned, plus, minus, sign_text, is_minus, Pointed, IsMantissa, IsPower, IsExponent, IsNumber}
 use Rattle.ieee_syntax.specs.Automaton.{Scan, next, begin, value_of, in_mantissa, push, push_power, with_point, no_mantissa, no_power, number_of, power_of, step, goes}
-
 use Rattle.ieee_syntax.proofs.Options.{cond_none}
 
 -- the scanner with these units at this place
@@ -112,7 +111,7 @@ module _ (units : List Unit) (u : Unit) where
   mark-spaces m (suc gap) text = mark-spaces m gap text
 
   mark-sign : (m : Mantissa) (sign : Sign) (values : List ℕ) → 0 < length values → length values ≤ 5
-    → fold goes (in_number (number.Mark m)) (sign_text sign ++ digits values) ≡ in_number (number.Power m (powered (no_power (is_minus sign)) values))
+      → fold goes (in_number (number.Mark m)) (sign_text sign ++ digits values) ≡ in_number (number.Power m (powered (no_power (is_minus sign)) values))
   mark-sign m unsigned [] some few = absurd (omega arith)
   mark-sign m unsigned (v ∷ values) some few = power-digits m (push_power (no_power false) v) values (omega arith)
   mark-sign m plus values some few = power-digits m (no_power false) values (omega arith)
@@ -169,8 +168,8 @@ module _ (units : List Unit) (u : Unit) where
       record {
         mantissa = all;
         reached = rw e (chain (in_number (number.Mantissa none)) (in_number (number.Mantissa m)) (in_number (number.Mantissa all)) (digits whole) (Point ∷ digits fraction)
-          (mantissa-digits none whole (omega arith))
-          (ap (λ o. fold goes o (digits fraction)) (point-step m (pushed-point none whole)) ∙ mantissa-digits (with_point m) fraction (omega arith)));
+            (mantissa-digits none whole (omega arith))
+            (ap (λ o. fold goes o (digits fraction)) (point-step m (pushed-point none whole)) ∙ mantissa-digits (with_point m) fraction (omega arith)));
         some = omega (arith, pushed-count (with_point m) fraction);
         sign = pushed-negative (with_point m) fraction ∙ pushed-negative none whole;
         digits_are = pushed-digits (with_point m) fraction ∙ (ap (λ x. fold with_digit x fraction) (pushed-digits none whole) ∙ sym (fold-append with_digit 0 whole fraction));
@@ -189,8 +188,8 @@ module _ (units : List Unit) (u : Unit) where
 
   -- a mantissa and what stands behind it
   unsigned-reads : (negative : Bool) (mantissa exponent : List Kind) (whole fraction : List ℕ) (power : ℤ) (n : Nrf) → IsMantissa mantissa whole fraction → IsExponent exponent power
-    → n ≡ record { negative = negative; digits = decimal (whole ++ fraction); exponent = power -ℤ pos (length fraction) }
-    → Reads (in_number (number.Mantissa (no_mantissa negative))) (mantissa ++ exponent) n
+      → n ≡ record { negative = negative; digits = decimal (whole ++ fraction); exponent = power -ℤ pos (length fraction) }
+      → Reads (in_number (number.Mantissa (no_mantissa negative))) (mantissa ++ exponent) n
   unsigned-reads negative mantissa exponent whole fraction power n h behind means =
       let m = pointed-reads negative mantissa whole fraction h.spelled h.some h.few in
       let r = exponent-reads m.mantissa exponent power m.some behind in
@@ -206,7 +205,7 @@ module _ (units : List Unit) (u : Unit) where
   Opens p = (k : Kind) (s : Number) → begin k ≡ Some s → step units p k ≡ in_number s
 
   first-step : (p : Place) → Opens p → (mantissa rest : List Kind) (whole fraction : List ℕ) → Pointed mantissa whole fraction → 0 < length whole + length fraction
-    → fold goes (at units p) (mantissa ++ rest) ≡ fold goes (in_number (number.Mantissa (no_mantissa false))) (mantissa ++ rest)
+      → fold goes (at units p) (mantissa ++ rest) ≡ fold goes (in_number (number.Mantissa (no_mantissa false))) (mantissa ++ rest)
   first-step p opens mantissa rest [] fraction (inl e) some =
       rw e (ap (λ o. fold goes o (digits fraction ++ rest)) (opens Point (number.Mantissa (with_point (no_mantissa false))) refl))
   first-step p opens mantissa rest (d ∷ whole) fraction (inl e) some =
@@ -216,7 +215,7 @@ module _ (units : List Unit) (u : Unit) where
       rw e.0 (ap (λ o. fold goes o (digits whole ++ rest)) (opens (Digit d) (number.Mantissa (push (no_mantissa false) d)) refl))
 
   signed-reads : (p : Place) → Opens p → (sign : Sign) (mantissa exponent : List Kind) (whole fraction : List ℕ) (n : Nrf) → IsMantissa mantissa whole fraction
-    → Reads (in_number (number.Mantissa (no_mantissa (is_minus sign)))) (mantissa ++ exponent) n → Reads (at units p) (sign_text sign ++ (mantissa ++ exponent)) n
+      → Reads (in_number (number.Mantissa (no_mantissa (is_minus sign)))) (mantissa ++ exponent) n → Reads (at units p) (sign_text sign ++ (mantissa ++ exponent)) n
   signed-reads p opens unsigned mantissa exponent whole fraction n h r =
       record { state = r.state; reached = first-step p opens mantissa exponent whole fraction h.spelled h.some ∙ r.reached; value = r.value }
   signed-reads p opens plus mantissa exponent whole fraction n h r =
@@ -227,7 +226,7 @@ module _ (units : List Unit) (u : Unit) where
   pub number-reads : (p : Place) → Opens p → (text : List Kind) (n : Nrf) → IsNumber text n → Reads (at units p) text n
   number-reads p opens text n h =
       let r = signed-reads p opens h.sign h.mantissa h.exponent h.whole h.fraction n h.mantissa_is
-        (unsigned-reads (is_minus h.sign) h.mantissa h.exponent h.whole h.fraction h.power n h.mantissa_is h.exponent_is h.means) in
+      (unsigned-reads (is_minus h.sign) h.mantissa h.exponent h.whole h.fraction h.power n h.mantissa_is h.exponent_is h.means) in
       record { state = r.state; reached = rw h.spelled r.reached; value = r.value }
 
   -- white space behind a number

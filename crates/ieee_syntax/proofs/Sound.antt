@@ -28,7 +28,7 @@ pub stopped : (text : List Kind) → fold goes None text ≡ None
 stopped [] = refl
 stopped (k ∷ text) = stopped text
 
-stepped : (o : Option Scan) (text : List Kind) (all : List Unit) → ended (fold goes o text) ≡ Some all → (s : Scan) × (o ≡ Some s)
+pub stepped : (o : Option Scan) (text : List Kind) (all : List Unit) → ended (fold goes o text) ≡ Some all → (s : Scan) × (o ≡ Some s)
 stepped None text all e = let h = rw (stopped text) at e in cc
 stepped (Some s) text all e = (s, refl)
 
@@ -59,7 +59,7 @@ closed-back units all p text us e h =
     }
 
 line-back : (units : List Unit) (p : Place) (s : Scan) (text : List Kind) (us : List Unit)
-  → option_map (λ all. record { units = all; place = places.End }) (closed units p) ≡ Some s → After s.place text us → Gives units p (NewLine ∷ text) (s.units ++ us)
+    → option_map (λ all. record { units = all; place = places.End }) (closed units p) ≡ Some s → After s.place text us → Gives units p (NewLine ∷ text) (s.units ++ us)
 line-back units p s text us e h =
     let t = option_map_some {B = Scan} (λ all. record { units = all; place = places.End }) (closed units p) s e in
     let g = closed-back units t.0 p (NewLine ∷ text) us t.1 (follow-end text us (at_place (record { units = t.0; place = places.End }) s text us t.2 h)) in
@@ -81,7 +81,7 @@ end-back units places.End s text us e h = cc
 end-back units p s text us e h = line-back units p s text us e h
 
 advanced : (units : List Unit) (p : Place) (k : Kind) (s : Scan) (text : List Kind) (us : List Unit)
-  → option_map (λ q. record { units = units; place = q }) (advance p k) ≡ Some s → After s.place text us → Gives units p (k ∷ text) (s.units ++ us)
+    → option_map (λ q. record { units = units; place = q }) (advance p k) ≡ Some s → After s.place text us → Gives units p (k ∷ text) (s.units ++ us)
 advanced units p k s text us e h =
     let t = option_map_some {B = Scan} (λ q. record { units = units; place = q }) (advance p k) s e in
     record {

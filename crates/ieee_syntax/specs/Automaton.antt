@@ -19,11 +19,6 @@ use Rattle.ieee_syntax.specs.Kind.{kind_of}
 use Rattle.ieee_syntax.specs.Rounded.{signed}
 use Rattle.ieee_syntax.specs.Number.{with_digit}
 
--- a digit has a value below ten
-abbrev pub IsSmall : Kind → Type 0
-IsSmall (Digit value) = value < 10
-IsSmall _ = ⊤
-
 -- no digits yet
 abbrev pub no_mantissa : Bool → Mantissa
 no_mantissa negative = record { negative = negative; digits = 0; count = 0; places = 0; point = false }

@@ -1,5 +1,5 @@
 -- bytes as the grammar sees them
-use Rattle.std.specs.Prelude.{ℕ, ◌-◌, if◌then◌else◌, ◌==◌, nat_le, ◌&&◌, List, map}
+use Rattle.std.specs.Prelude.{ℕ, ◌-◌, ◌<◌, ⊤, if◌then◌else◌, ◌==◌, nat_le, ◌&&◌, List, map}
 use Rattle.ieee_syntax.specs.declared.kind.Kind.{Kind}
 use Rattle.ieee_syntax.specs.declared.kind.Kind.TheVariants.{Space, NewLine, Digit, Letter, Underscore, Star, Question, Comma, Semicolon, Plus, Minus, Point, Other}
 
@@ -22,3 +22,8 @@ kind_of b =
 
 abbrev pub kinds : List ℕ → List Kind
 kinds bytes = map kind_of bytes
+
+-- a digit has a value below ten
+abbrev pub IsSmall : Kind → Type 0
+IsSmall (Digit value) = value < 10
+IsSmall _ = ⊤

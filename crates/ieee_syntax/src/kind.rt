@@ -1,5 +1,5 @@
 ghost use Rattle.std.specs.Prelude.{◌≡◌};
-ghost use Rattle.ieee_syntax.specs.Kind.{kind_of};
+ghost use Rattle.ieee_syntax.specs.Kind.{kind_of, IsSmall};
 
 /// What the grammar sees of a byte.
 #[derive(Clone, Copy)]
@@ -27,7 +27,8 @@ impl Kind {
     /// The kind of a byte.
     #[tactic(auto, unfolding(crate::specs::Kind::kind_of))]
     pub(crate) fn of(byte: u8) -> Kind
-        ensures { result ≡ kind_of byte }
+        ensures value { result ≡ kind_of byte }
+        ensures small { IsSmall result }
     {
         match byte {
             b'\n' => Kind::NewLine,

@@ -1,6 +1,7 @@
 ghost use Rattle.std.specs.Prelude.{◌≡◌, ◌<◌, ◌≤◌, IfSome, pos, ◌≤ℤ◌};
 ghost use Rattle.std.specs.Prelude.{unsigned_abs};
-ghost use Rattle.ieee_syntax.specs.Automaton.{IsSmall, MantissaFits, PowerFits, NumberFits, no_mantissa, no_power, push, push_power, with_point, number_of, power_of, begin, next, in_mantissa, behind_mantissa, behind_mark, in_power, behind_power, value_of};
+ghost use Rattle.ieee_syntax.specs.Kind.{IsSmall};
+ghost use Rattle.ieee_syntax.specs.Automaton.{MantissaFits, PowerFits, NumberFits, no_mantissa, no_power, push, push_power, with_point, number_of, power_of, begin, next, in_mantissa, behind_mantissa, behind_mark, in_power, behind_power, value_of};
 
 use crate::Nrf;
 use crate::kind::Kind;
