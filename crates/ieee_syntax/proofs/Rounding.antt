@@ -1,11 +1,11 @@
 -- what the quotient and the rest say of the nearest whole number
 use Rattle.std.proofs.Common.{◌≡◌, ℕ, suc, ◌+◌, ◌-◌, ◌*◌, ◌/◌, ◌%◌, ◌^◌, ◌<◌, ◌≤◌, min, refl, sym, ap, ◌∙◌, ℤ, pos, negsuc, ◌<ℤ◌, ◌≤ℤ◌, arith, add-one, Bool}
 use Rattle.std.specs.Prelude.{unsigned_abs}
-use Rattle.std.proofs.Math.Nat.{div-eq_of_lt-le, div-mul-le_self, mul-le-mul_right, mul-le-mul_left, pow-le-pow_right, one-le-pow, min-eq_left, min-eq_right}
+use Rattle.std.proofs.Math.Nat.{div-eq_of_lt-le, div-mul-le_self, lt-mul-div-succ, mul-le-mul_right, mul-le-mul_left, pow-le-pow_right, one-le-pow, min-eq_left, min-eq_right}
 use Rattle.std.proofs.lemmas.Nat.{le-div, div-add-mod'}
 use Rattle.std.proofs.lemmas.Int.{ints}
 use Rattle.ieee_syntax.specs.declared.nrf.Nrf.{Nrf}
-use Rattle.ieee_syntax.specs.Rounded.{numerator, denominator, nearest, clamped, signed, rounded}
+use Rattle.ieee_syntax.specs.Rounded.{numerator, denominator, nearest, clamped, signed, rounded, IsNearest, Rounds}
 
 nearest_is : (a b r : ℕ) → r * (2 * b) ≤ 2 * a + b → 2 * a + b < (r + 1) * (2 * b) → nearest a b ≡ r
 nearest_is a b r low high = div-eq_of_lt-le (2 * b) low high
@@ -75,3 +75,21 @@ pow-some places = one-le-pow places 10 (omega arith)
 pub rounded_from : (n : Nrf) (magnitude : ℕ) (negative : Bool) → magnitude ≡ clamped (numerator n.digits n.exponent) (denominator n.exponent) → n.negative ≡ negative → signed negative magnitude ≡ rounded n
 unfolding rounded
 rounded_from n magnitude negative value sign = rw (value, ← sign) refl
+
+-- the quotient is within a half
+denominator-some : (e : ℤ) → 0 < denominator e
+denominator-some (pos n) = omega arith
+denominator-some (negsuc n) = pow-some (n + 1)
+
+nearest-near : (a b : ℕ) → 0 < b → IsNearest a b (nearest a b)
+nearest-near a b some =
+    let twice : 0 < 2 * b = omega arith in
+    record { low = omega (arith, div-mul-le_self (2 * a + b) (2 * b)); high = omega (arith, lt-mul-div-succ (2 * a + b) twice) }
+
+pub Rounds-rounded : (n : Nrf) → Rounds n (rounded n)
+unfolding rounded
+Rounds-rounded n = record {
+  whole = nearest (numerator n.digits n.exponent) (denominator n.exponent);
+  near = nearest-near (numerator n.digits n.exponent) (denominator n.exponent) (denominator-some n.exponent);
+  means = refl;
+}

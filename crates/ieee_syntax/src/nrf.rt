@@ -1,5 +1,5 @@
 ghost use Rattle.std.specs.Prelude.{◌≡◌, ◌*◌, ◌^◌, ◌≤◌};
-ghost use Rattle.ieee_syntax.specs.Rounded.{rounded, clamped, numerator, denominator};
+ghost use Rattle.ieee_syntax.specs.Rounded.{rounded, Rounds, clamped, numerator, denominator};
 
 /// The greatest magnitude that rounding answers.
 const LIMIT: u128 = 1_000_000;
@@ -22,7 +22,8 @@ pub struct Nrf {
 impl Nrf {
     /// The value rounded half away from zero, and clamped to -1,000,000 to 1,000,000. It takes no memory.
     pub fn rounded(&self) -> i64
-        ensures { result ≡ rounded self.now }
+        ensures value { result ≡ rounded self.now }
+        ensures nearest { Rounds self.now result }
     {
         let magnitude = i64::from(magnitude(self.digits, self.exponent));
         if self.negative { -magnitude } else { magnitude }
