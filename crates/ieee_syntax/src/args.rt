@@ -4,7 +4,7 @@ use crate::Nrf;
 use std::alloc::{AllocFailed, Global};
 use std::marker::Model;
 
-/// The numbers of a unit, in order. Contracts see them as a list.
+/// The numbers of a unit in order, `<PROGRAM DATA>` of IEEE 488.2, 7.7. Contracts see them as a list.
 #[derive(Debug, Drop)]
 pub struct Args {
     items: Vec<Nrf>,
@@ -29,6 +29,7 @@ impl Args {
         }
     }
 
+    /// One more number at the end. For want of memory the number comes back.
     pub(crate) fn push(&mut self, number: Nrf) -> Result<(), AllocFailed<Nrf>>
         ensures { MatchResult result (λ _. self.new ≡ self.old ++ number ∷ []) (λ _. self.new ≡ self.old) }
     {
@@ -42,6 +43,7 @@ impl Args {
         self.items
     }
 
+    /// The numbers as a slice.
     pub fn as_slice(&self) -> &[Nrf]
         ensures { result.now ≡ self.now }
     {

@@ -23,3 +23,6 @@ pub use laws::{one_fault, one_reading};
 pub use nrf::Nrf;
 pub use scan::units;
 pub use unit::Unit;
+
+#[cfg(test)]
+mod tests;

@@ -11,16 +11,21 @@ const GREATEST_POWER: u32 = 38;
 ///
 /// Its value is `digits`, negated where `negative`, times ten to the power of `exponent`. The digits before
 /// and behind the point stand together in `digits`, so `exponent` is the one that was written, less the
-/// number of digits behind the point: `-1.25E3` has the digits 125 and the exponent 1.
+/// number of digits behind the point: `-1.25E3` has the digits 125 and the exponent 1. What `units` answers has
+/// at most 32 digits, and an exponent from -100,031 to 99,999.
 #[derive(Clone, Copy, Debug, PartialEq, Eq)]
 pub struct Nrf {
+    /// Whether a `-` stands before the digits.
     pub negative: bool,
+    /// The digits as one whole number.
     pub digits: u128,
+    /// The power of ten that the digits are multiplied by.
     pub exponent: i32,
 }
 
 impl Nrf {
-    /// The value rounded half away from zero, and clamped to -1,000,000 to 1,000,000. It takes no memory.
+    /// The value rounded half away from zero, and clamped to -1,000,000 to 1,000,000. It is exact at every
+    /// number, and takes no memory.
     pub fn rounded(&self) -> i64
         ensures value { result ≡ rounded self.now }
         ensures nearest { Rounds self.now result }

@@ -3,9 +3,10 @@ ghost use Rattle.ieee_syntax.specs.declared.place.Place.TheVariants as places;
 ghost use Rattle.ieee_syntax.specs.Kind.{IsSmall};
 ghost use Rattle.ieee_syntax.specs.Automaton.{NumberFits, PlaceFits, Gives, named, given, first_of, most_of, whole, at_unit, behind_star, longer, in_head, behind_query, at_number, in_number, advance, begin, fault_at};
 
+use crate::head::{HEAD_MOST, NAME_MOST};
 use crate::kind::Kind;
 use crate::number::Number;
-use crate::{Args, Head, SyntaxFault, Unit};
+use crate::{Args, Head, Nrf, SyntaxFault, Unit};
 use std::alloc::{AllocFailed, Global};
 
 /// Where the bytes so far stand in the grammar, with the unit that has begun.
@@ -116,15 +117,17 @@ impl Unit {
         }
     }
 
+    /// The unit with one more byte in its head.
     fn named(mut self, byte: u8) -> Unit
-        requires { length self.head < 13 }
+        requires { length self.head < HEAD_MOST }
         ensures { result ≡ named self byte }
     {
         self.head.push(byte);
         self
     }
 
-    fn given(mut self, number: crate::Nrf) -> Result<Unit, Refusal>
+    /// The unit with one more number.
+    fn given(mut self, number: Nrf) -> Result<Unit, Refusal>
         ensures { Gives result (Some (given self number)) }
     {
         self.args.push(number)?;
@@ -146,6 +149,7 @@ fn at_unit(alloc: Global, place: Place, kind: Kind) -> Result<Place, Refusal>
     }
 }
 
+/// Only a letter stands behind a `*`.
 fn behind_star(alloc: Global, kind: Kind) -> Result<Place, Refusal>
     ensures value { Gives result (behind_star kind) }
     ensures fits { IfOk result PlaceFits }
@@ -156,6 +160,7 @@ fn behind_star(alloc: Global, kind: Kind) -> Result<Place, Refusal>
     }
 }
 
+/// In a head, or at the byte that ends it.
 fn in_head(mut unit: Unit, starred: bool, kind: Kind) -> Result<Place, Refusal>
     requires { IsSmall kind }
     ensures value { Gives result (in_head unit starred kind) }
@@ -179,7 +184,7 @@ fn longer(unit: Unit, starred: bool, byte: u8) -> Result<Place, Refusal>
     ensures value { Gives result (longer unit starred byte) }
     ensures fits { IfOk result PlaceFits }
 {
-    let most = if starred { 13 } else { 12 };
+    let most = if starred { HEAD_MOST } else { NAME_MOST };
     if unit.head.len() < most {
         Ok(Place::Head(unit.named(byte), starred))
     } else {
@@ -187,6 +192,7 @@ fn longer(unit: Unit, starred: bool, byte: u8) -> Result<Place, Refusal>
     }
 }
 
+/// Only white space stands between a `?` and a number.
 fn behind_query(unit: Unit, kind: Kind) -> Result<Place, Refusal>
     ensures value { Gives result (behind_query unit kind) }
     ensures fits { IfOk result PlaceFits }
@@ -197,6 +203,7 @@ fn behind_query(unit: Unit, kind: Kind) -> Result<Place, Refusal>
     }
 }
 
+/// White space behind a head, or the first byte of a number.
 fn behind_head(unit: Unit, kind: Kind) -> Result<Place, Refusal>
     requires { IsSmall kind }
     ensures value { Gives result (at_number (places.Gap unit) unit kind) }
@@ -208,6 +215,7 @@ fn behind_head(unit: Unit, kind: Kind) -> Result<Place, Refusal>
     }
 }
 
+/// White space behind a `,`, or the first byte of a number.
 fn behind_comma(unit: Unit, kind: Kind) -> Result<Place, Refusal>
     requires { IsSmall kind }
     ensures value { Gives result (at_number (places.Comma unit) unit kind) }
@@ -219,6 +227,7 @@ fn behind_comma(unit: Unit, kind: Kind) -> Result<Place, Refusal>
     }
 }
 
+/// The first byte of a number.
 fn number_begins(unit: Unit, kind: Kind) -> Result<Place, Refusal>
     requires { IsSmall kind }
     ensures value { Gives result (option_map (places.Number unit) (begin kind)) }
@@ -230,6 +239,7 @@ fn number_begins(unit: Unit, kind: Kind) -> Result<Place, Refusal>
     }
 }
 
+/// In a number, or at the `,` behind it.
 fn in_number(unit: Unit, number: Number, kind: Kind) -> Result<Place, Refusal>
     requires small { IsSmall kind }
     requires fits { NumberFits number }

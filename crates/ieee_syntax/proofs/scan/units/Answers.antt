@@ -7,7 +7,7 @@ use Rattle.ieee_syntax.proofs.scan.units.Goals as goal
 pub returns-in-Err-clause-answers : goal.returns-in-Err-clause-answers
 returns-in-Err-clause-answers c =
     refused c.args.message.now c.loop-at.at c.loop-at.units.items c.loop-at.place c.loop-at.invariant c.of.result c.of.ensures.value c.loop-at-test.true
-      c.in-Err.refusal _ c.at.result c.in-Err.ensures.value c.at.ensures
+    c.in-Err.refusal _ c.at.result c.in-Err.ensures.value c.at.ensures
 
 pub returns-in-Err-clause-every_message : goal.returns-in-Err-clause-every_message
 returns-in-Err-clause-every_message c = λ us p. answers-units c.args.message.now (Err c.at.result) us (returns-in-Err-clause-answers c) p
