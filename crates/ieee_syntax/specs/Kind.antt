@@ -1,9 +1,9 @@
--- bytes as the grammar sees them
+-- bytes as the grammar of IEEE 488.2 sees them
 use Rattle.std.specs.Prelude.{ℕ, ◌-◌, ◌<◌, ⊤, if◌then◌else◌, ◌==◌, nat_le, ◌&&◌, List, map}
 use Rattle.ieee_syntax.specs.declared.kind.Kind.{Kind}
 use Rattle.ieee_syntax.specs.declared.kind.Kind.TheVariants.{Space, NewLine, Digit, Letter, Underscore, Star, Question, Comma, Semicolon, Plus, Minus, Point, Other}
 
--- the marks that stand for themselves (IEEE 488.2, 7.4 to 7.7)
+-- the marks that stand for themselves (7.4 to 7.7): _ * ? , ; + - .
 abbrev pub mark_of : ℕ → Kind
 mark_of b =
     if b == 95 then Underscore else if b == 42 then Star else if b == 63 then Question

@@ -10,7 +10,7 @@ abbrev pub spaces : ℕ → List Kind
 spaces zero = []
 spaces (suc n) = Space ∷ spaces n
 
--- digits, and the number that they spell
+-- digits by their values, which are below ten in what a byte can be, and the number that they spell
 abbrev pub digits : List ℕ → List Kind
 digits values = map Digit values
 
@@ -36,12 +36,13 @@ is_minus unsigned = false
 is_minus plus = false
 is_minus minus = true
 
--- digits, and a point behind or among them or none
+-- the digits before the point, and then the point and the digits behind it, or neither
 abbrev pub Pointed : List Kind → List ℕ → List ℕ → Type 0
 Pointed text whole fraction =
     (text ≡ digits whole ++ Point ∷ digits fraction) ⊎ ((text ≡ digits whole) × (fraction ≡ []))
 
--- mantissa = digit+ [ "." digit* ] | "." digit+, of at most 32 digits
+-- mantissa = digit+ [ "." digit* ] | "." digit+: so one digit at least, before the point or behind it; and at
+-- most 32 of them
 pub record IsMantissa (text : List Kind) (whole fraction : List ℕ) : Type 0 where
   pub spelled : Pointed text whole fraction
   pub some : 0 < length whole + length fraction
@@ -57,13 +58,14 @@ pub record IsPower (text : List Kind) (value : ℤ) : Type 0 where
   pub few : length values ≤ 5
   pub means : value ≡ signed (is_minus sign) (decimal values)
 
--- [ ws* ( "E" | "e" ) ws* [ sign ] digit+ ]
+-- exponent = ws* ( "E" | "e" ) ws* [ sign ] digit+, or nothing, which stands for 0; an "E" is 69
 abbrev pub IsExponent : List Kind → ℤ → Type 0
 IsExponent text value =
     ((text ≡ []) × (value ≡ pos 0))
     ⊎ ((gap : ℕ) × (power : List Kind) × (text ≡ spaces gap ++ Letter 69 ∷ power) × IsPower power value)
 
--- number = [ sign ] mantissa [ exponent ]
+-- number = [ sign ] mantissa [ exponent ]. All digits stand together in the number's digits, so its exponent is
+-- the one that was written, less the number of digits behind the point.
 pub record IsNumber (text : List Kind) (number : Nrf) : Type 0 where
   pub sign : Sign
   pub mantissa : List Kind

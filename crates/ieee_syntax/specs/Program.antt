@@ -7,7 +7,7 @@ use Rattle.ieee_syntax.specs.declared.unit.Unit.{Unit}
 use Rattle.ieee_syntax.specs.Kind.{kinds}
 use Rattle.ieee_syntax.specs.Number.{spaces, IsNumber}
 
--- letter | digit | "_", as what is read and as what the name has
+-- letter | digit | "_": what is read, and what the name has, in upper case
 pub data NameByte : Type 0 where
   letter : ℕ → NameByte
   digit : ℕ → NameByte
@@ -23,7 +23,7 @@ byte_in (letter code) = code
 byte_in (digit value) = value + 48
 byte_in underscore = 95
 
--- [ "*" ], as what is read and as what the name has
+-- [ "*" ]: what is read, and what the name has
 abbrev pub star_text : Bool → List Kind
 star_text true = Star ∷ []
 star_text false = []
@@ -41,7 +41,7 @@ pub record IsHead (text : List Kind) (name : List ℕ) : Type 0 where
   pub few : length more < 12
   pub named : name ≡ star_name star ++ first ∷ map byte_in more
 
--- item ( ws* separator ws* item )*
+-- item ( ws* separator ws* item )*, where a separator is ";" between units (7.4.1) and "," between numbers (7.4.2)
 abbrev pub Separated : {A : Type 0} → Kind → (List Kind → A → Type 0) → List Kind → List A → Type 0
 Separated separator Item text [] = ⊥
 Separated separator Item text (x ∷ []) = Item text x
@@ -50,18 +50,18 @@ Separated separator Item text (x ∷ y ∷ ys) =
     × (text ≡ item ++ (spaces before ++ (separator ∷ (spaces behind ++ rest))))
     × Item item x × Separated separator Item rest (y ∷ ys)
 
--- [ ws+ number ( ws* "," ws* number )* ]
+-- data = [ ws+ number ( ws* "," ws* number )* ] (7.4.3, 7.7)
 abbrev pub IsData : List Kind → List Nrf → Type 0
 IsData text [] = text ≡ []
 IsData text (n ∷ ns) =
     (gap : ℕ) × (numbers : List Kind) × (0 < gap) × (text ≡ spaces gap ++ numbers) × Separated Comma IsNumber numbers (n ∷ ns)
 
--- [ "?" ]
+-- [ "?" ], which makes a query of a head (7.6.2)
 abbrev pub query_text : Bool → List Kind
 query_text true = Question ∷ []
 query_text false = []
 
--- unit = head [ "?" ] [ data ] (7.3.2)
+-- unit = head [ "?" ] data (7.3)
 pub record IsUnit (text : List Kind) (unit : Unit) : Type 0 where
   pub head : List Kind
   pub numbers : List Kind
@@ -81,7 +81,7 @@ abbrev pub end_text : Bool → List Kind
 end_text true = NewLine ∷ []
 end_text false = []
 
--- the bytes are a message of these units
+-- the bytes are a message of these units, and an NL or none
 pub record Program (bytes : List ℕ) (units : List Unit) : Type 0 where
   pub text : List Kind
   pub ended : Bool

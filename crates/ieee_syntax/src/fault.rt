@@ -1,6 +1,3 @@
-ghost use Rattle.std.specs.Prelude.{◌≡◌};
-
-use std::alloc::{AllocError, AllocFailed};
 use thiserror::Error;
 
 /// Why bytes gave no units.
@@ -13,24 +10,4 @@ pub enum SyntaxFault {
     /// Want of memory.
     #[error("out of memory; free some and try again")]
     Memory,
-}
-
-impl From<AllocError> for SyntaxFault {
-    ghost use Rattle.ieee_syntax.specs.declared.fault.SyntaxFault.TheVariants.{Memory};
-
-    ghost from_gives = { λ _ e. e ≡ Memory };
-
-    fn from(_error: AllocError) -> SyntaxFault {
-        SyntaxFault::Memory
-    }
-}
-
-impl<T: Drop> From<AllocFailed<T>> for SyntaxFault {
-    ghost use Rattle.ieee_syntax.specs.declared.fault.SyntaxFault.TheVariants.{Memory};
-
-    ghost from_gives = { λ _ e. e ≡ Memory };
-
-    fn from(_error: AllocFailed<T>) -> SyntaxFault {
-        SyntaxFault::Memory
-    }
 }

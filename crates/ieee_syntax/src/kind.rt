@@ -7,9 +7,9 @@ pub(crate) enum Kind {
     /// White space.
     Space,
     NewLine,
-    /// A digit, by its value.
+    /// A digit, by its value from 0 to 9.
     Digit(u8),
-    /// A letter, as upper case.
+    /// A letter, by its byte in upper case.
     Letter(u8),
     Underscore,
     Star,

@@ -1,5 +1,4 @@
-ghost use Rattle.std.specs.Prelude.{◌≡◌, ◌<◌, ◌≤◌, IfSome, pos, ◌≤ℤ◌};
-ghost use Rattle.std.specs.Prelude.{unsigned_abs};
+ghost use Rattle.std.specs.Prelude.{◌≡◌, ◌<◌, IfSome, unsigned_abs};
 ghost use Rattle.ieee_syntax.specs.Kind.{IsSmall};
 ghost use Rattle.ieee_syntax.specs.Automaton.{MantissaFits, PowerFits, NumberFits, no_mantissa, no_power, push, push_power, with_point, number_of, power_of, begin, next, in_mantissa, behind_mantissa, behind_mark, in_power, behind_power, value_of};
 
@@ -17,9 +16,11 @@ const EXPONENT_MOST: u8 = 5;
 pub(crate) struct Mantissa {
     negative: bool,
     digits: u128,
+    /// How many digits there are.
     count: u8,
     /// How many of the digits stand behind the point.
     places: u8,
+    /// Whether the point has come.
     point: bool,
 }
 
@@ -28,6 +29,7 @@ pub(crate) struct Mantissa {
 pub(crate) struct Power {
     negative: bool,
     value: u32,
+    /// How many digits there are.
     count: u8,
 }
 
@@ -71,7 +73,7 @@ impl Number {
         match self {
             Number::Mantissa(mantissa) => mantissa.next(kind),
             Number::Gap(mantissa) => mantissa.next_behind(kind),
-            Number::Mark(mantissa) => mantissa.next_in_exponent(kind),
+            Number::Mark(mantissa) => mantissa.next_behind_mark(kind),
             Number::Power(mantissa, power) => power.next(mantissa, kind),
             Number::PowerGap(mantissa, power) => power.next_behind(mantissa, kind),
         }
@@ -105,6 +107,7 @@ impl Number {
 }
 
 impl Mantissa {
+    /// No digits yet.
     fn new(negative: bool) -> Mantissa
         ensures value { result ≡ no_mantissa negative }
         ensures fits { MantissaFits result }
@@ -118,6 +121,7 @@ impl Mantissa {
         }
     }
 
+    /// The mantissa with one more digit.
     fn with_digit(self, digit: u8) -> Mantissa
         requires digit { digit < 10 }
         requires room { self.count < 32 }
@@ -138,6 +142,7 @@ impl Mantissa {
         }
     }
 
+    /// The mantissa with its point.
     fn with_point(self) -> Mantissa
         requires { MantissaFits self }
         ensures value { result ≡ with_point self }
@@ -149,6 +154,7 @@ impl Mantissa {
         }
     }
 
+    /// A digit, the point where it has not come, or what stands behind a mantissa that has a digit.
     fn next(self, kind: Kind) -> Option<Number>
         requires small { IsSmall kind }
         requires fits { MantissaFits self }
@@ -180,6 +186,7 @@ impl Mantissa {
         }
     }
 
+    /// White space or an `E`.
     fn next_behind(self, kind: Kind) -> Option<Number>
         requires { MantissaFits self }
         ensures value { result ≡ behind_mantissa self kind }
@@ -192,7 +199,8 @@ impl Mantissa {
         }
     }
 
-    fn next_in_exponent(self, kind: Kind) -> Option<Number>
+    /// White space, a sign or the first digit of the exponent.
+    fn next_behind_mark(self, kind: Kind) -> Option<Number>
         requires small { IsSmall kind }
         requires fits { MantissaFits self }
         ensures value { result ≡ behind_mark self kind }
@@ -222,6 +230,7 @@ impl Mantissa {
 }
 
 impl Power {
+    /// No digits yet.
     fn new(negative: bool) -> Power
         ensures value { result ≡ no_power negative }
         ensures fits { PowerFits result }
@@ -233,6 +242,7 @@ impl Power {
         }
     }
 
+    /// The exponent with one more digit.
     fn with_digit(self, digit: u8) -> Power
         requires digit { digit < 10 }
         requires room { self.count < 5 }
@@ -247,6 +257,7 @@ impl Power {
         }
     }
 
+    /// A digit, or white space behind one.
     fn next(self, mantissa: Mantissa, kind: Kind) -> Option<Number>
         requires small { IsSmall kind }
         requires mantissa { MantissaFits mantissa }
@@ -273,6 +284,7 @@ impl Power {
         }
     }
 
+    /// White space.
     fn next_behind(self, mantissa: Mantissa, kind: Kind) -> Option<Number>
         requires mantissa { MantissaFits mantissa }
         requires power { PowerFits self }

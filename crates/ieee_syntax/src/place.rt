@@ -1,7 +1,7 @@
-ghost use Rattle.std.specs.Prelude.{◌≡◌, ◌++◌, ◌∷◌, [], ◌<◌, length, IfOk, IfSome, Some, option_map};
+ghost use Rattle.std.specs.Prelude.{◌≡◌, ◌∷◌, [], ◌<◌, length, IfOk, Some, option_map};
 ghost use Rattle.ieee_syntax.specs.declared.place.Place.TheVariants as places;
 ghost use Rattle.ieee_syntax.specs.Kind.{IsSmall};
-ghost use Rattle.ieee_syntax.specs.Automaton.{NumberFits, PlaceFits, Gives, named, given, first_of, most_of, whole, at_unit, behind_star, longer, in_head, behind_query, at_number, in_number, advance, begin, fault_at};
+ghost use Rattle.ieee_syntax.specs.Automaton.{NumberFits, PlaceFits, Gives, named, given, first_of, whole, at_unit, behind_star, longer, in_head, behind_query, at_number, in_number, advance, begin, fault_at};
 
 use crate::head::{HEAD_MOST, NAME_MOST};
 use crate::kind::Kind;

@@ -1,6 +1,6 @@
 ghost use Rattle.std.specs.Prelude.{ℕ, ◌<◌, ◌^◌, List, length, IfOk};
 ghost use Rattle.ieee_syntax.specs.Kind.{IsSmall};
-ghost use Rattle.ieee_syntax.specs.Automaton.{PlaceFits, Gives, Steps, Finishes, step, finish, closed, end_line};
+ghost use Rattle.ieee_syntax.specs.Automaton.{PlaceFits, Steps, Finishes, step, finish, closed, end_line};
 ghost use Rattle.ieee_syntax.specs.Program.{Program, FaultAt};
 ghost use Rattle.ieee_syntax.specs.Answers.{Answers, AnswersUnits, AnswersFault};
 ghost use Rattle.ieee_syntax.specs.declared.unit.Unit.{Unit};
