@@ -1,21 +1,20 @@
 -- what stands behind a place, from what stands behind the next
-use Rattle.std.proofs.Common.{◌≡◌, ◌⊎◌, inl, inr, ℕ, suc, zero, ◌+◌, ◌-◌, ◌<◌, ◌≤◌, Bool, true, false, List, [], ◌∷◌, ◌++◌, length, Option, Some, None, refl, sym, ap, ◌∙◌, subst, append_assoc, append-nil, length-append, arith, cond, nat_lt}
+use Rattle.std.proofs.Common.{◌≡◌, inl, inr, ℕ, suc, ◌-◌, ◌<◌, ◌≤◌, Bool, true, false, List, [], ◌∷◌, ◌++◌, length, Some, refl, sym, ap, ◌∙◌, subst, append_assoc, append-nil, length-append, arith, nat_lt}
 use Rattle.std.specs.Prelude.{map, option_map, ◌||◌}
 use Rattle.std.proofs.lemmas.Option.{same_Some, cond_some}
 use Rattle.std.proofs.lemmas.Bool.Decides.{nat_tests}
 use Rattle.ieee_syntax.specs.declared.kind.Kind.{Kind}
-use Rattle.ieee_syntax.specs.declared.kind.Kind.TheVariants.{Space, NewLine, Digit, Letter, Underscore, Star, Question, Comma, Semicolon, Plus, Minus, Point, Other}
+use Rattle.ieee_syntax.specs.declared.kind.Kind.TheVariants.{Space, Digit, Letter, Underscore, Star, Question, Comma}
 use Rattle.ieee_syntax.specs.declared.nrf.Nrf.{Nrf}
 use Rattle.ieee_syntax.specs.declared.number.Number.{Number}
 use Rattle.ieee_syntax.specs.declared.place.Place.{Place}
 use Rattle.ieee_syntax.specs.declared.place.Place.TheVariants as places
 use Rattle.ieee_syntax.specs.declared.unit.Unit.{Unit}
-use Rattle.ieee_syntax.specs.Number.{spaces, IsNumber}
-use Rattle.ieee_syntax.specs.Program.{NameByte, letter, digit, underscore, kind_in, byte_in, star_text, star_name, IsHead, Separated, IsData, query_text, IsUnit, end_text}
+use Rattle.ieee_syntax.specs.Program.{NameByte, letter, digit, underscore, kind_in, byte_in, star_text, star_name, IsData, query_text}
 use Rattle.ieee_syntax.specs.Automaton.{next, begin, value_of, named, given, first_of, most_of, whole, at_unit, behind_star, longer, in_head, behind_query, at_number, in_number, advance}
 use Rattle.ieee_syntax.proofs.Options.{option_map_some}
 use Rattle.ieee_syntax.proofs.Completes.{completes-end}
-use Rattle.ieee_syntax.proofs.Follows.{After, AtStart, AtEnd, OnUnit, on_unit, Follow, Before, Parts, Spaced, StarThen, HeadThen, QueryThen, GapThen, CommaThen, NumberIn, joined, follow-space, parts-from, listed-begin, number-next, given-none, given-gap, head-ends}
+use Rattle.ieee_syntax.proofs.Follows.{After, AtStart, OnUnit, on_unit, Follow, Before, Spaced, StarThen, HeadThen, QueryThen, GapThen, CommaThen, NumberIn, follow-space, parts-from, listed-begin, number-next, given-none, given-gap, head-ends}
 
 into : (p q : Place) (text : List Kind) (us : List Unit) → Some p ≡ Some q → After q text us → After p text us
 into p q text us e h = subst (λ (x : Place). After x text us) (sym (same_Some p q e)) h

@@ -1,20 +1,18 @@
 -- a message of the grammar is taken by the scanner, which gives its units
-use Rattle.std.proofs.Common.{◌≡◌, ◌⊎◌, inl, inr, ℕ, suc, zero, ◌+◌, ◌-◌, ◌<◌, ◌≤◌, Bool, true, false, List, [], ◌∷◌, ◌++◌, length, fold, map, cond, nat_lt, Option, Some, None, refl, sym, ap, ◌∙◌, subst, append_assoc, append-nil, length-append, arith}
+use Rattle.std.proofs.Common.{◌≡◌, ℕ, suc, zero, ◌+◌, ◌<◌, ◌≤◌, Bool, true, false, List, [], ◌∷◌, ◌++◌, length, fold, map, nat_lt, Option, Some, refl, sym, ap, ◌∙◌, append_assoc, append-nil, length-append, arith}
 use Rattle.std.specs.Prelude.{option_map}
-use Rattle.std.proofs.lemmas.Option.{same_Some}
 use Rattle.std.proofs.lemmas.Bool.Decides.{nat_tests}
 use Rattle.std.proofs.lemmas.List.Sums.{fold-append}
 use Rattle.ieee_syntax.specs.declared.kind.Kind.{Kind}
-use Rattle.ieee_syntax.specs.declared.kind.Kind.TheVariants.{Space, NewLine, Digit, Letter, Underscore, Star, Question, Comma, Semicolon, Plus, Minus, Point, Other}
+use Rattle.ieee_syntax.specs.declared.kind.Kind.TheVariants.{Space, NewLine, Letter, Star, Comma, Semicolon}
 use Rattle.ieee_syntax.specs.declared.nrf.Nrf.{Nrf}
 use Rattle.ieee_syntax.specs.declared.number.Number.{Number}
 use Rattle.ieee_syntax.specs.declared.place.Place.{Place}
 use Rattle.ieee_syntax.specs.declared.place.Place.TheVariants as places
 use Rattle.ieee_syntax.specs.declared.unit.Unit.{Unit}
-use Rattle.ieee_syntax.specs.Kind.{kinds}
 use Rattle.ieee_syntax.specs.Number.{spaces, IsNumber}
 use Rattle.ieee_syntax.specs.Program.{NameByte, letter, digit, underscore, kind_in, byte_in, star_text, star_name, IsHead, Separated, IsData, query_text, IsUnit, IsMessage, end_text, Program}
-use Rattle.ieee_syntax.specs.Automaton.{Scan, start, begin, value_of, named, given, first_of, most_of, whole, closed, finish, end_line, step, goes, reads}
+use Rattle.ieee_syntax.specs.Automaton.{Scan, start, value_of, named, given, first_of, most_of, whole, finish, step, goes, reads}
 use Rattle.ieee_syntax.proofs.Options.{option_map_some}
 use Rattle.ieee_syntax.proofs.Sound.{ended, reads-kinds}
 use Rattle.ieee_syntax.proofs.Digits.{at, chain, Opens, Reads, number-reads, number-space}

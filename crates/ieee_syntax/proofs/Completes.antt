@@ -1,17 +1,17 @@
 -- what completes a number that has come so far
-use Rattle.std.proofs.Common.{◌≡◌, ◌⊎◌, inl, inr, ℕ, suc, zero, ◌+◌, ◌-◌, ◌<◌, ◌≤◌, ℤ, pos, ◌-ℤ◌, Bool, true, false, List, [], ◌∷◌, ◌++◌, length, fold, Option, Some, None, refl, sym, ap, ◌∙◌, subst, append_assoc, arith, eqb, cond, nat_lt, add-zero, zero-add, add-one, add-suc}
+use Rattle.std.proofs.Common.{◌≡◌, inl, inr, ℕ, suc, ◌+◌, ◌-◌, ◌<◌, ◌≤◌, ℤ, pos, ◌-ℤ◌, Bool, true, false, List, [], ◌∷◌, ◌++◌, length, fold, Some, None, refl, sym, ap, ◌∙◌, subst, append_assoc, arith, eqb, cond, nat_lt, add-zero, zero-add}
 use Rattle.std.proofs.lemmas.Option.{same_Some, cond_some}
 use Rattle.std.proofs.lemmas.Bool.Decides.{nat_tests}
 use Rattle.std.proofs.lemmas.List.Sums.{fold-append}
 use Rattle.ieee_syntax.specs.declared.kind.Kind.{Kind}
-use Rattle.ieee_syntax.specs.declared.kind.Kind.TheVariants.{Space, NewLine, Digit, Letter, Underscore, Star, Question, Comma, Semicolon, Plus, Minus, Point, Other}
+use Rattle.ieee_syntax.specs.declared.kind.Kind.TheVariants.{Space, Digit, Letter, Plus, Minus, Point}
 use Rattle.ieee_syntax.specs.declared.nrf.Nrf.{Nrf}
 use Rattle.ieee_syntax.specs.declared.number.Mantissa.{Mantissa}
 use Rattle.ieee_syntax.specs.declared.number.Power.{Power}
 use Rattle.ieee_syntax.specs.declared.number.Number.{Number}
 use Rattle.ieee_syntax.specs.declared.number.Number.TheVariants as number
 use Rattle.ieee_syntax.specs.Rounded.{signed}
-use Rattle.ieee_syntax.specs.Number.{spaces, digits, with_digit, decimal, Sign, unsigned, plus, minus, sign_text, is_minus, Pointed, IsMantissa, IsPower, IsExponent, IsNumber}
+use Rattle.ieee_syntax.specs.Number.{spaces, digits, with_digit, Sign, unsigned, plus, minus, sign_text, is_minus, Pointed, IsPower, IsExponent, IsNumber}
 use Rattle.ieee_syntax.specs.Automaton.{next, begin, value_of, in_mantissa, behind_mantissa, behind_mark, in_power, behind_power, push, push_power, with_point, no_mantissa, no_power, number_of, power_of}
 use Rattle.ieee_syntax.proofs.Options.{cond_none}
 

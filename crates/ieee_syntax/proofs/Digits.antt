@@ -1,6 +1,5 @@
 -- the scanner in a number that the grammar has
-use Rattle.std.proofs.Common.{◌≡◌, ◌⊎◌, inl, inr, ℕ, suc, zero, ◌+◌, ◌-◌, ◌<◌, ◌≤◌, ℤ, pos, ◌-ℤ◌, Bool, true, false, List, [], ◌∷◌, ◌++◌, length, fold, cond, eqb, nat_lt, Option, Some, None, refl, sym, ap, ◌∙◌, subst, append_assoc, append-nil, zero-add, add-zero, arith}
-use Rattle.std.specs.Prelude.{option_map}
+use Rattle.std.proofs.Common.{◌≡◌, inl, inr, ℕ, suc, zero, ◌+◌, ◌<◌, ◌≤◌, ℤ, pos, ◌-ℤ◌, Bool, true, false, List, [], ◌∷◌, ◌++◌, length, fold, cond, eqb, nat_lt, Option, Some, refl, sym, ap, ◌∙◌, append-nil, add-zero, arith}
 use Rattle.std.proofs.lemmas.Bool.Decides.{nat_tests}
 use Rattle.std.proofs.lemmas.List.Sums.{fold-append}
 use Rattle.ieee_syntax.specs.declared.kind.Kind.{Kind}
@@ -15,7 +14,7 @@ use Rattle.ieee_syntax.specs.declared.place.Place.TheVariants as places
 use Rattle.ieee_syntax.specs.declared.unit.Unit.{Unit}
 use Rattle.ieee_syntax.specs.Rounded.{signed}
 use Rattle.ieee_syntax.specs.Number.{spaces, digits, with_digit, decimal, Sign, unsigned, plus, minus, sign_text, is_minus, Pointed, IsMantissa, IsPower, IsExponent, IsNumber}
-use Rattle.ieee_syntax.specs.Automaton.{Scan, next, begin, value_of, in_mantissa, push, push_power, with_point, no_mantissa, no_power, number_of, power_of, step, goes}
+use Rattle.ieee_syntax.specs.Automaton.{Scan, begin, value_of, push, push_power, with_point, no_mantissa, no_power, number_of, power_of, step, goes}
 use Rattle.ieee_syntax.proofs.Options.{cond_none}
 
 -- the scanner with these units at this place

@@ -1,5 +1,5 @@
 -- where bytes leave the grammar
-use Rattle.std.proofs.Common.{◌≡◌, ◌⊎◌, inl, inr, ℕ, suc, zero, ◌+◌, ◌<◌, ◌≤◌, ℤ, pos, Bool, true, false, List, [], ◌∷◌, ◌++◌, length, take, drop, fold, map, cond, eqb, nat_lt, Option, Some, None, Result, Ok, Err, refl, sym, ap, ◌∙◌, subst, append_assoc, append-nil, arith}
+use Rattle.std.proofs.Common.{◌≡◌, inl, inr, ℕ, ◌+◌, ◌<◌, ◌≤◌, pos, Bool, true, false, List, [], ◌∷◌, ◌++◌, length, take, drop, fold, eqb, Some, None, Result, Ok, Err, refl, sym, ap, ◌∙◌, append_assoc, append-nil, arith}
 use Rattle.std.specs.Global.{Vec}
 use Rattle.std.proofs.lemmas.Option.{same_Some}
 use Rattle.std.proofs.lemmas.Bool.Decides.{nat_tests}
@@ -8,7 +8,6 @@ use Rattle.std.proofs.Math.Seq.{take-length}
 use Rattle.std.proofs.lemmas.Bool.{cases_lt}
 use Rattle.std.proofs.lemmas.List.Sums.{fold-append}
 use Rattle.std.proofs.lemmas.List.Folds.{fold-map}
-use Rattle.ieee_syntax.specs.declared.kind.Kind.{Kind}
 use Rattle.ieee_syntax.specs.declared.kind.Kind.TheVariants.{Digit, Letter}
 use Rattle.ieee_syntax.specs.declared.number.Mantissa.{Mantissa}
 use Rattle.ieee_syntax.specs.declared.number.Power.{Power}
@@ -22,7 +21,7 @@ use Rattle.ieee_syntax.specs.declared.fault.SyntaxFault.TheVariants.{At, Memory}
 use Rattle.ieee_syntax.specs.Kind.{kind_of, kinds}
 use Rattle.ieee_syntax.specs.Program.{Program, Begins, FaultAt}
 use Rattle.ieee_syntax.specs.Answers.{Answers, AnswersUnits, AnswersFault}
-use Rattle.ieee_syntax.specs.Automaton.{Scan, start, goes, reads, finish, step, given, first_of, push, push_power, no_mantissa, no_power, number_of, power_of, value_of}
+use Rattle.ieee_syntax.specs.Automaton.{Scan, start, goes, reads, finish, given, first_of, push, push_power, no_mantissa, no_power, number_of, power_of}
 use Rattle.ieee_syntax.proofs.Sound.{ended, reads-program, stepped}
 use Rattle.ieee_syntax.proofs.Complete.{program-reads}
 

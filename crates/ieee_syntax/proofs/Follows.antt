@@ -1,20 +1,17 @@
 -- what stands behind each place of the scanner, in the grammar's terms
-use Rattle.std.proofs.Common.{◌≡◌, ◌⊎◌, inl, inr, ℕ, suc, zero, ◌+◌, ◌-◌, ◌<◌, ◌≤◌, Bool, true, false, List, [], ◌∷◌, ◌++◌, length, Option, Some, None, refl, sym, ap, ◌∙◌, subst, append_assoc, append-nil, arith, cond, nat_lt}
-use Rattle.std.specs.Prelude.{map, option_map, ◌||◌}
-use Rattle.std.proofs.lemmas.Option.{same_Some, cond_some}
-use Rattle.std.proofs.lemmas.Bool.Decides.{nat_tests}
+use Rattle.std.proofs.Common.{◌≡◌, ◌⊎◌, inl, inr, ℕ, suc, zero, ◌-◌, ◌≤◌, Bool, true, false, List, [], ◌∷◌, ◌++◌, length, Some, refl, sym, ap, ◌∙◌, append_assoc, append-nil, arith}
+use Rattle.std.specs.Prelude.{map, ◌||◌}
 use Rattle.ieee_syntax.specs.declared.kind.Kind.{Kind}
-use Rattle.ieee_syntax.specs.declared.kind.Kind.TheVariants.{Space, NewLine, Digit, Letter, Underscore, Star, Question, Comma, Semicolon, Plus, Minus, Point, Other}
+use Rattle.ieee_syntax.specs.declared.kind.Kind.TheVariants.{Space, Letter, Comma, Semicolon}
 use Rattle.ieee_syntax.specs.declared.nrf.Nrf.{Nrf}
 use Rattle.ieee_syntax.specs.declared.number.Number.{Number}
 use Rattle.ieee_syntax.specs.declared.place.Place.{Place}
 use Rattle.ieee_syntax.specs.declared.place.Place.TheVariants as places
 use Rattle.ieee_syntax.specs.declared.unit.Unit.{Unit}
 use Rattle.ieee_syntax.specs.Number.{spaces, IsNumber}
-use Rattle.ieee_syntax.specs.Program.{NameByte, letter, digit, underscore, kind_in, byte_in, star_text, star_name, IsHead, Separated, IsData, query_text, IsUnit, end_text}
-use Rattle.ieee_syntax.specs.Automaton.{next, begin, value_of, named, given, first_of, most_of, whole, at_unit, behind_star, longer, in_head, behind_query, at_number, in_number, advance}
-use Rattle.ieee_syntax.proofs.Options.{option_map_some}
-use Rattle.ieee_syntax.proofs.Completes.{Completes, completes-next, completes-end, SpacedNumber, spaced-begin}
+use Rattle.ieee_syntax.specs.Program.{NameByte, kind_in, byte_in, Separated, IsData, query_text, IsUnit, end_text}
+use Rattle.ieee_syntax.specs.Automaton.{next, begin, first_of, most_of}
+use Rattle.ieee_syntax.proofs.Completes.{Completes, completes-next, spaced-begin}
 
 -- units, white space and the end
 pub record Parts (text : List Kind) (us : List Unit) : Type 0 where

@@ -1,7 +1,7 @@
 -- what the quotient and the rest say of the nearest whole number
-use Rattle.std.proofs.Common.{◌≡◌, ℕ, suc, ◌+◌, ◌-◌, ◌*◌, ◌/◌, ◌%◌, ◌^◌, ◌<◌, ◌≤◌, min, refl, sym, ap, ◌∙◌, ℤ, pos, negsuc, ◌<ℤ◌, ◌≤ℤ◌, arith, add-one, Bool}
+use Rattle.std.proofs.Common.{◌≡◌, ℕ, ◌+◌, ◌-◌, ◌*◌, ◌/◌, ◌%◌, ◌^◌, ◌<◌, ◌≤◌, min, refl, ap, ℤ, pos, negsuc, ◌<ℤ◌, ◌≤ℤ◌, arith, add-one, Bool}
 use Rattle.std.specs.Prelude.{unsigned_abs}
-use Rattle.std.proofs.Math.Nat.{div-eq_of_lt-le, div-mul-le_self, lt-mul-div-succ, mul-le-mul_right, mul-le-mul_left, pow-le-pow_right, one-le-pow, min-eq_left, min-eq_right}
+use Rattle.std.proofs.Math.Nat.{div-eq_of_lt-le, div-mul-le_self, lt-mul-div-succ, mul-le-mul_right, mul-le-mul_left, pow-le-pow_right, one-le-pow}
 use Rattle.std.proofs.lemmas.Nat.{le-div, div-add-mod'}
 use Rattle.std.proofs.lemmas.Int.{ints}
 use Rattle.ieee_syntax.specs.declared.nrf.Nrf.{Nrf}

@@ -1,5 +1,5 @@
 -- what the scanner's loop says of the bytes
-use Rattle.std.proofs.Common.{◌≡◌, ℕ, ◌+◌, ◌<◌, List, length, take, get_or, fold, Option, Some, None, Result, Ok, Err, refl, sym, ap, ◌∙◌, arith}
+use Rattle.std.proofs.Common.{◌≡◌, ℕ, ◌+◌, ◌<◌, List, length, take, get_or, Some, Ok, Err, sym, ap, ◌∙◌}
 use Rattle.std.proofs.Math.Seq.{take-length}
 use Rattle.std.proofs.lemmas.List.Sums.{fold_more}
 use Rattle.ieee_syntax.specs.declared.kind.Kind.{Kind}
@@ -11,7 +11,7 @@ use Rattle.ieee_syntax.specs.declared.fault.SyntaxFault.{SyntaxFault}
 use Rattle.ieee_syntax.specs.Kind.{kind_of}
 use Rattle.ieee_syntax.specs.Program.{Program}
 use Rattle.ieee_syntax.specs.Answers.{Answers}
-use Rattle.ieee_syntax.specs.Automaton.{Scan, start, goes, reads, step, finish, Steps, Finishes, fault_at, PlaceFits}
+use Rattle.ieee_syntax.specs.Automaton.{start, goes, reads, step, finish, Steps, Finishes, fault_at, PlaceFits}
 use Rattle.ieee_syntax.proofs.Sound.{ended, reads-program}
 use Rattle.ieee_syntax.proofs.Faults.{fault-byte, fault-end}
 

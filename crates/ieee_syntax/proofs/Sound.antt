@@ -1,16 +1,16 @@
 -- what the scanner takes is a message of the units that it gives
-use Rattle.std.proofs.Common.{◌≡◌, ℕ, suc, zero, List, [], ◌∷◌, ◌++◌, Option, Some, None, true, false, fold, map, refl, sym, ap, ◌∙◌, subst, append_assoc, append-nil}
+use Rattle.std.proofs.Common.{◌≡◌, ℕ, List, [], ◌∷◌, ◌++◌, Option, Some, None, true, false, fold, refl, sym, ap, ◌∙◌, subst, append_assoc, append-nil}
 use Rattle.std.specs.Prelude.{option_map}
 use Rattle.std.proofs.lemmas.Option.{same_Some}
 use Rattle.std.proofs.lemmas.List.Folds.{fold-map}
 use Rattle.ieee_syntax.specs.declared.kind.Kind.{Kind}
-use Rattle.ieee_syntax.specs.declared.kind.Kind.TheVariants.{Space, NewLine, Semicolon}
+use Rattle.ieee_syntax.specs.declared.kind.Kind.TheVariants.{NewLine, Semicolon}
 use Rattle.ieee_syntax.specs.declared.place.Place.{Place}
 use Rattle.ieee_syntax.specs.declared.place.Place.TheVariants as places
 use Rattle.ieee_syntax.specs.declared.unit.Unit.{Unit}
 use Rattle.ieee_syntax.specs.Kind.{kind_of, kinds}
 use Rattle.ieee_syntax.specs.Number.{spaces}
-use Rattle.ieee_syntax.specs.Program.{Program, end_text, IsMessage}
+use Rattle.ieee_syntax.specs.Program.{Program}
 use Rattle.ieee_syntax.specs.Automaton.{Scan, start, whole, advance, closed, finish, end_line, step, goes, reads}
 use Rattle.ieee_syntax.proofs.Options.{option_map_some}
 use Rattle.ieee_syntax.proofs.Follows.{After, AtEnd, OnUnit, Follow, Spaced}

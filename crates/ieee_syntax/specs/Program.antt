@@ -1,5 +1,5 @@
 -- program messages (IEEE 488.2, section 7): the grammar, and where bytes leave it
-use Rattle.std.specs.Prelude.{◌≡◌, ◌⊎◌, ℕ, ◌+◌, ◌<◌, ◌≤◌, Bool, true, false, List, [], ◌∷◌, ◌++◌, length, map, take}
+use Rattle.std.specs.Prelude.{◌≡◌, ℕ, ◌+◌, ◌<◌, ◌≤◌, Bool, true, false, List, [], ◌∷◌, ◌++◌, length, map, take}
 use Rattle.ieee_syntax.specs.declared.kind.Kind.{Kind}
 use Rattle.ieee_syntax.specs.declared.kind.Kind.TheVariants.{NewLine, Digit, Letter, Underscore, Star, Question, Comma, Semicolon}
 use Rattle.ieee_syntax.specs.declared.nrf.Nrf.{Nrf}

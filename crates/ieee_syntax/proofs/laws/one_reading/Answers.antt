@@ -1,4 +1,4 @@
-use Rattle.std.proofs.Common.{◌≡◌, Some, sym, ◌∙◌}
+use Rattle.std.proofs.Common.{sym, ◌∙◌}
 use Rattle.std.proofs.lemmas.Option.{same_Some}
 use Rattle.ieee_syntax.proofs.Complete.{program-reads}
 use Rattle.ieee_syntax.proofs.laws.one_reading.Goals as goal

@@ -1,6 +1,5 @@
-use Rattle.std.proofs.Common.{◌^◌, ◌<◌, ◌≡◌, ◌+◌, ◌/◌, sym, subst, arith, ℕ}
+use Rattle.std.proofs.Common.{◌<◌, arith}
 use Rattle.ieee_syntax.proofs.Rounding.{pow-small, pow-some, clamped-places_many, clamped-up}
-use Rattle.ieee_syntax.specs.Rounded.{clamped}
 use Rattle.ieee_syntax.proofs.nrf.divided.Goals as goal
 
 pub returns-then-places-gt-GREATEST_POWER : goal.returns-then-places-gt-GREATEST_POWER

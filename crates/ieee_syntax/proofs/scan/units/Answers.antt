@@ -1,4 +1,4 @@
-use Rattle.std.proofs.Common.{◌≡◌, length, Ok, Err, arith, sym}
+use Rattle.std.proofs.Common.{Ok, Err, arith}
 use Rattle.ieee_syntax.proofs.Faults.{answers-units, answers-fault}
 use Rattle.ieee_syntax.proofs.Scanning.{refused, finished, unfinished}
 use Rattle.ieee_syntax.proofs.scan.units.Goals as goal
