@@ -41,7 +41,7 @@ follow-end text [] h = record { gap = 0; ended = true; spelled = ap (λ t. NewLi
 follow-end text (v ∷ us) h = absurd h
 
 -- what stands behind a place and begins with these units
-pub record Gives (units : List Unit) (p : Place) (text : List Kind) (all : List Unit) : Type 0 where
+pub record Continues (units : List Unit) (p : Place) (text : List Kind) (all : List Unit) : Type 0 where
   pub us : List Unit
   pub joined : all ≡ units ++ us
   pub after : After p text us
@@ -49,7 +49,7 @@ pub record Gives (units : List Unit) (p : Place) (text : List Kind) (all : List 
 at_place : (s t : Scan) (text : List Kind) (us : List Unit) → s ≡ t → After t.place text us → After s.place text us
 at_place s t text us e h = subst (λ (x : Scan). After x.place text us) (sym e) h
 
-closed-back : (units all : List Unit) (p : Place) (text : List Kind) (us : List Unit) → closed units p ≡ Some all → Follow text us → Gives units p text (all ++ us)
+closed-back : (units all : List Unit) (p : Place) (text : List Kind) (us : List Unit) → closed units p ≡ Some all → Follow text us → Continues units p text (all ++ us)
 closed-back units all p text us e h =
     let t = option_map_some (λ unit. units ++ unit ∷ []) (whole p) all e in
     record {
@@ -59,13 +59,13 @@ closed-back units all p text us e h =
     }
 
 line-back : (units : List Unit) (p : Place) (s : Scan) (text : List Kind) (us : List Unit)
-    → option_map (λ all. record { units = all; place = places.End }) (closed units p) ≡ Some s → After s.place text us → Gives units p (NewLine ∷ text) (s.units ++ us)
+    → option_map (λ all. record { units = all; place = places.End }) (closed units p) ≡ Some s → After s.place text us → Continues units p (NewLine ∷ text) (s.units ++ us)
 line-back units p s text us e h =
     let t = option_map_some {B = Scan} (λ all. record { units = all; place = places.End }) (closed units p) s e in
     let g = closed-back units t.0 p (NewLine ∷ text) us t.1 (follow-end text us (at_place (record { units = t.0; place = places.End }) s text us t.2 h)) in
-    subst (λ xs. Gives units p (NewLine ∷ text) (xs ++ us)) (ap (λ (x : Scan). x.units) t.2) g
+    subst (λ xs. Continues units p (NewLine ∷ text) (xs ++ us)) (ap (λ (x : Scan). x.units) t.2) g
 
-start-line : (units : List Unit) (s : Scan) (text : List Kind) (us : List Unit) → record { units = units; place = places.End } ≡ s → AtEnd text us → Gives units places.Start (NewLine ∷ text) (s.units ++ us)
+start-line : (units : List Unit) (s : Scan) (text : List Kind) (us : List Unit) → record { units = units; place = places.End } ≡ s → AtEnd text us → Continues units places.Start (NewLine ∷ text) (s.units ++ us)
 start-line units s text [] e h = record {
   us = [];
   joined = ap (λ (x : Scan). x.units ++ []) (sym e);
@@ -73,7 +73,7 @@ start-line units s text [] e h = record {
 }
 start-line units s text (v ∷ us) e h = absurd h
 
-end-back : (units : List Unit) (p : Place) (s : Scan) (text : List Kind) (us : List Unit) → end_line units p ≡ Some s → After s.place text us → Gives units p (NewLine ∷ text) (s.units ++ us)
+end-back : (units : List Unit) (p : Place) (s : Scan) (text : List Kind) (us : List Unit) → end_line units p ≡ Some s → After s.place text us → Continues units p (NewLine ∷ text) (s.units ++ us)
 end-back units places.Start s text us e h =
     let same : record { units = units; place = places.End } ≡ s = same_Some {A = Scan} _ _ e in
     start-line units s text us same (at_place (record { units = units; place = places.End }) s text us same h)
@@ -81,7 +81,7 @@ end-back units places.End s text us e h = cc
 end-back units p s text us e h = line-back units p s text us e h
 
 advanced : (units : List Unit) (p : Place) (k : Kind) (s : Scan) (text : List Kind) (us : List Unit)
-    → option_map (λ q. record { units = units; place = q }) (advance p k) ≡ Some s → After s.place text us → Gives units p (k ∷ text) (s.units ++ us)
+    → option_map (λ q. record { units = units; place = q }) (advance p k) ≡ Some s → After s.place text us → Continues units p (k ∷ text) (s.units ++ us)
 advanced units p k s text us e h =
     let t = option_map_some {B = Scan} (λ q. record { units = units; place = q }) (advance p k) s e in
     record {
@@ -90,25 +90,25 @@ advanced units p k s text us e h =
       after = advance-back p t.0 k text us t.1 (at_place (record { units = units; place = t.0 }) s text us t.2 h);
     }
 
-step-back : (units : List Unit) (p : Place) (k : Kind) (s : Scan) (text : List Kind) (us : List Unit) → step units p k ≡ Some s → After s.place text us → Gives units p (k ∷ text) (s.units ++ us)
+step-back : (units : List Unit) (p : Place) (k : Kind) (s : Scan) (text : List Kind) (us : List Unit) → step units p k ≡ Some s → After s.place text us → Continues units p (k ∷ text) (s.units ++ us)
 step-back units p Semicolon s text us e h =
     let t = option_map_some {B = Scan} (λ all. record { units = all; place = places.Separator }) (closed units p) s e in
     let g = closed-back units t.0 p (Semicolon ∷ text) us t.1 (follow-more text us (at_place (record { units = t.0; place = places.Separator }) s text us t.2 h)) in
-    subst (λ xs. Gives units p (Semicolon ∷ text) (xs ++ us)) (ap (λ (x : Scan). x.units) t.2) g
+    subst (λ xs. Continues units p (Semicolon ∷ text) (xs ++ us)) (ap (λ (x : Scan). x.units) t.2) g
 step-back units p NewLine s text us e h = end-back units p s text us e h
 step-back units p k s text us e h = advanced units p k s text us e h
 
-finish-closed : (units all : List Unit) (p : Place) → closed units p ≡ Some all → Gives units p [] all
+finish-closed : (units all : List Unit) (p : Place) → closed units p ≡ Some all → Continues units p [] all
 finish-closed units all p e =
     let g = closed-back units all p [] [] e (record { gap = 0; ended = false; spelled = refl }) in
     rw append-nil at g
 
-finish-back : (units all : List Unit) (p : Place) → finish units p ≡ Some all → Gives units p [] all
+finish-back : (units all : List Unit) (p : Place) → finish units p ≡ Some all → Continues units p [] all
 finish-back units all places.Start e = record { us = []; joined = sym (same_Some _ _ e) ∙ sym (append-nil units); after = record { gap = 0; ended = false; spelled = refl } }
 finish-back units all places.End e = record { us = []; joined = sym (same_Some _ _ e) ∙ sym (append-nil units); after = refl }
 finish-back units all p e = finish-closed units all p e
 
-sound : (text : List Kind) (units : List Unit) (p : Place) (all : List Unit) → ended (fold goes (Some (record { units = units; place = p })) text) ≡ Some all → Gives units p text all
+sound : (text : List Kind) (units : List Unit) (p : Place) (all : List Unit) → ended (fold goes (Some (record { units = units; place = p })) text) ≡ Some all → Continues units p text all
 sound [] units p all e = finish-back units all p e
 sound (k ∷ text) units p all e =
     let t = stepped (step units p k) text all e in

@@ -176,16 +176,21 @@ fn numbers_are_rounded(rt: HostRuntime) {
 
 #[test]
 fn args_give_their_vec_back(rt: HostRuntime) -> Result<(), Fail> {
-    let found = units(rt.alloc(), b"CONF 9")?;
-    for unit in found {
-        let numbers = unit.args.into_vec();
-        let again = Args::from(numbers);
-        assert_eq!(rt; again.as_slice().len(), 1);
+    for unit in units(rt.alloc(), b"CONF 9,8")? {
+        let again = Args::from(unit.args.into_vec());
+        assert_eq!(rt; again.as_slice().len(), 2);
     }
-    let text = format!(in rt.alloc(); "{}; {}", SyntaxFault::At(2), SyntaxFault::Memory)?;
+    Ok(())
+}
+
+#[test]
+fn faults_say_what_to_do(rt: HostRuntime) -> Result<(), Fail> {
+    let at = format!(in rt.alloc(); "{}", SyntaxFault::At(2))?;
     assert_eq!(rt;
-        text.as_str(),
-        "not a program message from byte 2 on; correct it there; out of memory; free some and try again"
+        at.as_str(),
+        "not a program message from byte 2 on; correct it there"
     );
+    let memory = format!(in rt.alloc(); "{}", SyntaxFault::Memory)?;
+    assert_eq!(rt; memory.as_str(), "out of memory; free some and try again");
     Ok(())
 }
