@@ -1,0 +1,10 @@
+pub mod Backs
+pub mod Complete
+pub mod Completes
+pub mod Digits
+pub mod Faults
+pub mod Follows
+pub mod Options
+pub mod Rounding
+pub mod Scanning
+pub mod Sound
