@@ -1,12 +1,32 @@
-//! The plain instrument: what it answers to program messages, by IEEE 488.2, with no transfer and no packet.
+//! The plain instrument: what it answers to program messages and how it reports its status, by IEEE 488.2, with
+//! no transfer and no packet.
+//!
+//! [`Instrument`] executes messages and keeps the response that waits to be read. Each of its calls is an entry
+//! of a log, [`LogEntry`]. The definitions in `specs/` say what a message does, by the table of commands, and
+//! where a log leads; each call is proved to be one step of that.
 #![tactic(auto)]
 
+mod answer;
+mod command;
+mod decimal;
+mod head;
 mod instrument;
+mod laws;
+mod log;
+mod outcome;
+mod output;
 mod plain;
-mod query;
+mod range;
+mod remote;
+mod run;
+mod status;
 #[cfg(test)]
 mod tests;
 
+pub use answer::Answer;
+pub use command::Command;
 pub use instrument::Instrument;
-pub use plain::{Plain, RemoteState};
-pub use query::{Query, is_message};
+pub use laws::{keeps_responses, one_response};
+pub use log::LogEntry;
+pub use plain::Plain;
+pub use remote::{RemoteAct, RemoteState};

@@ -1,11 +1,4 @@
-/// Who may operate the instrument (IEEE 488.1, remote/local function RL1).
-#[derive(Clone, Copy, Debug, PartialEq, Eq)]
-pub enum RemoteState {
-    Local,
-    Remote,
-    LocalLockout,
-    RemoteLockout,
-}
+use crate::RemoteState;
 
 /// The instrument's state between two messages.
 #[derive(Clone, Copy, Debug, PartialEq, Eq)]
@@ -20,5 +13,6 @@ pub struct Plain {
     pub conf: u8,
     /// How many acquisitions were triggered, modulo 2^32.
     pub acquisitions: u32,
+    /// Who may operate the instrument.
     pub remote: RemoteState,
 }
