@@ -5,12 +5,12 @@ use Rattle.std.specs.Str.{bytes_eq}
 use Rattle.std.proofs.lemmas.Option.{same_Some}
 use Rattle.ieee_syntax.specs.declared.nrf.Nrf.{Nrf}
 use Rattle.ieee_syntax.specs.declared.unit.Unit.{Unit}
-use Rattle.instr_plain.specs.declared.head.Header.{Header}
-use Rattle.instr_plain.specs.declared.head.Header.TheVariants.{Cls, Ese, Esr, Idn, Opc, Rst, Sre, Stb, Tst, Wai, Trg, Conf, Read, Rl}
+use Rattle.instr_plain.specs.declared.header.Header.{Header}
+use Rattle.instr_plain.specs.declared.header.Header.TheVariants.{Cls, Ese, Esr, Idn, Opc, Rst, Sre, Stb, Tst, Wai, Trg, Conf, Read, Rl}
 use Rattle.instr_plain.specs.declared.command.Command.{Command}
 use Rattle.instr_plain.specs.declared.command.Command.TheVariants.{ClearStatus, EventEnable, EventEnableQuery, EventStatusQuery, IdentificationQuery, OperationComplete, OperationCompleteQuery, Reset, ServiceEnable, ServiceEnableQuery, StatusByteQuery, SelfTestQuery, Wait, Trigger, Configure, ConfigureQuery, ReadQuery, RemoteQuery}
 use Rattle.instr_plain.specs.Command.{unit_of, IsUnknown}
-use Rattle.instr_plain.specs.Heads.{text_of, plain_of, numbered_of}
+use Rattle.instr_plain.specs.Header.{text_of, plain_of, numbered_of}
 
 -- the header that bytes are
 abbrev pub found : List ℕ → Option Header

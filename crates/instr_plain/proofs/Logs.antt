@@ -1,5 +1,5 @@
 -- where a log leads
-use Rattle.std.proofs.Common.{◌≡◌, ◌∙◌, ℕ, zero, suc, ◌+◌, ◌<◌, List, [], ◌∷◌, ◌++◌, length, inl, inr, ap, sym, subst, arith}
+use Rattle.std.proofs.Common.{◌≡◌, ◌∙◌, ℕ, zero, suc, ◌+◌, ◌<◌, List, [], ◌∷◌, ◌++◌, length, inl, inr, refl, ap, sym, subst, arith}
 use Rattle.std.specs.Prelude.{◌↔◌}
 use Rattle.ieee_syntax.specs.declared.unit.Unit.{Unit}
 use Rattle.ieee_syntax.specs.Program.{Program}
@@ -9,7 +9,7 @@ use Rattle.instr_plain.specs.declared.log.LogEntry.{LogEntry}
 use Rattle.instr_plain.specs.declared.log.LogEntry.TheVariants.{Exec as exec_entry, Took, Interrupt, Bare, Trigger, Poll, Clear, Remote}
 use Rattle.instr_plain.specs.Exec.{Progress, Executes, Exec, begun, performed, response_of}
 use Rattle.instr_plain.specs.Standing.{Standing}
-use Rattle.instr_plain.specs.Log.{After, ResponseOf, Responds, judged}
+use Rattle.instr_plain.specs.Log.{After, Follows, ResponseOf, Responds, judged}
 use Rattle.instr_plain.proofs.Commands.{one_command}
 
 -- later entries change no earlier response
@@ -69,3 +69,19 @@ responds_one reading before (entry ∷ log) zero r s p q = response_of_one readi
 responds_one reading before (entry ∷ log) (suc i) r s p q =
     let same = after_one reading before entry p.0 q.0 p.1 q.1 in
     responds_one reading q.0 log i r s (subst (λ (mid : Standing). Responds mid log i r) same p.2) q.2
+
+-- one more entry
+pub grows_by : (start : Standing) (log : List LogEntry) (entry : LogEntry) (before after : Standing) → Follows start log before → After before entry after → Follows start (log ++ entry ∷ []) after
+grows_by start [] entry before after p q = (after, subst (λ (s : Standing). After s entry after) p q, refl)
+grows_by start (first ∷ log) entry before after p q = (p.0, p.1, grows_by p.0 log entry before after p.2 q)
+
+pub responds_last : (start : Standing) (log : List LogEntry) (seq : ℕ) (message : List ℕ) (before after : Standing) → Follows start log before → After before (exec_entry seq message) after → Responds start (log ++ exec_entry seq message ∷ []) (length log) after.unread
+responds_last start [] seq message before after p q = (after.state, subst (λ (s : Standing). Exec s.state message after.state after.unread) p q.0)
+responds_last start (first ∷ log) seq message before after p q = (p.0, p.1, responds_last p.0 log seq message before after p.2 q)
+
+-- a log leads to one standing
+pub follows_one : OneReading → (start : Standing) (log : List LogEntry) (a b : Standing) → Follows start log a → Follows start log b → a ≡ b
+follows_one reading start [] a b p q = p ∙ sym q
+follows_one reading start (entry ∷ log) a b p q =
+    let same = after_one reading start entry p.0 q.0 p.1 q.1 in
+    follows_one reading q.0 log a b (subst (λ (mid : Standing). Follows mid log a) same p.2) q.2

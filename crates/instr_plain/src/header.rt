@@ -1,6 +1,6 @@
 ghost use Rattle.std.specs.Prelude.{◌≡◌, [], ◌∷◌, MatchOption, IfSome};
 ghost use Rattle.instr_plain.specs.Command.{unit_of};
-ghost use Rattle.instr_plain.specs.Heads.{text_of, plain_of, numbered_of};
+ghost use Rattle.instr_plain.specs.Header.{text_of, plain_of, numbered_of};
 
 use crate::Command;
 use ieee_syntax::Nrf;
