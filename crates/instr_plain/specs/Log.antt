@@ -41,11 +41,15 @@ Follows before (entry ∷ entries) after = (mid : Standing) × After before entr
 abbrev pub Stands : List LogEntry → Standing → Type 0
 Stands log standing = Follows at_power_on log standing
 
+-- the response that an entry makes, which only a message does
+abbrev pub ResponseOf : Standing → LogEntry → List ℕ → Type 0
+ResponseOf before (exec_entry seq message) response = (state : Plain) × Exec before.state message state response
+ResponseOf before _ response = ⊥
+
 -- the response to the message of entry i, counted from 0, in a log that begins at this standing
 abbrev pub Responds : Standing → List LogEntry → ℕ → List ℕ → Type 0
 Responds before [] i response = ⊥
-Responds before (exec_entry seq message ∷ entries) zero response = (state : Plain) × Exec before.state message state response
-Responds before (entry ∷ entries) zero response = ⊥
+Responds before (entry ∷ entries) zero response = ResponseOf before entry response
 Responds before (entry ∷ entries) (suc i) response = (mid : Standing) × After before entry mid × Responds mid entries i response
 
 abbrev pub Response : List LogEntry → ℕ → List ℕ → Type 0

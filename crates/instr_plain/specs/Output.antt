@@ -16,12 +16,14 @@ abbrev pub parts_of : List (List ℕ) → List ℕ
 parts_of [] = []
 parts_of (answer ∷ answers) = answer ++ (59 ∷ parts_of answers)
 
--- what is written stands for the answers of a message so far
+-- what is written where the execution of a message has come so far
+abbrev pub written : Progress → Written
+written progress = record { bytes = parts_of progress.answers; dropped = progress.dropped; ended = progress.ended }
+
+-- the state and what is written stand for that
 pub record IsAt (progress : Progress) (state : Plain) (output : Written) : Type 0 where
   pub state_is : progress.state ≡ state
-  pub bytes_are : parts_of progress.answers ≡ output.bytes
-  pub dropped_is : progress.dropped ≡ output.dropped
-  pub ended_is : progress.ended ≡ output.ended
+  pub output_is : written progress ≡ output
 
 -- whether there is room for an answer and the byte behind it
 abbrev pub fits : Answer → Written → Bool

@@ -1,7 +1,7 @@
 ghost use Rattle.std.specs.Prelude.{◌≡◌, MatchOption};
 ghost use Rattle.instr_plain.specs.Command.{unit_of, is_query, IsUnknown};
 
-use crate::head::Header;
+use crate::header::Header;
 use ieee_syntax::{Nrf, Unit};
 
 /// A program message unit that the instrument knows (IEEE 488.2, section 10), with its number where it has one.

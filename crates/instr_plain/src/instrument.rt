@@ -124,7 +124,8 @@ impl Instrument {
         ensures { After self.old (Took n) self.new }
     {
         let before = self.enabled();
-        self.taken += n;
+        let left = self.response().len() - n;
+        self.taken = self.output.bytes().len() - left;
         self.judge(before);
     }
 
@@ -160,7 +161,7 @@ impl Instrument {
     fn is_unread(&self) -> bool
         ensures { result ≡ is_unread self.now.unread }
     {
-        self.taken < self.output.bytes().len()
+        !self.response().is_empty()
     }
 
     /// The bits of the status byte that may request service.

@@ -9,7 +9,7 @@
 mod answer;
 mod command;
 mod decimal;
-mod head;
+mod header;
 mod instrument;
 mod laws;
 mod log;
@@ -26,7 +26,7 @@ mod tests;
 pub use answer::Answer;
 pub use command::Command;
 pub use instrument::Instrument;
-pub use laws::{keeps_responses, one_response};
+pub use laws::{grows, keeps_responses, one_response, one_standing, responds};
 pub use log::LogEntry;
 pub use plain::Plain;
 pub use remote::{RemoteAct, RemoteState};

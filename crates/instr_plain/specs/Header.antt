@@ -1,8 +1,8 @@
 -- the headers of the instrument's commands, and how the code finds a command by header and numbers
 use Rattle.std.specs.Prelude.{ℕ, Bool, true, false, Option, Some, None, List, codes}
 use Rattle.ieee_syntax.specs.declared.nrf.Nrf.{Nrf}
-use Rattle.instr_plain.specs.declared.head.Header.{Header}
-use Rattle.instr_plain.specs.declared.head.Header.TheVariants.{Cls, Ese, Esr, Idn, Opc, Rst, Sre, Stb, Tst, Wai, Trg, Conf, Read, Rl}
+use Rattle.instr_plain.specs.declared.header.Header.{Header}
+use Rattle.instr_plain.specs.declared.header.Header.TheVariants.{Cls, Ese, Esr, Idn, Opc, Rst, Sre, Stb, Tst, Wai, Trg, Conf, Read, Rl}
 use Rattle.instr_plain.specs.declared.command.Command.{Command}
 use Rattle.instr_plain.specs.declared.command.Command.TheVariants.{ClearStatus, EventEnable, EventEnableQuery, EventStatusQuery, IdentificationQuery, OperationComplete, OperationCompleteQuery, Reset, ServiceEnable, ServiceEnableQuery, StatusByteQuery, SelfTestQuery, Wait, Trigger, Configure, ConfigureQuery, ReadQuery, RemoteQuery}
 

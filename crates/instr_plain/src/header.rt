@@ -1,5 +1,6 @@
-ghost use Rattle.std.specs.Prelude.{◌≡◌, MatchOption};
-ghost use Rattle.instr_plain.specs.Heads.{text_of, plain_of, numbered_of};
+ghost use Rattle.std.specs.Prelude.{◌≡◌, [], ◌∷◌, MatchOption, IfSome};
+ghost use Rattle.instr_plain.specs.Command.{unit_of};
+ghost use Rattle.instr_plain.specs.Header.{text_of, plain_of, numbered_of};
 
 use crate::Command;
 use ieee_syntax::Nrf;
@@ -49,7 +50,8 @@ impl Header {
 
     /// The command of this header with no number.
     pub(crate) fn plain(self, query: bool) -> Option<Command>
-        ensures { result ≡ plain_of self query }
+        ensures value { result ≡ plain_of self query }
+        ensures unit { IfSome result (λ command. unit_of command ≡ record { head = text_of self; query = query; args = [] }) }
     {
         match (self, query) {
             (Header::Cls, false) => Some(Command::ClearStatus),
@@ -72,7 +74,8 @@ impl Header {
 
     /// The command of this header with one number.
     pub(crate) fn numbered(self, query: bool, number: Nrf) -> Option<Command>
-        ensures { result ≡ numbered_of self query number }
+        ensures value { result ≡ numbered_of self query number }
+        ensures unit { IfSome result (λ command. unit_of command ≡ record { head = text_of self; query = query; args = number ∷ [] }) }
     {
         match (self, query) {
             (Header::Ese, false) => Some(Command::EventEnable(number)),

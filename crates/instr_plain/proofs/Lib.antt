@@ -1,0 +1,5 @@
+pub mod Decimals
+pub mod Commands
+pub mod Answers
+pub mod Running
+pub mod Logs
