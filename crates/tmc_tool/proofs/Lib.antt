@@ -1,3 +1,4 @@
 pub mod Transfers
 pub mod Lines
+pub mod FirstLine
 pub mod Ending

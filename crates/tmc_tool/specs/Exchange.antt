@@ -14,9 +14,6 @@ use Rattle.tmc_wire.specs.declared.header.OutHeader.TheVariants.{Message, Reques
 use Rattle.tmc_wire.specs.declared.header.InHeader.{InHeader}
 use Rattle.tmc_wire.specs.Header.{out_header_bytes, in_header_bytes}
 use Rattle.tmc_wire.specs.Transfer.{OutText, InText, alignment_of}
-use Rattle.instr_plain.specs.declared.plain.Plain.{Plain}
-use Rattle.instr_plain.specs.Standing.{power_on}
-use Rattle.instr_plain.specs.Exec.{Exec}
 
 -- the instrument on the link: bus 1, device 2, with Bulk-OUT endpoint 1 and Bulk-IN endpoint 2
 abbrev pub devid : ℕ
@@ -116,10 +113,8 @@ pub record IsPlain (message response sent taken : List ℕ) (transfers : Transfe
   pub submits : sent ≡ submits_written transfers.message transfers.request
   pub answers : taken ≡ answers_written transfers.message transfers.request transfers.response
 
--- the plain instrument executes the message from power-on, and its whole response crosses the link
+-- a message and its whole response cross the link, written as this product writes
 pub record Crosses (message response sent taken : List ℕ) : Type 0 where
-  pub state : Plain
   pub transfers : Transfers
-  pub executed : Exec power_on message state response
   pub exchanged : Exchanges message response sent taken transfers
   pub plain : IsPlain message response sent taken transfers

@@ -1,3 +1,5 @@
 pub mod Exchange
 pub mod Report
+pub mod Line
+pub mod Judged
 pub mod Tool

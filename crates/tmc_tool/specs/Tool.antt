@@ -3,10 +3,11 @@ use Rattle.std.specs.Prelude.{◌≡◌, ◌⊎◌, ℕ, ◌≤◌, List, [], �
 use Rattle.tmc_base.specs.Faults.{Rose}
 use Rattle.tmc_base.specs.Source.{GivesFirst, HasEnded}
 use Rattle.tmc_base.specs.Sink.{PutsFront, put_after}
-use Rattle.instr_plain.specs.Exec.{IsMessage}
 use Rattle.tmc_tool.specs.declared.status.Status.{Status}
 use Rattle.tmc_tool.specs.declared.status.Status.TheVariants.{Printed, Usage, Refused, SourceFault, SinkFault, NoMemory}
 use Rattle.tmc_tool.specs.Exchange.{Crosses, ask_limit}
+use Rattle.tmc_tool.specs.declared.line.LineWhat.{LineWhat}
+use Rattle.tmc_tool.specs.Line.{IsQuestion, IsRefused, line_most, refusal}
 use Rattle.tmc_tool.specs.Report.{Told, Asked, Settled, Exec as exec_entry, Took, Reports}
 
 -- the number that a status is to the shell
@@ -22,16 +23,6 @@ code_of NoMemory = 5
 abbrev pub IsAsk : List (List ℕ) → Type 0
 IsAsk words = words ≡ codes "ask" ∷ []
 
--- the bytes are a message, with or without one NL behind it
-abbrev pub IsLine : List ℕ → List ℕ → Type 0
-IsLine bytes message = (bytes ≡ message) ⊎ (bytes ≡ message ++ 10 ∷ [])
-
--- the bytes are a line that can be asked
-pub record IsQuestion (bytes : List ℕ) : Type 0 where
-  pub message : List ℕ
-  pub known : IsMessage message
-  pub line : IsLine bytes message
-
 -- what is told of the outside: the bytes left in the source, those put into the sink, and the counts of faults
 pub record Outside : Type 0 where
   pub left : Option (List ℕ)
@@ -39,14 +30,10 @@ pub record Outside : Type 0 where
   pub put : Option (List ℕ)
   pub write_faults : ℕ
 
--- one byte more than the longest known message and its NL: with so many, what was read is no line that can be asked
-abbrev pub line_max : ℕ
-line_max = 7
-
 -- these bytes were read: the first of the source, and all of them or enough to know
 pub record ReadsLine (bytes : List ℕ) (before after : Outside) : Type 0 where
   pub first : GivesFirst bytes before.left after.left
-  pub enough : HasEnded after.left ⊎ (line_max ≤ length bytes)
+  pub enough : HasEnded after.left ⊎ (line_most ≤ length bytes)
   pub counts : after.read_faults ≡ before.read_faults
 
 -- nothing was read
@@ -74,14 +61,14 @@ told_of message response sent taken = record {
   down = taken;
 }
 
--- this text is the true report of asking these bytes: the plain instrument executes the message from power-on, its
--- response crosses the link, and the report tells exactly these bytes
+-- this text is the true report of asking these bytes: they are one line whose message the plain instrument answers from
+-- power-on, message and response cross the link, and the report tells exactly these bytes
 pub record Answers (bytes text : List ℕ) : Type 0 where
   pub message : List ℕ
   pub response : List ℕ
   pub sent : List ℕ
   pub taken : List ℕ
-  pub line : IsLine bytes message
+  pub question : IsQuestion bytes message response
   pub crossed : Crosses message response sent taken
   pub reported : Reports (told_of message response sent taken) text
 
@@ -91,7 +78,8 @@ Due words before after Printed text =
     IsAsk words × ((bytes : List ℕ) × GivesFirst bytes before.left after.left × HasEnded after.left × (after.read_faults ≡ before.read_faults) × Answers bytes text)
 Due words before after Usage text = (IsAsk words → ⊥) × ReadsNothing before after × (text ≡ codes "usage\n")
 Due words before after Refused text =
-    IsAsk words × ((bytes : List ℕ) × ReadsLine bytes before after × (IsQuestion bytes → ⊥)) × (text ≡ codes "refused line 1 NotYet\n")
+    IsAsk words
+    × ((bytes : List ℕ) × (line : ℕ) × (what : LineWhat) × ReadsLine bytes before after × IsRefused bytes line what × (text ≡ refusal line what))
 Due words before after SourceFault text = ⊥
 Due words before after SinkFault text = ⊥
 Due words before after NoMemory text = ⊥
@@ -116,3 +104,15 @@ abbrev pub Writes : Status → List ℕ → Status → Option (List ℕ) → ℕ
 Writes status text result old_put old_faults new_put new_faults =
     ((result ≡ status) × (new_put ≡ put_after text old_put) × (new_faults ≡ old_faults))
     ⊎ ((result ≡ SinkFault) × Rose old_faults new_faults × PutsFront text old_put new_put)
+
+-- the report of a message and its response was written, or a front of it, or memory was wanting
+abbrev pub PrintsReport : (message response : List ℕ) → Status → Option (List ℕ) → ℕ → Option (List ℕ) → ℕ → Type 0
+PrintsReport message response result old_put old_faults new_put new_faults =
+    ((text : List ℕ) × ((bytes : List ℕ) → IsQuestion bytes message response → Answers bytes text) × Writes Printed text result old_put old_faults new_put new_faults)
+    ⊎ ((result ≡ NoMemory) × (new_put ≡ old_put) × (new_faults ≡ old_faults))
+
+-- a refusal was written, or a front of it, or memory was wanting
+abbrev pub PrintsRefusal : (line : ℕ) → LineWhat → Status → Option (List ℕ) → ℕ → Option (List ℕ) → ℕ → Type 0
+PrintsRefusal line what result old_put old_faults new_put new_faults =
+    Writes Refused (refusal line what) result old_put old_faults new_put new_faults
+    ⊎ ((result ≡ NoMemory) × (new_put ≡ old_put) × (new_faults ≡ old_faults))

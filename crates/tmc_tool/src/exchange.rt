@@ -11,13 +11,9 @@ ghost use Rattle.usbip_wire.specs.Up as upward;
 ghost use Rattle.usbip_wire.specs.Down as downward;
 ghost use Rattle.tmc_wire.specs.Header.{out_header_bytes, in_header_bytes};
 ghost use Rattle.tmc_wire.specs.Transfer.{OutText, InText};
-ghost use Rattle.instr_plain.specs.declared.plain.Plain.{Plain};
-ghost use Rattle.instr_plain.specs.Standing.{power_on};
-ghost use Rattle.instr_plain.specs.Exec.{Exec, IsMessage};
 ghost use Rattle.tmc_tool.specs.Exchange.{devid, read_size, ask_limit, Crosses, message_header, request_header, response_header, transfer_written, out_submit, in_submit, success, out_answer, in_answer, submits, submits_written, answers, answers_written};
 
 use bytes::BytesMut;
-use instr_plain::Instrument;
 use std::alloc::Global;
 use tmc_base::{BULK_IN_SUBMIT, Memory};
 use tmc_wire::{InHeader, OutHeader, in_bytes, out_bytes};
@@ -41,24 +37,25 @@ pub(crate) const REQUEST_TAG: u8 = 2;
 /// The longest response that is asked for, in bytes.
 pub(crate) const ASK_LIMIT: u32 = 4_000;
 
-/// What crossed the link, in USB/IP messages, and the response.
+/// What crossed the link, in USB/IP messages.
 #[derive(Drop)]
-pub(crate) struct Exchange {
+pub(crate) struct Streams {
     pub(crate) up: BytesMut,
     pub(crate) down: BytesMut,
-    pub(crate) response: Vec<u8>,
 }
 
-/// Runs a query against an instrument at power-on. The message, the request and the read are answered in
-/// turn, and the response is whole.
-pub(crate) fn run_query(alloc: Global, message: &[u8]) -> Result<Exchange, Memory>
-    requires { IsMessage message.now }
-    ensures { IfOk result (λ exchange. Crosses message.now exchange.response.items exchange.up.items exchange.down.items) }
+/// Takes a message and its response over the link. The message, the request and the read are answered in turn,
+/// and the response is whole.
+pub(crate) fn exchange(alloc: Global, message: &[u8], response: &[u8]) -> Result<Streams, Memory>
+    requires some { 0 < length message.now }
+    requires short { length message.now ≤ 1024 }
+    requires answered { 0 < length response.now }
+    requires whole { length response.now ≤ ask_limit }
+    ensures { IfOk result (λ streams. Crosses message.now response.now streams.up.items streams.down.items) }
 {
-    let response = respond(alloc, message)?;
     let told = message_transfer(alloc, message)?;
     let requested = request_transfer(alloc)?;
-    let answered = response_transfer(alloc, &response)?;
+    let answered = response_transfer(alloc, response)?;
     let up = submits(alloc, told.as_slice(), requested.as_slice())?;
     let down = answers(
         alloc,
@@ -66,19 +63,7 @@ pub(crate) fn run_query(alloc: Global, message: &[u8]) -> Result<Exchange, Memor
         requested.as_slice(),
         answered.as_slice(),
     )?;
-    Ok(Exchange { up, down, response })
-}
-
-/// The response of an instrument at power-on.
-fn respond(alloc: Global, message: &[u8]) -> Result<Vec<u8>, Memory>
-    requires { IsMessage message.now }
-    ensures executed { IfOk result (λ response. (state : Plain) × Exec power_on message.now state response.items) }
-    ensures some { IfOk result (λ response. 0 < length response.items) }
-    ensures short { IfOk result (λ response. length response.items ≤ ask_limit) }
-{
-    let mut instrument = Instrument::new(alloc)?;
-    instrument.execute(message)?;
-    Ok(Vec::from_slice(alloc, instrument.response())?)
+    Ok(Streams { up, down })
 }
 
 /// The transfer of a message.

@@ -2,12 +2,16 @@
 
 ghost use Rattle.std.specs.Prelude.{◌≡◌, ◌⊎◌, ◌↔◌, ◌≤◌, ◌∷◌, [], IsTrue, Some, map, List, ℕ, string_bytes, codes};
 ghost use Rattle.tmc_base.specs.Faults.{Rose};
-ghost use Rattle.tmc_tool.specs.Tool.{code_of, IsAsk, IsQuestion, Ends, Writes};
+ghost use Rattle.tmc_tool.specs.Line.{IsAsked, IsQuestion, IsRefused};
+ghost use Rattle.tmc_tool.specs.Tool.{code_of, IsAsk, Ends, Writes, PrintsReport, PrintsRefusal};
+ghost use Rattle.tmc_tool.specs.declared.line.LineWhat.{LineWhat};
 ghost use Rattle.tmc_tool.specs.declared.status.Status.{Status};
 ghost use Rattle.tmc_tool.specs.declared.status.Status.TheVariants.{Printed, Usage, Refused, SourceFault, SinkFault, NoMemory};
 
-use crate::ask::{LINE_MAX, ask, message_of};
+use crate::ask::ask;
+use crate::line::{LINE_MOST, LineFault, LineWhat, answer, first_line, refusal};
 use crate::status::Status;
+use instr_plain::one_response;
 use std::alloc::Global;
 use tmc_base::{Memory, ReadFault, Sink, Source, read_up_to, write_all};
 
@@ -19,7 +23,7 @@ use tmc_base::{Memory, ReadFault, Sink, Source, read_up_to, write_all};
 /// |---|---|---|
 /// | 0 | the source was read to its end, and the text was written whole | the report |
 /// | 1 | the words are not `ask` alone | `usage` |
-/// | 2 | what was read is not a message that the instrument knows, with or without one NL behind it | `refused line 1 NotYet` |
+/// | 2 | a line of the input is refused | `refused line K WHAT` |
 /// | 3 | a read of the source failed | nothing |
 /// | 4 | a write to the sink failed | a front of the text |
 /// | 5 | memory is wanting | nothing |
@@ -34,10 +38,11 @@ pub fn tool_main<S: Source, K: Sink>(
         (record { left = S.left source.new; read_faults = S.faults source.new; put = K.put sink.new; write_faults = K.faults sink.new }) }
     ensures usage { (IsAsk (map string_bytes words.now) → ⊥) → (Rose (K.faults sink.old) (K.faults sink.new) → ⊥) → result ≡ code_of Usage }
     ensures refused { IsAsk (map string_bytes words.now) → (Rose (S.faults source.old) (S.faults source.new) → ⊥) → (Rose (K.faults sink.old) (K.faults sink.new) → ⊥)
-        → (bytes : List ℕ) → S.left source.old ≡ Some bytes → (IsQuestion bytes → ⊥) → (result ≡ code_of Refused) ⊎ (result ≡ code_of NoMemory) }
+        → (bytes : List ℕ) (line : ℕ) (what : LineWhat) → S.left source.old ≡ Some bytes → IsRefused bytes line what → (result ≡ code_of Refused) ⊎ (result ≡ code_of NoMemory) }
     ensures printed { IsAsk (map string_bytes words.now) → (Rose (S.faults source.old) (S.faults source.new) → ⊥) → (Rose (K.faults sink.old) (K.faults sink.new) → ⊥)
-        → (bytes : List ℕ) → S.left source.old ≡ Some bytes → IsQuestion bytes → (result ≡ code_of Printed) ⊎ (result ≡ code_of NoMemory) }
+        → (bytes message response : List ℕ) → S.left source.old ≡ Some bytes → IsQuestion bytes message response → (result ≡ code_of Printed) ⊎ (result ≡ code_of NoMemory) }
 {
+    one_response();
     run(alloc, words, source, sink).code()
 }
 
@@ -68,16 +73,36 @@ fn run_ask<S: Source, K: Sink>(alloc: Global, source: &mut S, sink: &mut K) -> S
         (record { left = S.left source.old; read_faults = S.faults source.old; put = K.put sink.old; write_faults = K.faults sink.old })
         (record { left = S.left source.new; read_faults = S.faults source.new; put = K.put sink.new; write_faults = K.faults sink.new }) }
 {
-    let line = match read_up_to(alloc, source, LINE_MAX) {
+    let line = match read_up_to(alloc, source, LINE_MOST) {
         Ok(line) => line,
         Err(ReadFault::Failed) => return Status::SourceFault,
         Err(ReadFault::Memory) => return Status::NoMemory,
     };
-    let Some(message) = message_of(&line) else {
-        return print(sink, b"refused line 1 NotYet\n", Status::Refused);
-    };
-    match ask(alloc, message) {
+    let (message, behind) = first_line(&line);
+    match answer(alloc, message, behind) {
+        Ok(response) => print_report(alloc, sink, message, &response),
+        Err(LineFault::At { line, what }) => print_refusal(alloc, sink, line, what),
+        Err(LineFault::Memory) => Status::NoMemory,
+    }
+}
+
+/// Asks a message, and prints the report.
+fn print_report<K: Sink>(alloc: Global, sink: &mut K, message: &[u8], response: &[u8]) -> Status
+    requires { IsAsked message.now response.now }
+    ensures { PrintsReport message.now response.now result (K.put sink.old) (K.faults sink.old) (K.put sink.new) (K.faults sink.new) }
+{
+    match ask(alloc, message, response) {
         Ok(text) => print(sink, text.as_bytes(), Status::Printed),
+        Err(Memory) => Status::NoMemory,
+    }
+}
+
+/// Prints that a line is refused.
+fn print_refusal<K: Sink>(alloc: Global, sink: &mut K, line: u32, what: LineWhat) -> Status
+    ensures { PrintsRefusal line what result (K.put sink.old) (K.faults sink.old) (K.put sink.new) (K.faults sink.new) }
+{
+    match refusal(alloc, line, what) {
+        Ok(text) => print(sink, text.as_bytes(), Status::Refused),
         Err(Memory) => Status::NoMemory,
     }
 }

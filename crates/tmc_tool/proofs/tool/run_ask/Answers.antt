@@ -1,20 +1,26 @@
-use Rattle.std.proofs.Common.{subst, sym}
-use Rattle.tmc_tool.specs.Tool.{IsLine, Answers, Outside}
-use Rattle.tmc_tool.proofs.Ending.{text_written, refused_due, printed_due}
+use Rattle.std.proofs.Common.{sym, subst}
+use Rattle.tmc_tool.specs.Line.{IsFirstLine, IsAsked}
+use Rattle.tmc_tool.specs.Judged.{IsWrong, IsRefusal}
+use Rattle.tmc_tool.specs.Tool.{Outside}
+use Rattle.tmc_tool.proofs.Ending.{Reads, report_ends, refusal_ends}
 use Rattle.tmc_tool.proofs.tool.run_ask.Goals as goal
 
-pub returns-in_default : goal.returns-in_default
-returns-in_default g c =
-    text_written _ _ _ _ _ _
-    (refused_due _ _ c.in-Ok.line.items c.in-Ok.ensures.first c.in-Ok.ensures.ended c.in-Ok.ensures.ok_counts (rw c.deref.ensures.value at c.in_default.ensures)) c.print.ensures
-
-pub returns-in-Ok-ask : goal.returns-in-Ok-ask
-returns-in-Ok-ask g c =
-    let known = c.in-Some.ensures.0 in
-    let line : IsLine c.in-Ok.line.items c.in-Some.message.now = rw c.deref.ensures.value at c.in-Some.ensures.1 in
-    let answers = subst (λ text. Answers c.in-Ok.line.items text) (sym c.as_bytes.ensures.value) (c.in-Ok-ask.ensures c.in-Ok.line.items line) in
+pub returns-in-Ok-answer : goal.returns-in-Ok-answer
+returns-in-Ok-answer g c =
     let before : Outside = record { left = g.S.Source.left c.args.source.now; read_faults = g.S.Source.faults c.args.source.now; put = g.K.Sink.put c.args.sink.now; write_faults = g.K.Sink.faults c.args.sink.now } in
-    let after : Outside = record { left = g.S.Source.left c.read_up_to.new.source; read_faults = g.S.Source.faults c.read_up_to.new.source; put = g.K.Sink.put c.print-in-Ok-ask.new.sink; write_faults = g.K.Sink.faults c.print-in-Ok-ask.new.sink } in
-    text_written _ before after _ _ _
-    (printed_due before after c.in-Ok.line.items c.in-Some.message.now _ c.in-Ok.ensures.first c.in-Ok.ensures.ended c.in-Ok.ensures.ok_counts known line answers)
-    c.print-in-Ok-ask.ensures
+    let after : Outside = record { left = g.S.Source.left c.read_up_to.new.source; read_faults = g.S.Source.faults c.read_up_to.new.source; put = g.K.Sink.put c.print_report.new.sink; write_faults = g.K.Sink.faults c.print_report.new.sink } in
+    let reads : Reads c.in-Ok.line.items before after = record { first = c.in-Ok.ensures.first; ended = c.in-Ok.ensures.ended; counts = c.in-Ok.ensures.ok_counts } in
+    let line : IsFirstLine c.in-Ok.line.items c.first_line.result.0.now c.first_line.result.1.now = rw c.deref.ensures.value at c.first_line.ensures in
+    let asked : IsAsked c.first_line.result.0.now c.deref-in-Ok-answer.result.now =
+        subst (λ response. IsAsked c.first_line.result.0.now response) (sym c.deref-in-Ok-answer.ensures.value) c.in-Ok-answer.ensures.asked in
+    report_ends before after _ _ _ _ _ reads line c.in-Ok-answer.ensures.alone asked c.print_report.ensures
+
+pub returns-in-Err-At : goal.returns-in-Err-At
+returns-in-Err-At g c =
+    let before : Outside = record { left = g.S.Source.left c.args.source.now; read_faults = g.S.Source.faults c.args.source.now; put = g.K.Sink.put c.args.sink.now; write_faults = g.K.Sink.faults c.args.sink.now } in
+    let after : Outside = record { left = g.S.Source.left c.read_up_to.new.source; read_faults = g.S.Source.faults c.read_up_to.new.source; put = g.K.Sink.put c.print_refusal.new.sink; write_faults = g.K.Sink.faults c.print_refusal.new.sink } in
+    let reads : Reads c.in-Ok.line.items before after = record { first = c.in-Ok.ensures.first; ended = c.in-Ok.ensures.ended; counts = c.in-Ok.ensures.ok_counts } in
+    let line : IsFirstLine c.in-Ok.line.items c.first_line.result.0.now c.first_line.result.1.now = rw c.deref.ensures.value at c.first_line.ensures in
+    let wrong : IsWrong c.first_line.result.0.now c.first_line.result.1.now c.in-Err-At.line c.in-Err-At.what =
+        subst (λ fault. IsRefusal c.first_line.result.0.now c.first_line.result.1.now fault) c.in-Err-At.field-0-is c.in-Err-At.ensures.refused in
+    refusal_ends before after _ _ _ c.in-Err-At.line c.in-Err-At.what _ reads line wrong (rw (c.in-Err-At.line-is, c.in-Err-At.what-is) at c.print_refusal.ensures)

@@ -1,11 +1,9 @@
 use Rattle.std.proofs.Common.{rules}
-use Rattle.tmc_tool.proofs.exchange.run_query.Goals as goal
+use Rattle.tmc_tool.proofs.exchange.exchange.Goals as goal
 
 pub returns : goal.returns
 returns c = record {
-  state = c.in_ok-response.ensures.executed.0;
   transfers = record { message = c.in_ok-told.told.items; request = c.in_ok-requested.requested.items; response = c.in_ok-answered.answered.items };
-  executed = c.in_ok-response.ensures.executed.1;
   exchanged = record {
     told = c.in_ok-told.ensures.text;
     requested = c.in_ok-requested.ensures.text;

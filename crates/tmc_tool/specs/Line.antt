@@ -1,0 +1,71 @@
+-- the line that `ask` reads, and whether its message can be asked
+use Rattle.std.specs.Prelude.{◌≡◌, ◌⊎◌, ℕ, ◌<◌, ◌≤◌, List, [], ◌∷◌, ◌++◌, length, codes, Contains}
+use Rattle.std.specs.Fmt.{decimal}
+use Rattle.instr_plain.specs.declared.plain.Plain.{Plain}
+use Rattle.instr_plain.specs.Standing.{power_on}
+use Rattle.instr_plain.specs.Exec.{Exec}
+use Rattle.tmc_tool.specs.declared.line.LineWhat.{LineWhat}
+use Rattle.tmc_tool.specs.declared.line.LineWhat.TheVariants.{Words, EmptyMessage, LongMessage, NotYet}
+use Rattle.tmc_tool.specs.Exchange.{ask_limit}
+
+-- the first line of the bytes without its NL, and what stands behind the NL
+pub record IsFirstLine (bytes message behind : List ℕ) : Type 0 where
+  pub pure : Contains message 10 → ⊥
+  pub cut : ((bytes ≡ message) × (behind ≡ [])) ⊎ (bytes ≡ message ++ 10 ∷ behind)
+
+-- the longest program message, and the longest that goes in one transfer
+abbrev pub message_most : ℕ
+message_most = 4096
+
+abbrev pub transfer_most : ℕ
+transfer_most = 1024
+
+-- one byte more than the longest message and its NL: so many bytes tell what is wrong with a line, or that something
+-- stands behind it
+abbrev pub line_most : ℕ
+line_most = 4098
+
+-- from power-on the plain instrument answers this message with this response
+abbrev pub Responds : List ℕ → List ℕ → Type 0
+Responds message response = (state : Plain) × Exec power_on message state response
+
+-- the message goes in one transfer, and its response comes in one read
+pub record IsAsked (message response : List ℕ) : Type 0 where
+  pub some : 0 < length message
+  pub short : length message ≤ transfer_most
+  pub responds : Responds message response
+  pub answered : 0 < length response
+  pub whole : length response ≤ ask_limit
+
+-- the bytes are one line, and its message can be asked
+pub record IsQuestion (bytes message response : List ℕ) : Type 0 where
+  pub line : IsFirstLine bytes message []
+  pub asked : IsAsked message response
+
+-- a message that is no fault of the line, and cannot be asked yet
+abbrev pub IsNotYet : List ℕ → Type 0
+IsNotYet message =
+    (transfer_most < length message)
+    ⊎ ((response : List ℕ) × Responds message response × ((response ≡ []) ⊎ (ask_limit < length response)))
+
+-- the first line of the bytes is refused, by what is wrong with it, or the second for what stands in it
+abbrev pub IsRefused : List ℕ → (line : ℕ) → LineWhat → Type 0
+IsRefused bytes line EmptyMessage = (line ≡ 1) × ((behind : List ℕ) × IsFirstLine bytes [] behind)
+IsRefused bytes line LongMessage =
+    (line ≡ 1) × ((message behind : List ℕ) × IsFirstLine bytes message behind × (message_most < length message))
+IsRefused bytes line NotYet =
+    (line ≡ 1)
+    × ((message behind : List ℕ) × IsFirstLine bytes message behind × (0 < length message) × (length message ≤ message_most) × IsNotYet message)
+IsRefused bytes line Words =
+    (line ≡ 2)
+    × ((message behind response : List ℕ) × IsFirstLine bytes message behind × IsAsked message response × (0 < length behind))
+
+-- the names of what is wrong
+abbrev pub name_of : LineWhat → List ℕ
+name_of Words = codes "Words"
+name_of EmptyMessage = codes "EmptyMessage"
+name_of LongMessage = codes "LongMessage"
+name_of NotYet = codes "NotYet"
+
+abbrev pub refusal : ℕ → LineWhat → List ℕ
+refusal line what = codes "refused line " ++ (decimal line ++ (codes " " ++ (name_of what ++ codes "\n")))
