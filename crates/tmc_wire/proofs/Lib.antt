@@ -1,3 +1,4 @@
 pub mod Sized
 pub mod Cutting
 pub mod Reading
+pub mod Rows

@@ -1,0 +1,131 @@
+ghost use Rattle.std.specs.Prelude.{◌≡◌, ◌%◌, ◌↔◌, Some, None};
+ghost use Rattle.tmc_wire.specs.declared.class_request.ClassRequest.{ClassRequest};
+ghost use Rattle.tmc_wire.specs.ControlTable.{row, IsRow};
+ghost use Rattle.tmc_wire.specs.Candidate.{candidate_of};
+
+use crate::usb488::{GO_TO_LOCAL, LOCAL_LOCKOUT, READ_STATUS_BYTE, REN_CONTROL};
+use crate::usbtmc::{
+    CHECK_ABORT_BULK_IN_STATUS, CHECK_ABORT_BULK_OUT_STATUS, CHECK_CLEAR_STATUS, GET_CAPABILITIES,
+    INDICATOR_PULSE, INITIATE_ABORT_BULK_IN, INITIATE_ABORT_BULK_OUT, INITIATE_CLEAR, OF_ENDPOINT,
+    OF_INTERFACE,
+};
+use usb_setup::{Ends, Setup};
+
+/// A class request on the control endpoint: USBTMC 1.0 section 4.2.1 and USB488 1.0 section 4.3.
+///
+/// A tag is that of the transfer that an abort names, 1 to 255, or that of a status read, 2 to 127; a device
+/// answers any other, 0 among them, with a failure.
+#[derive(Clone, Copy, Debug, PartialEq, Eq)]
+pub enum ClassRequest {
+    /// INITIATE_ABORT_BULK_OUT.
+    AbortOut { tag: u8 },
+    /// CHECK_ABORT_BULK_OUT_STATUS.
+    CheckOut,
+    /// INITIATE_ABORT_BULK_IN.
+    AbortIn { tag: u8 },
+    /// CHECK_ABORT_BULK_IN_STATUS.
+    CheckIn,
+    /// INITIATE_CLEAR.
+    Clear,
+    /// CHECK_CLEAR_STATUS.
+    CheckClear,
+    /// GET_CAPABILITIES.
+    Capabilities,
+    /// INDICATOR_PULSE.
+    Pulse,
+    /// READ_STATUS_BYTE.
+    ReadStatus { tag: u8 },
+    /// REN_CONTROL: remote enable is asserted where `on`.
+    Ren { on: bool },
+    /// GO_TO_LOCAL.
+    GoLocal,
+    /// LOCAL_LOCKOUT.
+    Lockout,
+}
+
+/// The one request that may have a setup with this bRequest and wValue.
+fn candidate(request: u8, value: u16) -> Option<ClassRequest>
+    ensures { result ≡ candidate_of request value }
+{
+    let tag = (value % 256) as u8;
+    match request {
+        INITIATE_ABORT_BULK_OUT => Some(ClassRequest::AbortOut { tag }),
+        CHECK_ABORT_BULK_OUT_STATUS => Some(ClassRequest::CheckOut),
+        INITIATE_ABORT_BULK_IN => Some(ClassRequest::AbortIn { tag }),
+        CHECK_ABORT_BULK_IN_STATUS => Some(ClassRequest::CheckIn),
+        INITIATE_CLEAR => Some(ClassRequest::Clear),
+        CHECK_CLEAR_STATUS => Some(ClassRequest::CheckClear),
+        GET_CAPABILITIES => Some(ClassRequest::Capabilities),
+        INDICATOR_PULSE => Some(ClassRequest::Pulse),
+        READ_STATUS_BYTE => Some(ClassRequest::ReadStatus { tag }),
+        REN_CONTROL => Some(ClassRequest::Ren { on: value == 1 }),
+        GO_TO_LOCAL => Some(ClassRequest::GoLocal),
+        LOCAL_LOCKOUT => Some(ClassRequest::Lockout),
+        _ => None,
+    }
+}
+
+/// The class request of a setup, or `None` where the setup is no row of the table of class requests for these
+/// ends. wLength may be any: a device answers with at most that many bytes.
+pub fn read_class(setup: &Setup, ends: &Ends) -> Option<ClassRequest>
+    ensures some { (request : ClassRequest) →
+        (result ≡ Some request) ↔ IsRow ends.now request setup.now }
+    ensures none { (result ≡ None) ↔ ((request : ClassRequest) → ¬ IsRow ends.now request setup.now) }
+{
+    let request = candidate(setup.request, setup.value)?;
+    let row = class_setup(request, ends);
+    let is_row = setup.request_type == row.request_type
+        && setup.value == row.value
+        && setup.index == row.index;
+    is_row.then_some(request)
+}
+
+/// The setup of a class request: its row of the table for these ends. wIndex is the address of the bulk endpoint
+/// that an abort's request or check is about, and else the interface's number. wLength is the length of the
+/// answer's layout in bytes.
+pub fn class_setup(request: ClassRequest, ends: &Ends) -> Setup
+    ensures { result ≡ row ends.now request }
+{
+    match request {
+        ClassRequest::AbortOut { tag } => {
+            of_endpoint(INITIATE_ABORT_BULK_OUT, u16::from(tag), ends.bulk_out, 2)
+        }
+        ClassRequest::CheckOut => of_endpoint(CHECK_ABORT_BULK_OUT_STATUS, 0, ends.bulk_out, 8),
+        ClassRequest::AbortIn { tag } => {
+            of_endpoint(INITIATE_ABORT_BULK_IN, u16::from(tag), ends.bulk_in, 2)
+        }
+        ClassRequest::CheckIn => of_endpoint(CHECK_ABORT_BULK_IN_STATUS, 0, ends.bulk_in, 8),
+        ClassRequest::Clear => of_interface(INITIATE_CLEAR, 0, ends, 1),
+        ClassRequest::CheckClear => of_interface(CHECK_CLEAR_STATUS, 0, ends, 2),
+        ClassRequest::Capabilities => of_interface(GET_CAPABILITIES, 0, ends, 24),
+        ClassRequest::Pulse => of_interface(INDICATOR_PULSE, 0, ends, 1),
+        ClassRequest::ReadStatus { tag } => of_interface(READ_STATUS_BYTE, u16::from(tag), ends, 3),
+        ClassRequest::Ren { on } => of_interface(REN_CONTROL, u16::from(on), ends, 1),
+        ClassRequest::GoLocal => of_interface(GO_TO_LOCAL, 0, ends, 1),
+        ClassRequest::Lockout => of_interface(LOCAL_LOCKOUT, 0, ends, 1),
+    }
+}
+
+fn of_endpoint(request: u8, value: u16, address: u8, length: u16) -> Setup
+    ensures { result ≡ record { request_type = 0xA2; request = request; value = value; index = address; length = length } }
+{
+    Setup {
+        request_type: OF_ENDPOINT,
+        request,
+        value,
+        index: u16::from(address),
+        length,
+    }
+}
+
+fn of_interface(request: u8, value: u16, ends: &Ends, length: u16) -> Setup
+    ensures { result ≡ record { request_type = 0xA1; request = request; value = value; index = ends.now.interface; length = length } }
+{
+    Setup {
+        request_type: OF_INTERFACE,
+        request,
+        value,
+        index: u16::from(ends.interface),
+        length,
+    }
+}
