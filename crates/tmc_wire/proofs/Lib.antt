@@ -2,3 +2,5 @@ pub mod Sized
 pub mod Cutting
 pub mod Reading
 pub mod Rows
+pub mod Layouts
+pub mod Exact

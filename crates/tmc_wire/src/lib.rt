@@ -1,14 +1,18 @@
 //! Transfers of the USB Test and Measurement Class (USBTMC 1.0) and its subclass USB488 1.0.
 #![tactic(auto)]
 
+mod class_answer;
 mod class_request;
 mod fields;
 mod header;
 mod header_fault;
+mod notify;
 mod usb488;
 mod usbtmc;
 
+pub use class_answer::{ClassAnswer, read_answer};
 pub use class_request::{ClassRequest, class_setup, read_class};
 pub use header::{InHeader, OutHeader, in_bytes, out_bytes, read_in, read_out};
 pub use header_fault::HeaderFault;
+pub use notify::{Notify, read_notify};
 pub use usbtmc::BULK_HEADER;

@@ -38,3 +38,6 @@ pub(crate) const CHECK_CLEAR_STATUS: u8 = 6;
 pub(crate) const GET_CAPABILITIES: u8 = 7;
 
 pub(crate) const INDICATOR_PULSE: u8 = 64;
+
+/// The bytes of an answer to GET_CAPABILITIES: section 4.2.1.8.
+pub(crate) const CAPABILITIES_SIZE: usize = 24;
