@@ -51,7 +51,7 @@ read_proper direction bytes size whole fits small is known tag inverse above = r
   tagged = (tag, fits 1);
   counted = λ other. (above other, small);
   layout = front_twelve bytes whole
-    ∙ ap (λ (i : ℕ). byte bytes 0 ∷ byte bytes 1 ∷ i ∷ byte bytes 3 ∷ byte bytes 4 ∷ byte bytes 5 ∷ byte bytes 6 ∷ byte bytes 7 ∷ byte bytes 8 ∷ byte bytes 9 ∷ byte bytes 10 ∷ byte bytes 11 ∷ []) inverse
-    ∙ ap (λ (s : List ℕ). prefix (byte bytes 0) (byte bytes 1) (byte bytes 3) ++ (s ++ (byte bytes 8 ∷ byte bytes 9 ∷ byte bytes 10 ∷ byte bytes 11 ∷ [])))
+      ∙ ap (λ (i : ℕ). byte bytes 0 ∷ byte bytes 1 ∷ i ∷ byte bytes 3 ∷ byte bytes 4 ∷ byte bytes 5 ∷ byte bytes 6 ∷ byte bytes 7 ∷ byte bytes 8 ∷ byte bytes 9 ∷ byte bytes 10 ∷ byte bytes 11 ∷ []) inverse
+      ∙ ap (λ (s : List ℕ). prefix (byte bytes 0) (byte bytes 1) (byte bytes 3) ++ (s ++ (byte bytes 8 ∷ byte bytes 9 ∷ byte bytes 10 ∷ byte bytes 11 ∷ [])))
       (sym (le_four (byte bytes 4) (byte bytes 5) (byte bytes 6) (byte bytes 7) size (fits 4) (fits 5) (fits 6) (fits 7) is));
 }

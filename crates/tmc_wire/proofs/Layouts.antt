@@ -77,7 +77,7 @@ count_given bytes count long fits small is = record {
   more = drop 8 bytes;
   fits = small;
   layout = front_eight bytes long
-    ∙ ap (λ (xs : List ℕ). byte bytes 0 ∷ byte bytes 1 ∷ byte bytes 2 ∷ byte bytes 3 ∷ (xs ++ drop 8 bytes))
+      ∙ ap (λ (xs : List ℕ). byte bytes 0 ∷ byte bytes 1 ∷ byte bytes 2 ∷ byte bytes 3 ∷ (xs ++ drop 8 bytes))
       (sym (le_four (byte bytes 4) (byte bytes 5) (byte bytes 6) (byte bytes 7) count (fits 4) (fits 5) (fits 6) (fits 7) is));
 }
 

@@ -4,3 +4,4 @@ pub mod Reading
 pub mod Rows
 pub mod Layouts
 pub mod Exact
+pub mod Packets

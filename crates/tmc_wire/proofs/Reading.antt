@@ -24,7 +24,6 @@ one_eom false false a h k = refl
 one_eom true false a h k = absurd (omega arith)
 one_eom false true a h k = absurd (omega arith)
 
-
 byte-is : (xs ys : List ℕ) (k : ℕ) → xs ≡ ys → get_or xs k 0 ≡ get_or ys k 0
 byte-is xs ys k e = ap (λ (l : List ℕ). get_or l k 0) e
 
@@ -75,10 +74,11 @@ message_read bytes fields eom proper small is ends header = (forth, back header)
   where
     forth : answered (Message fields.tag fields.size eom) ≡ Ok header → IsOutHeader header (take header_size bytes)
     forth e = let same : Message fields.tag fields.size eom ≡ header = cc in
-      subst (λ (h : OutHeader). IsOutHeader h (take header_size bytes)) same (sized_of dev_dep_msg_out (HasEom eom) bytes fields proper is (omega arith) ends)
+        subst (λ (h : OutHeader). IsOutHeader h (take header_size bytes)) same (sized_of dev_dep_msg_out (HasEom eom) bytes fields proper is (omega arith) ends)
+
     back : (h : OutHeader) → IsOutHeader h (take header_size bytes) → answered (Message fields.tag fields.size eom) ≡ Ok h
     back (Message tag size mine) k = let a = agrees bytes fields dev_dep_msg_out tag size (HasEom mine) proper small k in
-      let same : eom ≡ mine = one_eom eom mine fields.attributes ends a.by_attributes in cc (a.by_tag, a.by_size)
+        let same : eom ≡ mine = one_eom eom mine fields.attributes ends a.by_attributes in cc (a.by_tag, a.by_size)
     back (Request tag size) k = let a = agrees bytes fields request_dev_dep_msg_in tag size Whatever proper small k in absurd (omega (arith, a.by_msg_id))
     back (Trigger tag) k = absurd (omega (arith, byte-is _ _ 0 (sym proper.layout ∙ k.layout)))
 
@@ -88,7 +88,8 @@ request_read bytes fields proper small is header = (forth, back header)
   where
     forth : answered (Request fields.tag fields.size) ≡ Ok header → IsOutHeader header (take header_size bytes)
     forth e = let same : Request fields.tag fields.size ≡ header = cc in
-      subst (λ (h : OutHeader). IsOutHeader h (take header_size bytes)) same (sized_of request_dev_dep_msg_in Whatever bytes fields proper is (omega arith) tt)
+        subst (λ (h : OutHeader). IsOutHeader h (take header_size bytes)) same (sized_of request_dev_dep_msg_in Whatever bytes fields proper is (omega arith) tt)
+
     back : (h : OutHeader) → IsOutHeader h (take header_size bytes) → answered (Request fields.tag fields.size) ≡ Ok h
     back (Message tag size mine) k = let a = agrees bytes fields dev_dep_msg_out tag size (HasEom mine) proper small k in absurd (omega (arith, a.by_msg_id))
     back (Request tag size) k = let a = agrees bytes fields request_dev_dep_msg_in tag size Whatever proper small k in cc (a.by_tag, a.by_size)

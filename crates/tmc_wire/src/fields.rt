@@ -55,7 +55,7 @@ impl Fields {
             _,
             _,
             _,
-            ..,
+            ..
         ] = bytes
         else {
             return Err(HeaderFault::Length);
