@@ -1,20 +1,14 @@
 -- which request a setup may be by its bRequest and wValue: for the contract of one of the reader's own functions
-use Rattle.std.specs.Prelude.{◌%◌, ℕ, ◌==◌, Option, Some, None, if◌then◌else◌}
+use Rattle.std.specs.Prelude.{◌≡◌, ℕ, Option, Some}
+use Rattle.usb_setup.specs.declared.ends.Ends.{Ends}
 use Rattle.tmc_wire.specs.declared.class_request.ClassRequest.{ClassRequest}
-use Rattle.tmc_wire.specs.declared.class_request.ClassRequest.TheVariants.{AbortOut, CheckOut, AbortIn, CheckIn, Clear, CheckClear, Capabilities, Pulse, ReadStatus, Ren, GoLocal, Lockout}
+use Rattle.tmc_wire.specs.ControlTable.{row, TagFits}
 
-abbrev pub candidate_of : (request value : ℕ) → Option ClassRequest
-candidate_of request value =
-    if request == 1 then Some (AbortOut (value % 256))
-    else if request == 2 then Some CheckOut
-    else if request == 3 then Some (AbortIn (value % 256))
-    else if request == 4 then Some CheckIn
-    else if request == 5 then Some Clear
-    else if request == 6 then Some CheckClear
-    else if request == 7 then Some Capabilities
-    else if request == 64 then Some Pulse
-    else if request == 128 then Some (ReadStatus (value % 256))
-    else if request == 160 then Some (Ren (value == 1))
-    else if request == 161 then Some GoLocal
-    else if request == 162 then Some Lockout
-    else None
+-- the row has this bRequest
+abbrev pub HasCode : ℕ → ClassRequest → Type 0
+HasCode code request = (ends : Ends) → code ≡ (row ends request).request
+
+-- no other request has a row with this bRequest and wValue
+abbrev pub IsOnly : (code value : ℕ) → Option ClassRequest → Type 0
+IsOnly code value answer =
+    (ends : Ends) (request : ClassRequest) → TagFits request → code ≡ (row ends request).request → value ≡ (row ends request).value → answer ≡ Some request

@@ -5,7 +5,7 @@ ghost use Rattle.tmc_wire.specs.ClassAnswer.{answer_length, IsAnswer, IsStatusAl
 ghost use Rattle.tmc_wire.specs.Short.{short_answer};
 
 use crate::ClassRequest;
-use crate::usbtmc::CAPABILITIES_SIZE;
+use crate::usbtmc::CAPABILITIES_ANSWER;
 use tmc_base::{Field, Layer, Name};
 
 /// The answer to a class request: USBTMC 1.0 section 4.2.1 and USB488 1.0 section 4.3.
@@ -125,7 +125,7 @@ fn capabilities(bytes: &[u8]) -> Option<ClassAnswer>
         (length bytes.now < 24)
         (λ answer. HasCapabilities answer bytes.now) }
 {
-    if bytes.len() < CAPABILITIES_SIZE {
+    if bytes.len() < usize::from(CAPABILITIES_ANSWER) {
         return None;
     }
     status_and_second(bytes)

@@ -1,13 +1,16 @@
-ghost use Rattle.std.specs.Prelude.{◌≡◌, ◌%◌, ◌↔◌, Some, None};
+ghost use Rattle.std.specs.Prelude.{◌≡◌, ◌%◌, ◌↔◌, Some, None, IfSome};
 ghost use Rattle.tmc_wire.specs.declared.class_request.ClassRequest.{ClassRequest};
-ghost use Rattle.tmc_wire.specs.ControlTable.{row, IsRow};
-ghost use Rattle.tmc_wire.specs.Candidate.{candidate_of};
+ghost use Rattle.tmc_wire.specs.ControlTable.{row, TagFits, IsRow};
+ghost use Rattle.tmc_wire.specs.Candidate.{HasCode, IsOnly};
 
-use crate::usb488::{GO_TO_LOCAL, LOCAL_LOCKOUT, READ_STATUS_BYTE, REN_CONTROL};
+use crate::usb488::{
+    GO_TO_LOCAL, LOCAL_LOCKOUT, READ_STATUS_ANSWER, READ_STATUS_BYTE, REN_CONTROL,
+};
 use crate::usbtmc::{
-    CHECK_ABORT_BULK_IN_STATUS, CHECK_ABORT_BULK_OUT_STATUS, CHECK_CLEAR_STATUS, GET_CAPABILITIES,
+    ABORT_ANSWER, CAPABILITIES_ANSWER, CHECK_ABORT_ANSWER, CHECK_ABORT_BULK_IN_STATUS,
+    CHECK_ABORT_BULK_OUT_STATUS, CHECK_CLEAR_ANSWER, CHECK_CLEAR_STATUS, GET_CAPABILITIES,
     INDICATOR_PULSE, INITIATE_ABORT_BULK_IN, INITIATE_ABORT_BULK_OUT, INITIATE_CLEAR, OF_ENDPOINT,
-    OF_INTERFACE,
+    OF_INTERFACE, STATUS_ANSWER,
 };
 use usb_setup::{Ends, Setup};
 
@@ -45,7 +48,8 @@ pub enum ClassRequest {
 
 /// The one request that may have a setup with this bRequest and wValue.
 fn candidate(request: u8, value: u16) -> Option<ClassRequest>
-    ensures { result ≡ candidate_of request value }
+    ensures fits { IfSome result (λ found. TagFits found × HasCode request found) }
+    ensures only { IsOnly request value result }
 {
     let tag = (value % 256) as u8;
     match request {
@@ -88,21 +92,46 @@ pub fn class_setup(request: ClassRequest, ends: &Ends) -> Setup
 {
     match request {
         ClassRequest::AbortOut { tag } => {
-            of_endpoint(INITIATE_ABORT_BULK_OUT, u16::from(tag), ends.bulk_out, 2)
+            of_endpoint(
+                INITIATE_ABORT_BULK_OUT,
+                u16::from(tag),
+                ends.bulk_out,
+                ABORT_ANSWER,
+            )
         }
-        ClassRequest::CheckOut => of_endpoint(CHECK_ABORT_BULK_OUT_STATUS, 0, ends.bulk_out, 8),
+        ClassRequest::CheckOut => of_endpoint(
+            CHECK_ABORT_BULK_OUT_STATUS,
+            0,
+            ends.bulk_out,
+            CHECK_ABORT_ANSWER,
+        ),
         ClassRequest::AbortIn { tag } => {
-            of_endpoint(INITIATE_ABORT_BULK_IN, u16::from(tag), ends.bulk_in, 2)
+            of_endpoint(
+                INITIATE_ABORT_BULK_IN,
+                u16::from(tag),
+                ends.bulk_in,
+                ABORT_ANSWER,
+            )
         }
-        ClassRequest::CheckIn => of_endpoint(CHECK_ABORT_BULK_IN_STATUS, 0, ends.bulk_in, 8),
-        ClassRequest::Clear => of_interface(INITIATE_CLEAR, 0, ends, 1),
-        ClassRequest::CheckClear => of_interface(CHECK_CLEAR_STATUS, 0, ends, 2),
-        ClassRequest::Capabilities => of_interface(GET_CAPABILITIES, 0, ends, 24),
-        ClassRequest::Pulse => of_interface(INDICATOR_PULSE, 0, ends, 1),
-        ClassRequest::ReadStatus { tag } => of_interface(READ_STATUS_BYTE, u16::from(tag), ends, 3),
-        ClassRequest::Ren { on } => of_interface(REN_CONTROL, u16::from(on), ends, 1),
-        ClassRequest::GoLocal => of_interface(GO_TO_LOCAL, 0, ends, 1),
-        ClassRequest::Lockout => of_interface(LOCAL_LOCKOUT, 0, ends, 1),
+        ClassRequest::CheckIn => of_endpoint(
+            CHECK_ABORT_BULK_IN_STATUS,
+            0,
+            ends.bulk_in,
+            CHECK_ABORT_ANSWER,
+        ),
+        ClassRequest::Clear => of_interface(INITIATE_CLEAR, 0, ends, STATUS_ANSWER),
+        ClassRequest::CheckClear => of_interface(CHECK_CLEAR_STATUS, 0, ends, CHECK_CLEAR_ANSWER),
+        ClassRequest::Capabilities => of_interface(GET_CAPABILITIES, 0, ends, CAPABILITIES_ANSWER),
+        ClassRequest::Pulse => of_interface(INDICATOR_PULSE, 0, ends, STATUS_ANSWER),
+        ClassRequest::ReadStatus { tag } => of_interface(
+            READ_STATUS_BYTE,
+            u16::from(tag),
+            ends,
+            READ_STATUS_ANSWER,
+        ),
+        ClassRequest::Ren { on } => of_interface(REN_CONTROL, u16::from(on), ends, STATUS_ANSWER),
+        ClassRequest::GoLocal => of_interface(GO_TO_LOCAL, 0, ends, STATUS_ANSWER),
+        ClassRequest::Lockout => of_interface(LOCAL_LOCKOUT, 0, ends, STATUS_ANSWER),
     }
 }
 

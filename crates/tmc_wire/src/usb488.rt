@@ -13,9 +13,11 @@ pub(crate) const GO_TO_LOCAL: u8 = 161;
 
 pub(crate) const LOCAL_LOCKOUT: u8 = 162;
 
-/// bNotify1 of an Interrupt-IN packet with the status byte that READ_STATUS_BYTE with tag 0 would ask for; a
-/// packet's tag is added to it: section 3.4.2.
+/// bNotify1 of an Interrupt-IN packet that READ_STATUS_BYTE asks for is this and the request's tag: section 3.4.2.
 pub(crate) const STATUS_PACKET: u8 = 0x80;
+
+/// The bytes of an answer to READ_STATUS_BYTE: section 4.3.1.
+pub(crate) const READ_STATUS_ANSWER: u16 = 3;
 
 /// bNotify1 of an Interrupt-IN packet by which the device requests service: section 3.4.1.
 pub(crate) const SERVICE_PACKET: u8 = 0x81;

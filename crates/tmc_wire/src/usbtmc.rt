@@ -39,5 +39,18 @@ pub(crate) const GET_CAPABILITIES: u8 = 7;
 
 pub(crate) const INDICATOR_PULSE: u8 = 64;
 
+/// The bytes of an answer that is USBTMC_status alone: sections 4.2.1.6 and 4.2.1.9, and USB488 1.0 sections 4.3.2 to
+/// 4.3.4.
+pub(crate) const STATUS_ANSWER: u16 = 1;
+
+/// The bytes of an answer to the two requests that begin an abort: sections 4.2.1.2 and 4.2.1.4.
+pub(crate) const ABORT_ANSWER: u16 = 2;
+
+/// The bytes of an answer to the two requests that check an abort: sections 4.2.1.3 and 4.2.1.5.
+pub(crate) const CHECK_ABORT_ANSWER: u16 = 8;
+
+/// The bytes of an answer to CHECK_CLEAR_STATUS: section 4.2.1.7.
+pub(crate) const CHECK_CLEAR_ANSWER: u16 = 2;
+
 /// The bytes of an answer to GET_CAPABILITIES: section 4.2.1.8.
-pub(crate) const CAPABILITIES_SIZE: usize = 24;
+pub(crate) const CAPABILITIES_ANSWER: u16 = 24;

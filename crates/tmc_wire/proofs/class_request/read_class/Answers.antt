@@ -2,7 +2,6 @@ use Rattle.std.proofs.Common.{rules, arith, ◌≡◌, Option, Some, None, ℕ, 
 use Rattle.std.proofs.lemmas.Grind.{common_steps}
 use Rattle.tmc_wire.specs.declared.class_request.ClassRequest.{ClassRequest}
 use Rattle.tmc_wire.specs.ControlTable.{row, IsRow}
-use Rattle.tmc_wire.specs.Candidate.{candidate_of}
 use Rattle.tmc_wire.proofs.Rows.{same_request}
 use Rattle.tmc_wire.proofs.class_request.read_class.Goals as goal
 
@@ -11,5 +10,5 @@ returns-clause-some c request = (λ e. grind (arith, common_steps), back)
   where
     back : IsRow c.args.ends.now request c.args.setup.now → c.then_some.result ≡ Some request
     back k =
-        let same : c.in_ok-request.request ≡ request = same_request c.args.ends.now c.args.setup.now request c.in_ok-request.request c.candidate.result k c.candidate.ensures c.in_ok-request.was in
+        let same : c.in_ok-request.request ≡ request = same_request c.args.ends.now c.args.setup.now request c.in_ok-request.request c.candidate.result k c.candidate.ensures.only c.in_ok-request.was in
         grind (arith, common_steps)
