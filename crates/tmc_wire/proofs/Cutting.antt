@@ -1,10 +1,10 @@
 -- the first 12 bytes, one by one
-use Rattle.std.proofs.Common.{◌≡◌, ℕ, zero, suc, ◌+◌, ◌-◌, ◌^◌, ◌<◌, ◌≤◌, ◌≢◌, Bool, true, false, List, [], ◌∷◌, ◌++◌, length, get_or, take, refl, sym, ap, ◌∙◌, arith}
+use Rattle.std.proofs.Common.{◌≡◌, ℕ, zero, suc, ◌-◌, ◌^◌, ◌<◌, ◌≤◌, ◌≢◌, true, List, [], ◌∷◌, ◌++◌, length, get_or, take, refl, sym, ap, ◌∙◌, arith}
 use Rattle.std.specs.Int.{w32, to_le_bytes, from_le_bytes}
 use Rattle.std.proofs.lemmas.Nat.{le_bytes_4}
 use Rattle.tmc_wire.specs.declared.fields.Direction.{Direction}
 use Rattle.tmc_wire.specs.Standard.{trigger}
-use Rattle.tmc_wire.specs.Header.{prefix, sized}
+use Rattle.tmc_wire.specs.Header.{prefix}
 use Rattle.tmc_wire.specs.Fields.{is_known, AreProper}
 
 abbrev byte : List ℕ → ℕ → ℕ

@@ -1,5 +1,5 @@
 -- an answer that its definition allows, where there is one alone, is told exactly
-use Rattle.std.proofs.Common.{◌≡◌, Result, Ok, Err, MatchResult, refl, sym, ap, ◌∙◌, subst}
+use Rattle.std.proofs.Common.{◌≡◌, Result, Ok, Err, MatchResult, ap, subst}
 use Rattle.std.specs.Prelude.{◌↔◌}
 
 pub ok_exactly : {T E : Type 0} (Is : T → Type 0) (Bad : E → Type 0) (r : Result T E) → ((a b : T) → Is a → Is b → a ≡ b) → ((a : T) (e : E) → Is a → Bad e → ⊥)

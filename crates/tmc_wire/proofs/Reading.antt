@@ -1,7 +1,7 @@
 -- a proper header is that header and no other
-use Rattle.std.proofs.Common.{◌≡◌, ℕ, ◌+◌, ◌-◌, ◌%◌, ◌^◌, ◌<◌, ◌≤◌, ◌≢◌, Bool, true, false, List, [], ◌∷◌, ◌++◌, Result, Ok, Err, length, get_or, take, refl, sym, ap, ◌∙◌, subst, arith}
+use Rattle.std.proofs.Common.{◌≡◌, ℕ, ◌^◌, ◌<◌, ◌≢◌, Bool, true, false, List, [], ◌∷◌, ◌++◌, Result, Ok, get_or, take, refl, sym, ap, ◌∙◌, subst, arith}
 use Rattle.std.specs.Prelude.{◌↔◌}
-use Rattle.std.specs.Int.{w32, to_le_bytes, from_le_bytes}
+use Rattle.std.specs.Int.{w32, from_le_bytes}
 use Rattle.std.proofs.lemmas.Nat.{from_le_bytes-to_le_bytes_4}
 use Rattle.tmc_wire.specs.declared.header.OutHeader.{OutHeader}
 use Rattle.tmc_wire.specs.declared.header.OutHeader.TheVariants.{Message, Request, Trigger}
@@ -9,7 +9,7 @@ use Rattle.tmc_wire.specs.declared.header_fault.HeaderFault.{HeaderFault}
 use Rattle.tmc_wire.specs.declared.fields.Fields.{Fields}
 use Rattle.tmc_wire.specs.declared.fields.Direction.TheVariants.{Out}
 use Rattle.tmc_wire.specs.Standard.{header_size, dev_dep_msg_out, request_dev_dep_msg_in, trigger}
-use Rattle.tmc_wire.specs.Header.{prefix, sized, eom_bit, IsSized, IsTagged, HasEom, Whatever, IsOutHeader}
+use Rattle.tmc_wire.specs.Header.{prefix, sized, IsSized, HasEom, Whatever, IsOutHeader}
 use Rattle.tmc_wire.specs.Fields.{AreProper}
 
 abbrev Answer : Type 0

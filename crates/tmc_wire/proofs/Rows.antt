@@ -1,5 +1,5 @@
 -- the only candidate of a row's setup is the row's request
-use Rattle.std.proofs.Common.{◌≡◌, ℕ, Option, Some, None, sym, ap, ◌∙◌}
+use Rattle.std.proofs.Common.{◌≡◌, Option, Some, sym, ap, ◌∙◌}
 use Rattle.usb_setup.specs.declared.setup.Setup.{Setup}
 use Rattle.usb_setup.specs.declared.ends.Ends.{Ends}
 use Rattle.tmc_wire.specs.declared.class_request.ClassRequest.{ClassRequest}

@@ -1,5 +1,5 @@
 -- the fields of a header as they were read: for the contracts of the readers' own functions, no public one
-use Rattle.std.specs.Prelude.{◌≡◌, ◌≢◌, ℕ, ◌<◌, Bool, true, false, List, ◌++◌, take}
+use Rattle.std.specs.Prelude.{◌≡◌, ◌≢◌, ℕ, Bool, true, List, ◌++◌, take}
 use Rattle.tmc_wire.specs.declared.fields.Direction.{Direction}
 use Rattle.tmc_wire.specs.declared.fields.Direction.TheVariants.{Out, In}
 use Rattle.tmc_wire.specs.declared.fields.Fields.{Fields}

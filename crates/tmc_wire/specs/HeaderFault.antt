@@ -1,5 +1,5 @@
 -- why bytes are no bulk header (USBTMC 1.0, section 3.2 and table 1)
-use Rattle.std.specs.Prelude.{◌≡◌, ◌≢◌, ℕ, ◌-◌, ◌<◌, Bool, true, false, ◌||◌, ◌==◌, List, length, slice_index, slice_range}
+use Rattle.std.specs.Prelude.{◌≡◌, ◌≢◌, ℕ, ◌-◌, ◌<◌, Bool, false, ◌||◌, ◌==◌, List, length, slice_index, slice_range}
 use Rattle.std.specs.Int.{w32, from_le_bytes}
 use Rattle.tmc_wire.specs.declared.header_fault.HeaderFault.{HeaderFault}
 use Rattle.tmc_wire.specs.declared.header_fault.HeaderFault.TheVariants.{Length, MsgId, Tag, Inverse, Size}

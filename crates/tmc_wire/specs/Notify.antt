@@ -1,5 +1,5 @@
 -- Interrupt-IN packets: USBTMC 1.0 section 3.4, USB488 1.0 section 3.4
-use Rattle.std.specs.Prelude.{◌≡◌, ℕ, ◌+◌, ◌<◌, ◌≤◌, List, ◌∷◌, length}
+use Rattle.std.specs.Prelude.{◌≡◌, ℕ, ◌+◌, ◌≤◌, List, ◌∷◌, length}
 use Rattle.tmc_wire.specs.declared.notify.Notify.{Notify}
 use Rattle.tmc_wire.specs.declared.notify.Notify.TheVariants.{Status, Service, Other}
 

@@ -1,9 +1,6 @@
-use Rattle.std.proofs.Common.{◌≡◌, Ok, Err, ◌<◌, length, refl, ◌∙◌, sym, arith}
-use Rattle.tmc_base.specs.declared.field.Field.{Field}
-use Rattle.tmc_wire.specs.declared.class_answer.ClassAnswer.{ClassAnswer}
-use Rattle.tmc_wire.specs.ClassAnswer.{answer_length, IsAnswer}
+use Rattle.std.proofs.Common.{Ok, Err, refl}
 use Rattle.tmc_wire.specs.Short.{short_answer}
-use Rattle.tmc_wire.proofs.Layouts.{IsShort, answer_exactly, short_exactly}
+use Rattle.tmc_wire.proofs.Layouts.{answer_exactly, short_exactly}
 use Rattle.tmc_wire.proofs.class_answer.read_answer.Goals as goal
 
 pub returns-in-Some-clause-answer : goal.returns-in-Some-clause-answer

@@ -1,7 +1,6 @@
-use Rattle.std.proofs.Common.{rules, arith, ◌≡◌, Option, Some, None, ℕ, sym, ◌∙◌}
+use Rattle.std.proofs.Common.{arith, ◌≡◌, Some}
 use Rattle.std.proofs.lemmas.Grind.{common_steps}
-use Rattle.tmc_wire.specs.declared.class_request.ClassRequest.{ClassRequest}
-use Rattle.tmc_wire.specs.ControlTable.{row, IsRow}
+use Rattle.tmc_wire.specs.ControlTable.{IsRow}
 use Rattle.tmc_wire.proofs.Rows.{same_request}
 use Rattle.tmc_wire.proofs.class_request.read_class.Goals as goal
 

@@ -1,5 +1,4 @@
-use Rattle.std.proofs.Common.{◌≡◌, ℕ, ◌-◌, ◌<◌, ◌≤◌, Ok, Err, length, get_or, refl, arith, rules}
-use Rattle.tmc_wire.specs.declared.notify.Notify.{Notify}
+use Rattle.std.proofs.Common.{◌≡◌, ◌-◌, ◌<◌, ◌≤◌, Ok, Err, length, get_or, refl, arith, rules}
 use Rattle.tmc_wire.specs.declared.notify.Notify.TheVariants.{Status, Service, Other}
 use Rattle.tmc_wire.specs.Short.{short_packet}
 use Rattle.tmc_wire.proofs.Packets.{packet_exactly, service_packet, status_packet, other_packet}

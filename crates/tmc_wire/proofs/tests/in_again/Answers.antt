@@ -1,4 +1,4 @@
-use Rattle.std.proofs.Common.{◌≡◌, List, ℕ, take, ap}
+use Rattle.std.proofs.Common.{List, ℕ, take, ap}
 use Rattle.tmc_wire.specs.Header.{IsInHeader}
 use Rattle.tmc_wire.specs.Standard.{header_size}
 use Rattle.tmc_wire.proofs.tests.in_again.Goals as goal
