@@ -1,16 +1,16 @@
 ghost use Rattle.std.specs.Prelude.{◌≡◌, ◌%◌, ◌↔◌, Some, None, IfSome};
 ghost use Rattle.tmc_wire.specs.declared.class_request.ClassRequest.{ClassRequest};
-ghost use Rattle.tmc_wire.specs.ControlTable.{row, TagFits, IsRow};
+ghost use Rattle.tmc_wire.specs.ControlTable.{fields, row, TagFits, IsRow};
 ghost use Rattle.tmc_wire.specs.Candidate.{HasCode, IsOnly};
 
 use crate::usb488::{
     GO_TO_LOCAL, LOCAL_LOCKOUT, READ_STATUS_ANSWER, READ_STATUS_BYTE, REN_CONTROL,
 };
 use crate::usbtmc::{
-    ABORT_ANSWER, CAPABILITIES_ANSWER, CHECK_ABORT_ANSWER, CHECK_ABORT_BULK_IN_STATUS,
-    CHECK_ABORT_BULK_OUT_STATUS, CHECK_CLEAR_ANSWER, CHECK_CLEAR_STATUS, GET_CAPABILITIES,
-    INDICATOR_PULSE, INITIATE_ABORT_BULK_IN, INITIATE_ABORT_BULK_OUT, INITIATE_CLEAR, OF_ENDPOINT,
-    OF_INTERFACE, STATUS_ANSWER,
+    ABORT_ANSWER, CAPABILITIES_ANSWER, CHECK_ABORT_BULK_IN_STATUS, CHECK_ABORT_BULK_OUT_STATUS,
+    CHECK_ANSWER, CHECK_CLEAR_ANSWER, CHECK_CLEAR_STATUS, GET_CAPABILITIES, INDICATOR_PULSE,
+    INITIATE_ABORT_BULK_IN, INITIATE_ABORT_BULK_OUT, INITIATE_CLEAR, OF_ENDPOINT, OF_INTERFACE,
+    STATUS_ANSWER,
 };
 use usb_setup::{Ends, Setup};
 
@@ -90,70 +90,47 @@ pub fn read_class(setup: &Setup, ends: &Ends) -> Option<ClassRequest>
 pub fn class_setup(request: ClassRequest, ends: &Ends) -> Setup
     ensures { result ≡ row ends.now request }
 {
+    use ClassRequest::{
+        AbortIn, AbortOut, Capabilities, CheckClear, CheckIn, CheckOut, Clear, GoLocal, Lockout,
+        Pulse, ReadStatus, Ren,
+    };
     match request {
-        ClassRequest::AbortOut { tag } => {
-            of_endpoint(
-                INITIATE_ABORT_BULK_OUT,
-                u16::from(tag),
-                ends.bulk_out,
-                ABORT_ANSWER,
-            )
-        }
-        ClassRequest::CheckOut => of_endpoint(
-            CHECK_ABORT_BULK_OUT_STATUS,
-            0,
-            ends.bulk_out,
-            CHECK_ABORT_ANSWER,
-        ),
-        ClassRequest::AbortIn { tag } => {
-            of_endpoint(
-                INITIATE_ABORT_BULK_IN,
-                u16::from(tag),
-                ends.bulk_in,
-                ABORT_ANSWER,
-            )
-        }
-        ClassRequest::CheckIn => of_endpoint(
-            CHECK_ABORT_BULK_IN_STATUS,
-            0,
-            ends.bulk_in,
-            CHECK_ABORT_ANSWER,
-        ),
-        ClassRequest::Clear => of_interface(INITIATE_CLEAR, 0, ends, STATUS_ANSWER),
-        ClassRequest::CheckClear => of_interface(CHECK_CLEAR_STATUS, 0, ends, CHECK_CLEAR_ANSWER),
-        ClassRequest::Capabilities => of_interface(GET_CAPABILITIES, 0, ends, CAPABILITIES_ANSWER),
-        ClassRequest::Pulse => of_interface(INDICATOR_PULSE, 0, ends, STATUS_ANSWER),
-        ClassRequest::ReadStatus { tag } => of_interface(
-            READ_STATUS_BYTE,
-            u16::from(tag),
-            ends,
-            READ_STATUS_ANSWER,
-        ),
-        ClassRequest::Ren { on } => of_interface(REN_CONTROL, u16::from(on), ends, STATUS_ANSWER),
-        ClassRequest::GoLocal => of_interface(GO_TO_LOCAL, 0, ends, STATUS_ANSWER),
-        ClassRequest::Lockout => of_interface(LOCAL_LOCKOUT, 0, ends, STATUS_ANSWER),
+        AbortOut { tag } => of_endpoint(INITIATE_ABORT_BULK_OUT, tag, ends.bulk_out, ABORT_ANSWER),
+        CheckOut => of_endpoint(CHECK_ABORT_BULK_OUT_STATUS, 0, ends.bulk_out, CHECK_ANSWER),
+        AbortIn { tag } => of_endpoint(INITIATE_ABORT_BULK_IN, tag, ends.bulk_in, ABORT_ANSWER),
+        CheckIn => of_endpoint(CHECK_ABORT_BULK_IN_STATUS, 0, ends.bulk_in, CHECK_ANSWER),
+        Clear => of_interface(INITIATE_CLEAR, 0, ends, STATUS_ANSWER),
+        CheckClear => of_interface(CHECK_CLEAR_STATUS, 0, ends, CHECK_CLEAR_ANSWER),
+        Capabilities => of_interface(GET_CAPABILITIES, 0, ends, CAPABILITIES_ANSWER),
+        Pulse => of_interface(INDICATOR_PULSE, 0, ends, STATUS_ANSWER),
+        ReadStatus { tag } => of_interface(READ_STATUS_BYTE, tag, ends, READ_STATUS_ANSWER),
+        Ren { on } => of_interface(REN_CONTROL, u8::from(on), ends, STATUS_ANSWER),
+        GoLocal => of_interface(GO_TO_LOCAL, 0, ends, STATUS_ANSWER),
+        Lockout => of_interface(LOCAL_LOCKOUT, 0, ends, STATUS_ANSWER),
     }
 }
 
-fn of_endpoint(request: u8, value: u16, address: u8, length: u16) -> Setup
-    ensures { result ≡ record { request_type = 0xA2; request = request; value = value; index = address; length = length } }
+/// A request to the bulk endpoint with this address. `value` is the low byte of wValue.
+fn of_endpoint(request: u8, value: u8, address: u8, length: u16) -> Setup
+    ensures { result ≡ fields 0xA2 request value address length }
 {
     Setup {
         request_type: OF_ENDPOINT,
         request,
-        value,
+        value: u16::from(value),
         index: u16::from(address),
         length,
     }
 }
 
-fn of_interface(request: u8, value: u16, ends: &Ends, length: u16) -> Setup
-    ensures { result ≡ record { request_type = 0xA1; request = request; value = value; index = ends.now.interface; length = length } }
+/// A request to the interface. `value` is the low byte of wValue.
+fn of_interface(request: u8, value: u8, ends: &Ends, length: u16) -> Setup
+    ensures { result ≡ fields 0xA1 request value ends.now.interface length }
 {
     Setup {
         request_type: OF_INTERFACE,
         request,
-        value,
+        value: u16::from(value),
         index: u16::from(ends.interface),
         length,
     }

@@ -24,12 +24,14 @@ pub enum OutHeader {
     Trigger { tag: u8 },
 }
 
-/// The header of a Bulk-IN transfer, DEV_DEP_MSG_IN (USBTMC 1.0, section 3.3): `size` bytes of the
-/// response to the request with this tag follow, and with `eom` they end it.
+/// The header of a Bulk-IN transfer, DEV_DEP_MSG_IN (USBTMC 1.0, section 3.3).
 #[derive(Clone, Copy, Debug, PartialEq, Eq)]
 pub struct InHeader {
+    /// bTag of the request that is answered, 1 to 255.
     pub tag: u8,
+    /// TransferSize: how many bytes of data follow, at least 1.
     pub size: u32,
+    /// Whether the last of them ends the message.
     pub eom: bool,
 }
 

@@ -88,97 +88,73 @@ fn written_headers(rt: HostRuntime) {
     assert_eq!(rt; in_again(response), Ok(response));
 }
 
-/// The bytes of a transfer, and what they are as one to the device and as one from it.
-type Transfer<'a> = (
-    &'a [u8],
-    Result<OutHeader, HeaderFault>,
-    Result<InHeader, HeaderFault>,
-);
+const MESSAGE: OutHeader = OutHeader::Message {
+    tag: 5,
+    size: 4,
+    eom: true,
+};
+
+const TRIGGER: OutHeader = OutHeader::Trigger { tag: 5 };
+
+const REQUEST: OutHeader = OutHeader::Request { tag: 5, size: 256 };
+
+const RESPONSE: InHeader = InHeader {
+    tag: 5,
+    size: 256,
+    eom: true,
+};
 
 #[test]
-fn headers_and_their_faults(rt: HostRuntime) {
-    let message = OutHeader::Message {
-        tag: 5,
-        size: 4,
-        eom: true,
-    };
-    let request = OutHeader::Request { tag: 5, size: 256 };
-    let response = InHeader {
-        tag: 5,
-        size: 256,
-        eom: true,
-    };
+fn headers_read(rt: HostRuntime) {
     let foreign = Err(HeaderFault::MsgId);
-    let cases: [Transfer; 14] = [
-        (b"\x01\x05\xFA\0\x04\0\0\0\x01\0\0\0", Ok(message), foreign),
+    let cases: [(
+        &[u8],
+        Result<OutHeader, HeaderFault>,
+        Result<InHeader, HeaderFault>,
+    ); 4] = [
+        (b"\x01\x05\xFA\0\x04\0\0\0\x01\0\0\0", Ok(MESSAGE), foreign),
         // reserved bytes and unknown attributes
         (
             b"\x01\x05\xFA\xFF\x04\0\0\0\xFF\xAA\xBB\xCC",
-            Ok(message),
+            Ok(MESSAGE),
             foreign,
         ),
         (
             b"\x80\x05\xFA\x7F\0\0\0\0\x01\x02\x03\x04",
-            Ok(OutHeader::Trigger { tag: 5 }),
+            Ok(TRIGGER),
             foreign,
         ),
         // with data behind the header
         (
             b"\x02\x05\xFA\0\0\x01\0\0\x03\0\0\x99\x98",
-            Ok(request),
-            Ok(response),
-        ),
-        (
-            b"\0\x05\xFA\0\x04\0\0\0\x01\0\0\0",
-            Err(HeaderFault::MsgId),
-            foreign,
-        ),
-        (
-            b"\x02\0\xFF\0\x04\0\0\0\x01\0\0\0",
-            Err(HeaderFault::Tag),
-            Err(HeaderFault::Tag),
-        ),
-        (
-            b"\x02\x05\xFB\0\x04\0\0\0\x01\0\0\0",
-            Err(HeaderFault::Inverse),
-            Err(HeaderFault::Inverse),
-        ),
-        (
-            b"\x02\x05\xFA\0\0\0\0\0\x01\0\0\0",
-            Err(HeaderFault::Size),
-            Err(HeaderFault::Size),
-        ),
-        (
-            b"\x02\x05\xFA\0\x04\0\0\0\x01\0\0",
-            Err(HeaderFault::Length),
-            Err(HeaderFault::Length),
-        ),
-        (b"", Err(HeaderFault::Length), Err(HeaderFault::Length)),
-        // each fault before those behind it
-        (
-            b"\0\0\0\0\0\0\0\0\0\0\0",
-            Err(HeaderFault::Length),
-            Err(HeaderFault::Length),
-        ),
-        (
-            b"\0\0\0\0\0\0\0\0\0\0\0\0",
-            Err(HeaderFault::MsgId),
-            foreign,
-        ),
-        (
-            b"\x02\0\0\0\0\0\0\0\0\0\0\0",
-            Err(HeaderFault::Tag),
-            Err(HeaderFault::Tag),
-        ),
-        (
-            b"\x02\x05\0\0\0\0\0\0\0\0\0\0",
-            Err(HeaderFault::Inverse),
-            Err(HeaderFault::Inverse),
+            Ok(REQUEST),
+            Ok(RESPONSE),
         ),
     ];
     for (bytes, out, response) in cases {
         assert_eq!(rt; read_out(bytes), out, "{bytes:?}");
         assert_eq!(rt; read_in(bytes), response, "{bytes:?}");
+    }
+}
+
+#[test]
+fn headers_with_a_fault(rt: HostRuntime) {
+    let cases: [(&[u8], HeaderFault); 10] = [
+        (b"\0\x05\xFA\0\x04\0\0\0\x01\0\0\0", HeaderFault::MsgId),
+        (b"\x02\0\xFF\0\x04\0\0\0\x01\0\0\0", HeaderFault::Tag),
+        (b"\x02\x05\xFB\0\x04\0\0\0\x01\0\0\0", HeaderFault::Inverse),
+        (b"\x02\x05\xFA\0\0\0\0\0\x01\0\0\0", HeaderFault::Size),
+        (b"\x02\x05\xFA\0\x04\0\0\0\x01\0\0", HeaderFault::Length),
+        (b"", HeaderFault::Length),
+        // each fault before those behind it
+        (b"\0\0\0\0\0\0\0\0\0\0\0", HeaderFault::Length),
+        (b"\0\0\0\0\0\0\0\0\0\0\0\0", HeaderFault::MsgId),
+        (b"\x02\0\0\0\0\0\0\0\0\0\0\0", HeaderFault::Tag),
+        (b"\x02\x05\0\0\0\0\0\0\0\0\0\0", HeaderFault::Inverse),
+    ];
+    for (bytes, fault) in cases {
+        assert_eq!(rt; read_out(bytes), Err(fault), "{bytes:?}");
+        assert_eq!(rt; read_in(bytes), Err(fault), "{bytes:?}");
     }
 }
 
@@ -201,118 +177,47 @@ fn texts_of_faults(rt: HostRuntime) -> Result<(), Fail> {
     Ok(())
 }
 
-/// A request, its setup for the instrument's ends, wIndex for others, an answer with one byte more than its layout,
-/// and what the answer says.
-type Row<'a> = (ClassRequest, [u8; 8], u16, &'a [u8], ClassAnswer);
-
-const fn answer(status: u8, second: u8, bytes: u32) -> ClassAnswer
-    ensures { result ≡ record { status = status; second = second; bytes = bytes } }
-{
-    ClassAnswer {
-        status,
-        second,
-        bytes,
-    }
-}
+/// A request, its setup for the instrument's ends, and wIndex of its setup for others.
+const SETUPS: [(ClassRequest, [u8; 8], u16); 13] = [
+    (
+        ClassRequest::AbortOut { tag: 7 },
+        [0xA2, 1, 7, 0, 0x01, 0, 2, 0],
+        0x05,
+    ),
+    (ClassRequest::CheckOut, [0xA2, 2, 0, 0, 0x01, 0, 8, 0], 0x05),
+    (
+        ClassRequest::AbortIn { tag: 255 },
+        [0xA2, 3, 255, 0, 0x82, 0, 2, 0],
+        0x86,
+    ),
+    (ClassRequest::CheckIn, [0xA2, 4, 0, 0, 0x82, 0, 8, 0], 0x86),
+    (ClassRequest::Clear, [0xA1, 5, 0, 0, 0, 0, 1, 0], 3),
+    (ClassRequest::CheckClear, [0xA1, 6, 0, 0, 0, 0, 2, 0], 3),
+    (ClassRequest::Capabilities, [0xA1, 7, 0, 0, 0, 0, 24, 0], 3),
+    (ClassRequest::Pulse, [0xA1, 64, 0, 0, 0, 0, 1, 0], 3),
+    (
+        ClassRequest::ReadStatus { tag: 2 },
+        [0xA1, 128, 2, 0, 0, 0, 3, 0],
+        3,
+    ),
+    (
+        ClassRequest::Ren { on: true },
+        [0xA1, 160, 1, 0, 0, 0, 1, 0],
+        3,
+    ),
+    (
+        ClassRequest::Ren { on: false },
+        [0xA1, 160, 0, 0, 0, 0, 1, 0],
+        3,
+    ),
+    (ClassRequest::GoLocal, [0xA1, 161, 0, 0, 0, 0, 1, 0], 3),
+    (ClassRequest::Lockout, [0xA1, 162, 0, 0, 0, 0, 1, 0], 3),
+];
 
 #[test]
 fn class_requests_both_ways(rt: HostRuntime) {
     requests_are_read_again();
-    let capabilities = b"\x01\0\0\x01\x04\0\0\0\0\0\0\0\0\x01\x07\x07\0\0\0\0\0\0\0\0\xEE";
-    let rows: [Row; 13] = [
-        (
-            ClassRequest::AbortOut { tag: 7 },
-            [0xA2, 1, 7, 0, 0x01, 0, 2, 0],
-            5,
-            b"\x01\x07\xEE",
-            answer(1, 7, 0),
-        ),
-        (
-            ClassRequest::CheckOut,
-            [0xA2, 2, 0, 0, 0x01, 0, 8, 0],
-            5,
-            b"\x01\0\0\0\x78\x56\x34\x12\xEE",
-            answer(1, 0, 0x1234_5678),
-        ),
-        (
-            ClassRequest::AbortIn { tag: 255 },
-            [0xA2, 3, 255, 0, 0x82, 0, 2, 0],
-            0x86,
-            b"\x81\x09\xEE",
-            answer(0x81, 9, 0),
-        ),
-        (
-            ClassRequest::CheckIn,
-            [0xA2, 4, 0, 0, 0x82, 0, 8, 0],
-            0x86,
-            b"\x02\x01\0\0\x04\x03\x02\xFF\xEE",
-            answer(2, 1, 0xFF02_0304),
-        ),
-        (
-            ClassRequest::Clear,
-            [0xA1, 5, 0, 0, 0, 0, 1, 0],
-            3,
-            b"\x01\xEE",
-            answer(1, 0, 0),
-        ),
-        (
-            ClassRequest::CheckClear,
-            [0xA1, 6, 0, 0, 0, 0, 2, 0],
-            3,
-            b"\x02\x01\xEE",
-            answer(2, 1, 0),
-        ),
-        (
-            ClassRequest::Capabilities,
-            [0xA1, 7, 0, 0, 0, 0, 24, 0],
-            3,
-            capabilities,
-            answer(1, 0, 0),
-        ),
-        (
-            ClassRequest::Pulse,
-            [0xA1, 64, 0, 0, 0, 0, 1, 0],
-            3,
-            b"\x01\xEE",
-            answer(1, 0, 0),
-        ),
-        (
-            ClassRequest::ReadStatus { tag: 2 },
-            [0xA1, 128, 2, 0, 0, 0, 3, 0],
-            3,
-            b"\x01\x02\x40\xEE",
-            answer(1, 2, 0x40),
-        ),
-        (
-            ClassRequest::Ren { on: true },
-            [0xA1, 160, 1, 0, 0, 0, 1, 0],
-            3,
-            b"\x80\xEE",
-            answer(0x80, 0, 0),
-        ),
-        (
-            ClassRequest::Ren { on: false },
-            [0xA1, 160, 0, 0, 0, 0, 1, 0],
-            3,
-            b"\x01\xEE",
-            answer(1, 0, 0),
-        ),
-        (
-            ClassRequest::GoLocal,
-            [0xA1, 161, 0, 0, 0, 0, 1, 0],
-            3,
-            b"\x01\xEE",
-            answer(1, 0, 0),
-        ),
-        (
-            ClassRequest::Lockout,
-            [0xA1, 162, 0, 0, 0, 0, 1, 0],
-            3,
-            b"\x83\xEE",
-            answer(0x83, 0, 0),
-        ),
-    ];
-    for (request, bytes, index, answered, want) in rows {
+    for (request, bytes, index) in SETUPS {
         let setup = Setup::from_bytes(bytes);
         let other = Setup { index, ..setup };
         assert_eq!(rt; class_setup(request, &OWN), setup);
@@ -331,36 +236,79 @@ fn class_requests_both_ways(rt: HostRuntime) {
             ),
             Some(request)
         );
-        assert_eq!(rt;
-            read_class(
-                &Setup {
-                    request_type: 0x21,
-                    ..setup
-                },
-                &OWN
-            ),
-            None
-        );
-        assert_eq!(rt;
-            read_class(
-                &Setup {
-                    value: 0x0100,
-                    ..setup
-                },
-                &OWN
-            ),
-            None
-        );
-        assert_eq!(rt; read_answer(request, answered), Ok(want));
-        let [front @ .., _, _] = answered else {
+    }
+}
+
+/// A request, an answer to it with one byte behind it, and the answer's status, second byte and number.
+const ANSWERS: [(ClassRequest, &[u8], u8, u8, u32); 12] = [
+    (
+        ClassRequest::AbortOut { tag: 7 },
+        b"\x01\x07\xEE",
+        0x01,
+        7,
+        0,
+    ),
+    (
+        ClassRequest::CheckOut,
+        b"\x01\0\0\0\x78\x56\x34\x12\xEE",
+        0x01,
+        0,
+        0x1234_5678,
+    ),
+    (
+        ClassRequest::AbortIn { tag: 8 },
+        b"\x81\x09\xEE",
+        0x81,
+        9,
+        0,
+    ),
+    (
+        ClassRequest::CheckIn,
+        b"\x02\x01\0\0\x04\x03\x02\xFF\xEE",
+        0x02,
+        1,
+        0xFF02_0304,
+    ),
+    (ClassRequest::Clear, b"\x01\xEE", 0x01, 0, 0),
+    (ClassRequest::CheckClear, b"\x02\x01\xEE", 0x02, 1, 0),
+    (
+        ClassRequest::Capabilities,
+        b"\x01\0\0\x01\x04\0\0\0\0\0\0\0\0\x01\x07\x07\0\0\0\0\0\0\0\0\xEE",
+        0x01,
+        0,
+        0,
+    ),
+    (ClassRequest::Pulse, b"\x01\xEE", 0x01, 0, 0),
+    (
+        ClassRequest::ReadStatus { tag: 2 },
+        b"\x01\x02\x40\xEE",
+        0x01,
+        2,
+        0x40,
+    ),
+    (ClassRequest::Ren { on: true }, b"\x80\xEE", 0x80, 0, 0),
+    (ClassRequest::GoLocal, b"\x01\xEE", 0x01, 0, 0),
+    (ClassRequest::Lockout, b"\x83\xEE", 0x83, 0, 0),
+];
+
+#[test]
+fn answers_and_those_one_byte_short(rt: HostRuntime) {
+    for (request, bytes, status, second, count) in ANSWERS {
+        let want = ClassAnswer {
+            status,
+            second,
+            bytes: count,
+        };
+        assert_eq!(rt; read_answer(request, bytes), Ok(want), "{request:?}");
+        let [front @ .., _, _] = bytes else {
             panic!(rt; "no byte behind the answer to {request:?}");
         };
         let short = Field {
             layer: Layer::Control,
             name: Name::Length,
-            offset: u32::from(setup.length.saturating_sub(1)),
+            offset: u32::try_from(front.len()).unwrap_or(u32::MAX),
         };
-        assert_eq!(rt; read_answer(request, front), Err(short));
+        assert_eq!(rt; read_answer(request, front), Err(short), "{request:?}");
     }
 }
 
@@ -371,6 +319,9 @@ fn setups_of_no_class_request(rt: HostRuntime) {
         [0xA1, 8, 0, 0, 0, 0, 1, 0],
         [0xA1, 160, 2, 0, 0, 0, 1, 0],
         [0xA1, 5, 1, 0, 0, 0, 1, 0],
+        [0x21, 5, 0, 0, 0, 0, 1, 0],
+        [0xA1, 7, 0, 1, 0, 0, 24, 0],
+        [0xA1, 128, 7, 1, 0, 0, 3, 0],
         [0xA1, 1, 7, 0, 0x01, 0, 2, 0],
         [0xA2, 1, 7, 0, 0x82, 0, 2, 0],
         [0x80, 6, 0, 1, 0, 0, 18, 0],

@@ -47,7 +47,7 @@ pub(crate) const STATUS_ANSWER: u16 = 1;
 pub(crate) const ABORT_ANSWER: u16 = 2;
 
 /// The bytes of an answer to the two requests that check an abort: sections 4.2.1.3 and 4.2.1.5.
-pub(crate) const CHECK_ABORT_ANSWER: u16 = 8;
+pub(crate) const CHECK_ANSWER: u16 = 8;
 
 /// The bytes of an answer to CHECK_CLEAR_STATUS: section 4.2.1.7.
 pub(crate) const CHECK_CLEAR_ANSWER: u16 = 2;
