@@ -26,7 +26,8 @@ pub fn headers_are_read_again()
         IsInHeader header bytes → IsInHeader header (take header_size (bytes ++ more)) }
 {}
 
-/// The law that a reader's fields, each at its offset, are those of the layout that headers are written by.
+/// The law that a reader's fields, each at its offset, are those of the layout that headers are written by,
+/// whatever follows them.
 pub fn header_offsets_are_laid_out()
     ensures msg_id { (msg_id tag reserved : ℕ) (more : List ℕ) →
         MsgID (prefix msg_id tag reserved ++ more) ≡ msg_id }
@@ -34,8 +35,9 @@ pub fn header_offsets_are_laid_out()
         bTag (prefix msg_id tag reserved ++ more) ≡ tag }
     ensures inverse { (msg_id tag reserved : ℕ) (more : List ℕ) →
         bTagInverse (prefix msg_id tag reserved ++ more) ≡ 255 - tag }
-    ensures size { (msg_id tag reserved size attributes ninth tenth eleventh : ℕ) → size < 2 ^ 32 →
-        TransferSize (prefix msg_id tag reserved ++ sized size attributes ninth tenth eleventh) ≡ size }
+    ensures size { (msg_id tag reserved size attributes ninth tenth eleventh : ℕ) (more : List ℕ) →
+        size < 2 ^ 32 → TransferSize
+        (prefix msg_id tag reserved ++ sized size attributes ninth tenth eleventh ++ more) ≡ size }
 {}
 
 /// The laws of the table of class requests, for any ends. A request's row is that request and no other, so

@@ -1,4 +1,9 @@
-//! Transfers of the USB Test and Measurement Class (USBTMC 1.0) and its subclass USB488 1.0.
+//! The USB Test and Measurement Class (USBTMC 1.0) and its subclass USB488 1.0, on the wire.
+//!
+//! [`out_bytes`] and [`read_out`], [`in_bytes`] and [`read_in`] write and read bulk headers by one relation, and
+//! what was written is read again. [`class_setup`] and [`read_class`] go by one table of class requests,
+//! [`read_answer`] by the layouts of their answers. [`read_notify`] reads Interrupt-IN packets. Nothing here takes
+//! memory.
 #![tactic(auto)]
 
 mod class_answer;
