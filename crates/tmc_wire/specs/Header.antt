@@ -4,7 +4,7 @@ use Rattle.std.specs.Int.{w32, to_le_bytes}
 use Rattle.tmc_wire.specs.declared.header.OutHeader.{OutHeader}
 use Rattle.tmc_wire.specs.declared.header.OutHeader.TheVariants.{Message, Request, Trigger}
 use Rattle.tmc_wire.specs.declared.header.InHeader.{InHeader}
-use Rattle.tmc_wire.specs.declared.header.TheConstants.{DEV_DEP_MSG_OUT, REQUEST_DEV_DEP_MSG_IN, DEV_DEP_MSG_IN, TRIGGER}
+use Rattle.tmc_wire.specs.Standard.{dev_dep_msg_out, request_dev_dep_msg_in, dev_dep_msg_in, trigger}
 
 -- MsgID, bTag, bTagInverse, which is the one's complement of bTag, and a reserved byte
 abbrev pub prefix : (msg_id tag reserved : ℕ) → List ℕ
@@ -57,13 +57,13 @@ Whatever attributes = Unit {0}
 
 -- these 12 bytes are this header of a Bulk-OUT transfer
 abbrev pub IsOutHeader : OutHeader → List ℕ → Type 0
-IsOutHeader (Message tag size eom) bytes = IsSized DEV_DEP_MSG_OUT tag size (HasEom eom) bytes
-IsOutHeader (Request tag size) bytes = IsSized REQUEST_DEV_DEP_MSG_IN tag size Whatever bytes
-IsOutHeader (Trigger tag) bytes = IsTagged TRIGGER tag bytes
+IsOutHeader (Message tag size eom) bytes = IsSized dev_dep_msg_out tag size (HasEom eom) bytes
+IsOutHeader (Request tag size) bytes = IsSized request_dev_dep_msg_in tag size Whatever bytes
+IsOutHeader (Trigger tag) bytes = IsTagged trigger tag bytes
 
 -- these 12 bytes are this header of a Bulk-IN transfer
 abbrev pub IsInHeader : InHeader → List ℕ → Type 0
-IsInHeader header bytes = IsSized DEV_DEP_MSG_IN header.tag header.size (HasEom header.eom) bytes
+IsInHeader header bytes = IsSized dev_dep_msg_in header.tag header.size (HasEom header.eom) bytes
 
 -- a header that can be written: its tag is not 0, and its size, where it has one, is above 0
 abbrev pub IsOutProper : OutHeader → Type 0
@@ -76,9 +76,9 @@ IsInProper header = (0 < header.tag) × (0 < header.size)
 
 -- the headers as this product writes them, with 0 in what they do not use
 unfoldable pub out_header_bytes : OutHeader → List ℕ
-out_header_bytes (Message tag size eom) = prefix DEV_DEP_MSG_OUT tag 0 ++ sized size (eom_bit eom) 0 0 0
-out_header_bytes (Request tag size) = prefix REQUEST_DEV_DEP_MSG_IN tag 0 ++ sized size 0 0 0 0
-out_header_bytes (Trigger tag) = prefix TRIGGER tag 0 ++ (0 ∷ 0 ∷ 0 ∷ 0 ∷ 0 ∷ 0 ∷ 0 ∷ 0 ∷ [])
+out_header_bytes (Message tag size eom) = prefix dev_dep_msg_out tag 0 ++ sized size (eom_bit eom) 0 0 0
+out_header_bytes (Request tag size) = prefix request_dev_dep_msg_in tag 0 ++ sized size 0 0 0 0
+out_header_bytes (Trigger tag) = prefix trigger tag 0 ++ (0 ∷ 0 ∷ 0 ∷ 0 ∷ 0 ∷ 0 ∷ 0 ∷ 0 ∷ [])
 
 unfoldable pub in_header_bytes : InHeader → List ℕ
-in_header_bytes header = prefix DEV_DEP_MSG_IN header.tag 0 ++ sized header.size (eom_bit header.eom) 0 0 0
+in_header_bytes header = prefix dev_dep_msg_in header.tag 0 ++ sized header.size (eom_bit header.eom) 0 0 0

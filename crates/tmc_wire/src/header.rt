@@ -1,20 +1,15 @@
-ghost use Rattle.std.specs.Prelude.{◌≡◌, ◌++◌};
+ghost use Rattle.std.specs.Prelude.{◌≡◌, ◌++◌, ◌↔◌, Ok, Err, take};
+ghost use Rattle.tmc_wire.specs.declared.header.OutHeader.{OutHeader};
+ghost use Rattle.tmc_wire.specs.declared.header.InHeader.{InHeader};
+ghost use Rattle.tmc_wire.specs.declared.header_fault.HeaderFault.{HeaderFault};
+ghost use Rattle.tmc_wire.specs.Standard.{header_size};
 ghost use Rattle.tmc_wire.specs.Header.{IsOutHeader, IsInHeader, IsOutProper, IsInProper, out_header_bytes, in_header_bytes, prefix, sized};
+ghost use Rattle.tmc_wire.specs.HeaderFault.{IsOutFault, IsInFault};
 
-/// The bytes of a bulk header.
-pub const BULK_HEADER: usize = 12;
-
-/// MsgID of a message to the device (USBTMC 1.0, table 2).
-pub(crate) const DEV_DEP_MSG_OUT: u8 = 1;
-
-/// MsgID of a request of a message from the device.
-pub(crate) const REQUEST_DEV_DEP_MSG_IN: u8 = 2;
-
-/// MsgID of a message from the device.
-pub(crate) const DEV_DEP_MSG_IN: u8 = 2;
-
-/// MsgID of a trigger (USB488 1.0, table 1).
-pub(crate) const TRIGGER: u8 = 128;
+use crate::HeaderFault;
+use crate::fields::{Direction, Fields};
+use crate::usb488::TRIGGER;
+use crate::usbtmc::{DEV_DEP_MSG_IN, DEV_DEP_MSG_OUT, REQUEST_DEV_DEP_MSG_IN};
 
 /// The header of a Bulk-OUT transfer (USBTMC 1.0, section 3.2; USB488 1.0, section 3.2.1).
 ///
@@ -29,12 +24,14 @@ pub enum OutHeader {
     Trigger { tag: u8 },
 }
 
-/// The header of a Bulk-IN transfer, DEV_DEP_MSG_IN (USBTMC 1.0, section 3.3): `size` bytes of the
-/// response to the request with this tag follow, and with `eom` they end it.
+/// The header of a Bulk-IN transfer, DEV_DEP_MSG_IN (USBTMC 1.0, section 3.3).
 #[derive(Clone, Copy, Debug, PartialEq, Eq)]
 pub struct InHeader {
+    /// bTag of the request that is answered, 1 to 255.
     pub tag: u8,
+    /// TransferSize: how many bytes of data follow, at least 1.
     pub size: u32,
+    /// Whether the last of them ends the message.
     pub eom: bool,
 }
 
@@ -75,4 +72,48 @@ pub fn in_bytes(header: InHeader) -> [u8; 12]
         header.size,
         u8::from(header.eom),
     )
+}
+
+/// The header that the first 12 bytes of a Bulk-OUT transfer are; what follows them is not looked at. TransferSize
+/// is little-endian. Reserved bytes and the other bits of the attributes may hold anything.
+///
+/// # Errors
+///
+/// The first that holds of `Length`, `MsgId`, `Tag`, `Inverse` and `Size`. A trigger has no size.
+pub fn read_out(bytes: &[u8]) -> Result<OutHeader, HeaderFault>
+    ensures header { (header : OutHeader) →
+        (result ≡ Ok header) ↔ IsOutHeader header (take header_size bytes.now) }
+    ensures fault { (fault : HeaderFault) → (result ≡ Err fault) ↔ IsOutFault bytes.now fault }
+{
+    let fields = Fields::read(bytes, Direction::Out)?;
+    let tag = fields.tag;
+    let size = fields.size;
+    Ok(match fields.msg_id {
+        DEV_DEP_MSG_OUT => OutHeader::Message {
+            tag,
+            size,
+            eom: fields.ends_message(),
+        },
+        REQUEST_DEV_DEP_MSG_IN => OutHeader::Request { tag, size },
+        _ => OutHeader::Trigger { tag },
+    })
+}
+
+/// The header that the first 12 bytes of a Bulk-IN transfer are; what follows them is not looked at. TransferSize
+/// is little-endian. Reserved bytes and the other bits of the attributes may hold anything.
+///
+/// # Errors
+///
+/// The first that holds of `Length`, `MsgId`, `Tag`, `Inverse` and `Size`.
+pub fn read_in(bytes: &[u8]) -> Result<InHeader, HeaderFault>
+    ensures header { (header : InHeader) →
+        (result ≡ Ok header) ↔ IsInHeader header (take header_size bytes.now) }
+    ensures fault { (fault : HeaderFault) → (result ≡ Err fault) ↔ IsInFault bytes.now fault }
+{
+    let fields = Fields::read(bytes, Direction::In)?;
+    Ok(InHeader {
+        tag: fields.tag,
+        size: fields.size,
+        eom: fields.ends_message(),
+    })
 }

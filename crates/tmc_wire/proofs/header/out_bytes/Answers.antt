@@ -1,5 +1,5 @@
 use Rattle.std.proofs.Common.{◌++◌, refl, ap, ◌∙◌, arith}
-use Rattle.tmc_wire.specs.declared.header.TheConstants.{DEV_DEP_MSG_OUT}
+use Rattle.tmc_wire.specs.Standard.{dev_dep_msg_out}
 use Rattle.tmc_wire.specs.Header.{prefix, sized, out_header_bytes}
 use Rattle.tmc_wire.proofs.Sized.{eom_bit-from_bool, header_written, IsInRange}
 use Rattle.tmc_wire.proofs.header.out_bytes.Goals as goal
@@ -7,7 +7,7 @@ use Rattle.tmc_wire.proofs.header.out_bytes.Goals as goal
 pub returns-in-Message-clause-written : goal.returns-in-Message-clause-written
 unfolding out_header_bytes
 returns-in-Message-clause-written c =
-    rw c.in-Message.is (c.sized_bytes.ensures ∙ ap (λ a. prefix DEV_DEP_MSG_OUT c.in-Message.tag 0 ++ sized c.in-Message.size a 0 0 0) (c.from.ensures ∙ eom_bit-from_bool c.in-Message.eom))
+    rw c.in-Message.is (c.sized_bytes.ensures ∙ ap (λ a. prefix dev_dep_msg_out c.in-Message.tag 0 ++ sized c.in-Message.size a 0 0 0) (c.from.ensures ∙ eom_bit-from_bool c.in-Message.eom))
 
 pub returns-in-Message-clause-spelled : goal.returns-in-Message-clause-spelled
 returns-in-Message-clause-spelled c =

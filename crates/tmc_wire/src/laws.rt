@@ -1,0 +1,53 @@
+ghost use Rattle.std.specs.Prelude.{◌≡◌, ℕ, ◌-◌, ◌<◌, ◌^◌, List, ◌++◌, length, take};
+ghost use Rattle.usb_setup.specs.declared.ends.Ends.{Ends};
+ghost use Rattle.tmc_wire.specs.declared.header.OutHeader.{OutHeader};
+ghost use Rattle.tmc_wire.specs.declared.header.InHeader.{InHeader};
+ghost use Rattle.tmc_wire.specs.declared.class_request.ClassRequest.{ClassRequest};
+ghost use Rattle.tmc_wire.specs.Standard.{header_size};
+ghost use Rattle.tmc_wire.specs.Header.{IsOutHeader, IsInHeader, prefix, sized};
+ghost use Rattle.tmc_wire.specs.HeaderFault.{MsgID, bTag, bTagInverse, TransferSize};
+ghost use Rattle.tmc_wire.specs.ControlTable.{row, TagFits, IsRow};
+ghost use Rattle.tmc_wire.specs.ClassAnswer.{answer_length};
+
+/// The laws of bulk headers. A header has 12 bytes, which are no other header's, and it is read whatever follows
+/// them. So `read_out(&out_bytes(header))` is `Ok(header)`, and likewise for `read_in` and `in_bytes`.
+pub fn headers_are_read_again()
+    ensures out_size { (header : OutHeader) (bytes : List ℕ) →
+        IsOutHeader header bytes → length bytes ≡ header_size }
+    ensures out_one { (a b : OutHeader) (bytes : List ℕ) →
+        IsOutHeader a bytes → IsOutHeader b bytes → a ≡ b }
+    ensures out_front { (header : OutHeader) (bytes more : List ℕ) →
+        IsOutHeader header bytes → IsOutHeader header (take header_size (bytes ++ more)) }
+    ensures in_size { (header : InHeader) (bytes : List ℕ) →
+        IsInHeader header bytes → length bytes ≡ header_size }
+    ensures in_one { (a b : InHeader) (bytes : List ℕ) →
+        IsInHeader a bytes → IsInHeader b bytes → a ≡ b }
+    ensures in_front { (header : InHeader) (bytes more : List ℕ) →
+        IsInHeader header bytes → IsInHeader header (take header_size (bytes ++ more)) }
+{}
+
+/// The law that a reader's fields, each at its offset, are those of the layout that headers are written by,
+/// whatever follows them.
+pub fn header_offsets_are_laid_out()
+    ensures msg_id { (msg_id tag reserved : ℕ) (more : List ℕ) →
+        MsgID (prefix msg_id tag reserved ++ more) ≡ msg_id }
+    ensures tag { (msg_id tag reserved : ℕ) (more : List ℕ) →
+        bTag (prefix msg_id tag reserved ++ more) ≡ tag }
+    ensures inverse { (msg_id tag reserved : ℕ) (more : List ℕ) →
+        bTagInverse (prefix msg_id tag reserved ++ more) ≡ 255 - tag }
+    ensures size { (msg_id tag reserved size attributes ninth tenth eleventh : ℕ) (more : List ℕ) →
+        size < 2 ^ 32 → TransferSize
+        (prefix msg_id tag reserved ++ sized size attributes ninth tenth eleventh ++ more) ≡ size }
+{}
+
+/// The laws of the table of class requests, for any ends. A request's row is that request and no other, so
+/// `read_class(&class_setup(request, &ends), &ends)` is `Some(request)`. wLength of a row is the length of the
+/// answer's layout in bytes.
+pub fn requests_are_read_again()
+    ensures own { (ends : Ends) (request : ClassRequest) →
+        TagFits request → IsRow ends request (row ends request) }
+    ensures one { (ends : Ends) (a b : ClassRequest) →
+        TagFits a → IsRow ends b (row ends a) → a ≡ b }
+    ensures length { (ends : Ends) (request : ClassRequest) →
+        (row ends request).length ≡ answer_length request }
+{}
