@@ -1,5 +1,5 @@
 -- bytes that go from a list to another in pieces
-use Rattle.std.proofs.Common.{◌≡◌, ℕ, ◌+◌, ◌-◌, ◌≤◌, List, ◌++◌, length, take, drop, Option, Some, None, sym, ap, ◌∙◌, append_assoc, take-add}
+use Rattle.std.proofs.Common.{◌≡◌, ℕ, ◌+◌, ◌≤◌, List, ◌++◌, length, take, drop, Option, Some, None, sym, ap, ◌∙◌, append_assoc, take-add}
 use Rattle.std.proofs.lemmas.List.{take-append-drop, take_at, drop-drop, length-take-le}
 use Rattle.tmc_base.specs.Sink.{PutsFront, put_after}
 

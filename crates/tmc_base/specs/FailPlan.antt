@@ -1,5 +1,5 @@
 -- the calls of an object in memory, and those that are to fail
-use Rattle.std.specs.Prelude.{◌≡◌, ℕ, ◌+◌, ◌-◌, ◌^◌, min, Bool, ◌==◌, List}
+use Rattle.std.specs.Prelude.{ℕ, ◌+◌, ◌-◌, ◌^◌, min, Bool, ◌==◌, List}
 use Rattle.std.specs.List.{list_any}
 
 -- how many calls were made, and the numbers of those that fail, counted from 1

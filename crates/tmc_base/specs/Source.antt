@@ -1,5 +1,5 @@
 -- what a read says of a source
-use Rattle.std.specs.Prelude.{◌≡◌, ℕ, ◌<◌, ◌≤◌, List, [], ◌++◌, length, take, Option, Some, None}
+use Rattle.std.specs.Prelude.{◌≡◌, ℕ, ◌<◌, ◌≤◌, List, [], ◌++◌, take, Option, Some, None}
 use Rattle.tmc_base.specs.declared.source.ReadStep.{ReadStep}
 use Rattle.tmc_base.specs.declared.source.ReadStep.TheVariants.{Got, End, Failed}
 use Rattle.tmc_base.specs.Faults.{Rose}

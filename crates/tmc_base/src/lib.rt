@@ -18,10 +18,9 @@ mod sink;
 mod source;
 mod std_sink;
 mod std_source;
-mod writing;
-
 #[cfg(test)]
 mod tests;
+mod writing;
 
 pub use field::{Field, Layer, Name};
 pub use limits::{BULK_IN_SUBMIT, RESPONSE_MAX, SUBMIT_MAX};

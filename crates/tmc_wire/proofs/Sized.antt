@@ -1,11 +1,11 @@
 -- headers as they are written are headers
-use Rattle.std.proofs.Common.{◌≡◌, ℕ, ◌+◌, ◌-◌, ◌%◌, ◌^◌, ◌<◌, Bool, true, false, List, [], ◌∷◌, ◌++◌, refl, sym, subst}
+use Rattle.std.proofs.Common.{◌≡◌, ℕ, ◌^◌, ◌<◌, Bool, true, false, List, [], ◌∷◌, refl, sym, subst}
 use Rattle.std.specs.Int.{from_bool}
 use Rattle.tmc_wire.specs.declared.header.OutHeader.{OutHeader}
 use Rattle.tmc_wire.specs.declared.header.OutHeader.TheVariants.{Message, Request, Trigger}
 use Rattle.tmc_wire.specs.declared.header.InHeader.{InHeader}
 use Rattle.tmc_wire.specs.declared.header.TheConstants.{DEV_DEP_MSG_OUT, REQUEST_DEV_DEP_MSG_IN, DEV_DEP_MSG_IN, TRIGGER}
-use Rattle.tmc_wire.specs.Header.{prefix, sized, eom_bit, IsTag, IsSize, IsSized, IsTagged, HasEom, Whatever, IsOutHeader, IsOutProper, out_header_bytes, in_header_bytes}
+use Rattle.tmc_wire.specs.Header.{eom_bit, IsTag, IsSize, IsSized, IsTagged, HasEom, Whatever, IsOutHeader, IsOutProper, out_header_bytes, in_header_bytes}
 
 pub eom_bit-from_bool : (eom : Bool) → from_bool eom ≡ eom_bit eom
 eom_bit-from_bool true = refl

@@ -1,5 +1,5 @@
 -- what the URB messages share (Linux kernel documentation, "USB/IP protocol": usbip_header_basic)
-use Rattle.std.specs.Prelude.{◌≡◌, ◌⊎◌, ℕ, List, []}
+use Rattle.std.specs.Prelude.{◌≡◌, ◌⊎◌, ℕ, List}
 use Rattle.std.specs.Int.{w32, to_be_bytes}
 use Rattle.std.specs.List.{flat_map}
 use Rattle.usbip_wire.specs.declared.urb.Dir.{Dir}

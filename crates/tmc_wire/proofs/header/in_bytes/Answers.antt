@@ -1,4 +1,4 @@
-use Rattle.std.proofs.Common.{◌≡◌, subst, sym, ap, ◌∙◌, ℕ, List, ◌++◌, arith}
+use Rattle.std.proofs.Common.{subst, sym, ap, ◌∙◌, ◌++◌, arith}
 use Rattle.tmc_wire.specs.declared.header.TheConstants.{DEV_DEP_MSG_IN}
 use Rattle.tmc_wire.specs.Header.{prefix, sized, IsSized, HasEom, in_header_bytes}
 use Rattle.tmc_wire.proofs.Sized.{eom_bit-from_bool, response_written}

@@ -1,4 +1,4 @@
-use Rattle.std.proofs.Common.{◌≡◌, ℕ, ◌++◌, List, refl, sym, subst, ap, ◌∙◌, ◌<◌, arith}
+use Rattle.std.proofs.Common.{◌++◌, refl, ap, ◌∙◌, arith}
 use Rattle.tmc_wire.specs.declared.header.TheConstants.{DEV_DEP_MSG_OUT}
 use Rattle.tmc_wire.specs.Header.{prefix, sized, out_header_bytes}
 use Rattle.tmc_wire.proofs.Sized.{eom_bit-from_bool, header_written, IsInRange}
