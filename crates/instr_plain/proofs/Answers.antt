@@ -1,6 +1,6 @@
 -- the answers of a message, and the response that they make
-use Rattle.std.proofs.Common.{◌≡◌, ◌∙◌, ℕ, suc, ◌+◌, ◌-◌, ◌*◌, ◌%◌, ◌<◌, ◌≤◌, ◌==◌, Bool, true, false, cond, not, ◌||◌, List, [], ◌∷◌, ◌++◌, length, map, take, Option, Some, None, leb, ap, sym, refl, arith, append_assoc, length-append}
-use Rattle.std.specs.Prelude.{nat_le, is_some, MatchOption}
+use Rattle.std.proofs.Common.{◌≡◌, ◌∙◌, ℕ, ◌+◌, ◌-◌, ◌*◌, ◌%◌, ◌<◌, ◌==◌, Bool, true, false, not, ◌||◌, List, [], ◌∷◌, ◌++◌, length, take, Option, Some, None, leb, ap, sym, refl, arith, append_assoc, length-append}
+use Rattle.std.specs.Prelude.{is_some, MatchOption}
 use Rattle.std.specs.Option.{option_to_list}
 use Rattle.std.proofs.lemmas.Bool.{false≢true}
 use Rattle.std.specs.Fmt.{decimal}
@@ -9,11 +9,11 @@ use Rattle.std.proofs.lemmas.List.FromFn.{map-range_with_len_more, length-map-ra
 use Rattle.std.proofs.lemmas.Bool.Decides.{nat_tests}
 use Rattle.instr_plain.specs.declared.plain.Plain.{Plain}
 use Rattle.instr_plain.specs.declared.answer.Answer.{Answer}
-use Rattle.instr_plain.specs.declared.answer.Answer.TheVariants.{Identity, Number, Block}
+use Rattle.instr_plain.specs.declared.answer.Answer.TheVariants.{Block}
 use Rattle.instr_plain.specs.Status.{query_error, with_event}
 use Rattle.instr_plain.specs.Answer.{samples, bytes_of, is_last}
-use Rattle.instr_plain.specs.Exec.{Progress, response_of, some_stand, told, answered}
-use Rattle.instr_plain.specs.Output.{parts_of, Written, written, IsAt, fits, with_answer, is_too_long}
+use Rattle.instr_plain.specs.Exec.{Progress, response_of, some_stand, told}
+use Rattle.instr_plain.specs.Output.{parts_of, Written, written, IsAt, with_answer, is_too_long}
 
 -- answers end with `;`, and as a response with NL
 pub record Ends (answer : List ℕ) (answers : List (List ℕ)) : Type 0 where

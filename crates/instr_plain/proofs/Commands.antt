@@ -1,6 +1,6 @@
 -- a unit is at most one command
-use Rattle.std.proofs.Common.{◌≡◌, ◌∙◌, ℕ, Bool, true, false, cond, List, [], ◌∷◌, Option, Some, None, ap, sym, refl, subst}
-use Rattle.std.specs.Prelude.{codes, if◌then◌else◌, option_and_then, MatchOption}
+use Rattle.std.proofs.Common.{◌≡◌, ◌∙◌, ℕ, Bool, List, [], ◌∷◌, Option, Some, None, ap, sym, refl}
+use Rattle.std.specs.Prelude.{codes, if◌then◌else◌, option_and_then}
 use Rattle.std.specs.Str.{bytes_eq}
 use Rattle.std.proofs.lemmas.Option.{same_Some}
 use Rattle.ieee_syntax.specs.declared.nrf.Nrf.{Nrf}

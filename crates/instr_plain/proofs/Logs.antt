@@ -1,5 +1,5 @@
 -- where a log leads
-use Rattle.std.proofs.Common.{◌≡◌, ◌∙◌, ℕ, zero, suc, ◌+◌, ◌<◌, List, [], ◌∷◌, ◌++◌, length, inl, inr, refl, ap, sym, subst, arith}
+use Rattle.std.proofs.Common.{◌≡◌, ◌∙◌, ℕ, zero, suc, ◌<◌, List, [], ◌∷◌, ◌++◌, length, inl, inr, refl, ap, sym, subst, arith}
 use Rattle.std.specs.Prelude.{◌↔◌}
 use Rattle.ieee_syntax.specs.declared.unit.Unit.{Unit}
 use Rattle.ieee_syntax.specs.Program.{Program}

@@ -1,5 +1,5 @@
 -- the execution of units one after another
-use Rattle.std.proofs.Common.{◌≡◌, ◌∙◌, ℕ, suc, ◌+◌, ◌<◌, ◌≤◌, Bool, true, false, ◌&&◌, Option, List, [], ◌∷◌, length, get_or, drop, refl, sym, ap, inl, inr, subst, arith, add-one, drop-cons}
+use Rattle.std.proofs.Common.{◌≡◌, ◌∙◌, ℕ, ◌+◌, ◌<◌, Bool, true, false, ◌&&◌, Option, List, [], ◌∷◌, length, get_or, drop, refl, sym, ap, inl, inr, subst, add-one, drop-cons}
 use Rattle.std.proofs.lemmas.Bool.{false≢true}
 use Rattle.ieee_syntax.specs.declared.unit.Unit.{Unit}
 use Rattle.instr_plain.specs.declared.answer.Answer.{Answer}

@@ -1,5 +1,5 @@
 -- the execution of a program message (IEEE 488.2, section 6)
-use Rattle.std.specs.Prelude.{◌≡◌, ◌⊎◌, ℕ, ◌+◌, Bool, true, false, ◌&&◌, ◌||◌, if◌then◌else◌, nat_le, Option, Some, None, List, [], ◌∷◌, ◌++◌, length}
+use Rattle.std.specs.Prelude.{◌≡◌, ◌⊎◌, ℕ, Bool, true, false, ◌&&◌, ◌||◌, if◌then◌else◌, nat_le, Option, Some, None, List, [], ◌∷◌, ◌++◌, length}
 use Rattle.ieee_syntax.specs.declared.unit.Unit.{Unit}
 use Rattle.ieee_syntax.specs.Program.{Program}
 use Rattle.instr_plain.specs.declared.plain.Plain.{Plain}
@@ -8,7 +8,7 @@ use Rattle.instr_plain.specs.declared.command.Command.{Command}
 use Rattle.instr_plain.specs.Status.{query_error, command_error, with_event}
 use Rattle.instr_plain.specs.Command.{unit_of, is_query, IsUnknown}
 use Rattle.instr_plain.specs.Answer.{bytes_of, is_last}
-use Rattle.instr_plain.specs.Outcome.{Outcome, outcome_of}
+use Rattle.instr_plain.specs.Outcome.{outcome_of}
 
 -- the response of these answers: they are parted by `;` (8.4.1) and ended by NL (8.5), and no answers make no response
 abbrev pub response_of : List (List ℕ) → List ℕ

@@ -1,5 +1,5 @@
 -- how the code keeps the answers of a message: one after another, each with a `;` behind it
-use Rattle.std.specs.Prelude.{◌≡◌, ℕ, ◌+◌, Bool, true, false, not, ◌&&◌, ◌||◌, if◌then◌else◌, nat_le, List, [], ◌∷◌, ◌++◌, length}
+use Rattle.std.specs.Prelude.{◌≡◌, ℕ, ◌+◌, Bool, not, ◌&&◌, ◌||◌, if◌then◌else◌, nat_le, List, [], ◌∷◌, ◌++◌, length}
 use Rattle.instr_plain.specs.declared.plain.Plain.{Plain}
 use Rattle.instr_plain.specs.declared.answer.Answer.{Answer}
 use Rattle.instr_plain.specs.Answer.{bytes_of, is_last}

@@ -1,6 +1,5 @@
-use Rattle.std.proofs.Common.{ℕ, ◌≡◌, ◌≤◌, ◌+◌, ap, length, vec_capacity, arith, length-append, [], ◌∷◌}
+use Rattle.std.proofs.Common.{ℕ, ap, length, arith, length-append, [], ◌∷◌}
 use Rattle.std.specs.Fmt.{decimal}
-use Rattle.instr_plain.specs.Answer.{bytes_of}
 use Rattle.instr_plain.proofs.Answers.{length-block}
 use Rattle.instr_plain.proofs.output.put_answer.Goals as goal
 

@@ -1,4 +1,4 @@
-use Rattle.std.proofs.Common.{◌≡◌, ◌∙◌, ◌+◌, ◌*◌, ◌%◌, ◌++◌, [], ◌∷◌, ap, sym, length, arith, append_assoc, length-append}
+use Rattle.std.proofs.Common.{◌+◌, ◌*◌, ◌%◌, [], ◌∷◌, ap, length, arith, append_assoc, length-append}
 use Rattle.instr_plain.specs.Answer.{samples}
 use Rattle.instr_plain.proofs.Answers.{length-samples, samples_more}
 use Rattle.instr_plain.proofs.output.put_samples.Goals as goal

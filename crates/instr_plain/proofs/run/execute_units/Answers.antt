@@ -1,4 +1,4 @@
-use Rattle.std.proofs.Common.{◌∙◌, sym, ap, refl}
+use Rattle.std.proofs.Common.{sym, ap, refl}
 use Rattle.instr_plain.specs.Exec.{begun}
 use Rattle.instr_plain.specs.Output.{Written}
 use Rattle.instr_plain.proofs.run.execute_units.Goals as goal

@@ -1,7 +1,7 @@
 use Rattle.std.proofs.Common.{◌≡◌, ◌∙◌, ◌==◌, ◌&&◌, false, not, length, sym, ap, subst, refl}
 use Rattle.instr_plain.specs.Command.{is_query}
 use Rattle.instr_plain.specs.Outcome.{outcome_of}
-use Rattle.instr_plain.specs.Exec.{Progress, some_stand}
+use Rattle.instr_plain.specs.Exec.{Progress}
 use Rattle.instr_plain.specs.Output.{Written, IsAt}
 use Rattle.instr_plain.proofs.Answers.{some_stand-parts_of}
 use Rattle.instr_plain.proofs.Running.{acts, false-and, ended-false}

@@ -1,6 +1,5 @@
-use Rattle.std.proofs.Common.{◌≡◌, length, arith}
+use Rattle.std.proofs.Common.{length, arith}
 use Rattle.std.specs.Fmt.{decimal}
-use Rattle.instr_plain.specs.Answer.{bytes_of}
 use Rattle.instr_plain.proofs.Answers.{length-block}
 use Rattle.instr_plain.proofs.Decimals.{one_digit}
 use Rattle.instr_plain.proofs.answer.Answer.len.Goals as goal

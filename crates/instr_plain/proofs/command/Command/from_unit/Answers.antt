@@ -1,4 +1,4 @@
-use Rattle.std.proofs.Common.{◌∙◌, sym}
+use Rattle.std.proofs.Common.{◌∙◌}
 use Rattle.instr_plain.proofs.Commands.{unknown_header}
 use Rattle.instr_plain.proofs.command.Command.from_unit.Goals as goal
 
