@@ -4,6 +4,7 @@
 #![tactic(auto)]
 
 mod ret_submit;
+mod stop;
 mod submit;
 mod urb;
 
