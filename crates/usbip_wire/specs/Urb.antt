@@ -1,6 +1,6 @@
 -- what the URB messages share (Linux kernel documentation, "USB/IP protocol": usbip_header_basic)
-use Rattle.std.specs.Prelude.{◌≡◌, ◌⊎◌, ℕ, List, []}
-use Rattle.std.specs.Int.{w32, to_be_bytes}
+use Rattle.std.specs.Prelude.{◌≡◌, ◌⊎◌, ℕ, ℤ, ◌<◌, ◌^◌, List, [], ◌∷◌}
+use Rattle.std.specs.Int.{w32, to_be_bytes, cast_signed, cast_unsigned}
 use Rattle.std.specs.List.{flat_map}
 use Rattle.usbip_wire.specs.declared.urb.Dir.{Dir}
 use Rattle.usbip_wire.specs.declared.urb.Dir.TheVariants.{Out, In}
@@ -9,6 +9,15 @@ use Rattle.usbip_wire.specs.declared.urb.TheConstants.{NOT_ISOCHRONOUS}
 -- fields of four bytes each, the highest byte of each first
 unfoldable pub fields : List ℕ → List ℕ
 fields words = flat_map (λ word. to_be_bytes w32 word) words
+
+-- each of these fits a field of four bytes
+abbrev pub AreWide : List ℕ → Type 0
+AreWide [] = Unit {0}
+AreWide (word ∷ words) = (word < 2 ^ 32) × AreWide words
+
+-- a status is a signed number of four bytes, in two's complement
+abbrev pub Fits32 : ℤ → Type 0
+Fits32 status = cast_signed w32 (cast_unsigned w32 status) ≡ status
 
 -- the number of a direction
 abbrev pub direction_code : Dir → ℕ

@@ -4,10 +4,14 @@
 #![tactic(auto)]
 
 mod ret_submit;
+mod ret_unlink;
 mod stop;
 mod submit;
+mod unlink;
 mod urb;
 
 pub use ret_submit::{RetSubmitHead, put_ret_submit};
+pub use ret_unlink::{RetUnlinkHead, put_ret_unlink};
 pub use submit::{SubmitHead, put_submit};
+pub use unlink::{UnlinkHead, put_unlink};
 pub use urb::{Dir, ENDPOINT_MAX, URB_HEADER};

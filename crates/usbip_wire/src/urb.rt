@@ -11,7 +11,11 @@ pub const ENDPOINT_MAX: u32 = 15;
 
 pub(crate) const CMD_SUBMIT: u32 = 1;
 
+pub(crate) const CMD_UNLINK: u32 = 2;
+
 pub(crate) const RET_SUBMIT: u32 = 3;
+
+pub(crate) const RET_UNLINK: u32 = 4;
 
 /// The `number_of_packets` of a transfer that is not isochronous.
 pub(crate) const NOT_ISOCHRONOUS: u32 = 0xffff_ffff;

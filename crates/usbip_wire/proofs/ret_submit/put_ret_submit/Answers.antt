@@ -1,4 +1,4 @@
-use Rattle.std.proofs.Common.{◌≡◌, inl, refl, arith}
+use Rattle.std.proofs.Common.{rules, ◌≡◌, inl, refl, arith}
 use Rattle.std.proofs.lemmas.Int.{to_z-of_z}
 use Rattle.std.specs.Int.{w32, cast_unsigned}
 use Rattle.usbip_wire.specs.RetSubmit.{unused}
@@ -16,6 +16,8 @@ returns-clause-spelled_in c = λ whole asked within. record {
   within = within;
   packets = inl refl;
   returned = whole;
+  status = search rules;
+  wide = search rules;
   layout = refl;
 }
 
@@ -25,5 +27,7 @@ returns-clause-spelled_out c = λ none asked within. record {
   within = within;
   packets = inl refl;
   returned = none;
+  status = search rules;
+  wide = search rules;
   layout = refl;
 }

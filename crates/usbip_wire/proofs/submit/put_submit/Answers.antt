@@ -1,4 +1,4 @@
-use Rattle.std.proofs.Common.{inl, refl}
+use Rattle.std.proofs.Common.{rules, inl, refl}
 use Rattle.usbip_wire.specs.Submit.{submit_bytes, unused}
 use Rattle.tmc_base.proofs.Appends.{three_appended}
 use Rattle.usbip_wire.proofs.submit.put_submit.Goals as goal
@@ -17,5 +17,6 @@ returns-clause-spelled c = record {
   packets = inl refl;
   setup = c.put_setup.ensures.eight;
   carried = c.requires.carried;
+  wide = search rules;
   layout = refl;
 }
