@@ -1,3 +1,5 @@
 pub mod Answered
-pub mod Fields
-pub mod Reading
+pub mod Fronts
+pub mod Forms
+pub mod UpSpelled
+pub mod UpRead

@@ -1,5 +1,5 @@
 -- what the URB messages share (Linux kernel documentation, "USB/IP protocol": usbip_header_basic)
-use Rattle.std.specs.Prelude.{◌≡◌, ◌⊎◌, ℕ, ℤ, ◌<◌, ◌^◌, List, [], ◌∷◌}
+use Rattle.std.specs.Prelude.{◌≡◌, ◌⊎◌, ◌==◌, ◌||◌, Bool, if◌then◌else◌, ℕ, ℤ, ◌<◌, ◌^◌, List, [], ◌∷◌}
 use Rattle.std.specs.Int.{w32, to_be_bytes, cast_signed, cast_unsigned}
 use Rattle.std.specs.List.{flat_map}
 use Rattle.usbip_wire.specs.declared.urb.Dir.{Dir}
@@ -27,3 +27,16 @@ direction_code In = 1
 -- a number_of_packets of a transfer that is not isochronous: 0xffffffff by the protocol, 0 by old clients
 abbrev pub IsNoPacketCount : ℕ → Type 0
 IsNoPacketCount packets = (packets ≡ NOT_ISOCHRONOUS) ⊎ (packets ≡ 0)
+
+-- the direction of this number
+abbrev pub dir_of : ℕ → Dir
+dir_of direction = if direction == 0 then Out else In
+
+-- the bytes of data behind a submit's header
+abbrev pub carried : Dir → ℕ → ℕ
+carried Out size = size
+carried In size = 0
+
+-- a number_of_packets of a transfer that is not isochronous
+abbrev pub is_no_packet_count : ℕ → Bool
+is_no_packet_count packets = (packets == NOT_ISOCHRONOUS) || (packets == 0)

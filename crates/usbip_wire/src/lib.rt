@@ -3,15 +3,23 @@
 //! Each `put_` call appends one spelling of its message, and takes no memory.
 #![tactic(auto)]
 
+mod fields;
+mod op;
+mod op_request;
+mod reading;
 mod ret_submit;
 mod ret_unlink;
 mod stop;
 mod submit;
 mod unlink;
+mod up;
+mod up_reading;
 mod urb;
 
+pub use op_request::{OpRequest, put_op_request};
 pub use ret_submit::{RetSubmitHead, put_ret_submit};
 pub use ret_unlink::{RetUnlinkHead, put_ret_unlink};
 pub use submit::{SubmitHead, put_submit};
 pub use unlink::{UnlinkHead, put_unlink};
+pub use up::Up;
 pub use urb::{Dir, ENDPOINT_MAX, URB_HEADER};

@@ -28,7 +28,8 @@ pub enum Dir {
 }
 
 impl Dir {
-    ghost use Rattle.usbip_wire.specs.Urb.{direction_code};
+    ghost use Rattle.std.specs.Prelude.{◌≡◌};
+    ghost use Rattle.usbip_wire.specs.Urb.{direction_code, dir_of, carried};
 
     /// Its number in a URB header.
     pub(crate) fn code(self) -> u32
@@ -37,6 +38,23 @@ impl Dir {
         match self {
             Dir::Out => 0,
             Dir::In => 1,
+        }
+    }
+
+    /// The direction of this number: 0 is OUT.
+    pub(crate) fn of_code(code: u32) -> Dir
+        ensures { result ≡ dir_of code }
+    {
+        if code == 0 { Dir::Out } else { Dir::In }
+    }
+
+    /// The bytes of data that go with a submit of `length` bytes.
+    pub(crate) fn carried(self, length: u32) -> usize
+        ensures { result ≡ carried self length }
+    {
+        match self {
+            Dir::Out => length as usize,
+            Dir::In => 0,
         }
     }
 }

@@ -8,7 +8,7 @@ use Rattle.tmc_base.specs.declared.field.Field.{Field}
 use Rattle.usbip_wire.specs.declared.stop.Stop.{Stop}
 use Rattle.usbip_wire.specs.declared.stop.Stop.TheVariants.{Short, Refused}
 use Rattle.usbip_wire.specs.Form.{Form, Number, Judged, Block, Done, Size, Two, Four, width, limit, Spelled, BadAt, read}
-use Rattle.usbip_wire.proofs.Fields.{IsBytes, IsBytes-drop, IsBytes-take, cut, size_of, value_of, number_parts, number_below, put_value, put_rest, put_long, front_long, more_long}
+use Rattle.usbip_wire.proofs.Fronts.{IsBytes, IsBytes-drop, IsBytes-take, cut, size_of, value_of, number_parts, number_below, put_value, put_rest, put_long, front_long, more_long}
 
 -- what a test that was passed chose
 pub passed : {A : Type 0} (b : Bool) (r : Result A Stop) (f : Field) (x : A) → cond b r (Err (Refused f)) ≡ Ok x → (b ≡ true) × (r ≡ Ok x)
