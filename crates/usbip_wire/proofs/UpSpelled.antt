@@ -71,7 +71,7 @@ submit_sound devid seqnum number what bytes rest ls ln imported e0 (direction, r
     let code : direction_code (dir_of direction) ≡ direction = code_of_dir direction (ltb-true direction 2 a1) in
     let front : List ℕ = fields (CMD_SUBMIT ∷ seqnum ∷ number ∷ direction ∷ ep ∷ flags ∷ size ∷ start ∷ packets ∷ interval ∷ []) in
     let all : bytes ≡ put CMD_SUBMIT (put seqnum (put number (put direction (put ep (put flags (put size (put start (put packets (put interval (setup ++ transferred)))))))))) =
-        e0 ∙ ap (λ (t : List ℕ). put CMD_SUBMIT (put seqnum (put number t))) (e1 ∙ ap (λ (t : List ℕ). put direction t) (e2 ∙ ap (λ (t : List ℕ). put ep t) (e3 ∙ ap (λ (t : List ℕ). put flags t) (e4 ∙ ap (λ (t : List ℕ). put size t) (e5 ∙ ap (λ (t : List ℕ). put start t) (e6 ∙ ap (λ (t : List ℕ). put packets t) (e7 ∙ ap (λ (t : List ℕ). put interval t) (e8 ∙ ap (λ (t : List ℕ). setup ++ t) (e9 ∙ ap (λ (t : List ℕ). transferred ++ t) none ∙ append-nil transferred))))))))) in
+    e0 ∙ ap (λ (t : List ℕ). put CMD_SUBMIT (put seqnum (put number t))) (e1 ∙ ap (λ (t : List ℕ). put direction t) (e2 ∙ ap (λ (t : List ℕ). put ep t) (e3 ∙ ap (λ (t : List ℕ). put flags t) (e4 ∙ ap (λ (t : List ℕ). put size t) (e5 ∙ ap (λ (t : List ℕ). put start t) (e6 ∙ ap (λ (t : List ℕ). put packets t) (e7 ∙ ap (λ (t : List ℕ). put interval t) (e8 ∙ ap (λ (t : List ℕ). setup ++ t) (e9 ∙ ap (λ (t : List ℕ). transferred ++ t) none ∙ append-nil transferred))))))))) in
     let behind : drop 48 bytes ≡ transferred = rw all (drop_at setup transferred 8 l8) in
     subst (λ (u : Up). Means (Urbs devid) u bytes) same
     (record {
@@ -91,7 +91,7 @@ unlink_sound : (devid seqnum number : ℕ) (what : Up) (bytes rest : List ℕ) �
 unfolding unlink_form unlink_bytes fields
 unlink_sound devid seqnum number what bytes rest ls ln imported e0 (direction, r1, l1, e1, (ep, r2, l2, e2, (target, r3, l3, e3, (padding, r4, l4, e4, (same, none))))) =
     let all : bytes ≡ put CMD_UNLINK (put seqnum (put number (put direction (put ep (put target padding))))) =
-        e0 ∙ ap (λ (t : List ℕ). put CMD_UNLINK (put seqnum (put number t))) (e1 ∙ ap (λ (t : List ℕ). put direction t) (e2 ∙ ap (λ (t : List ℕ). put ep t) (e3 ∙ ap (λ (t : List ℕ). put target t) (e4 ∙ ap (λ (t : List ℕ). padding ++ t) none ∙ append-nil padding)))) in
+    e0 ∙ ap (λ (t : List ℕ). put CMD_UNLINK (put seqnum (put number t))) (e1 ∙ ap (λ (t : List ℕ). put direction t) (e2 ∙ ap (λ (t : List ℕ). put ep t) (e3 ∙ ap (λ (t : List ℕ). put target t) (e4 ∙ ap (λ (t : List ℕ). padding ++ t) none ∙ append-nil padding)))) in
     subst (λ (u : Up). Means (Urbs devid) u bytes) same
     (record {
       rest = record { direction = direction; ep = ep; padding = padding };
@@ -121,29 +121,125 @@ unfolding submit_form submit_bytes unlink_form unlink_bytes fields
 urb_complete devid (Submit head transferred) bytes s =
     let r : List ℕ = head.setup ++ transferred in
     let w = s.wide in
-    let same_dir : dir_of (direction_code head.dir) ≡ head.dir = dir_of_code head.dir in
-    (CMD_SUBMIT, _, lit< tt, refl, s.layout,
-      (head.seqnum, _, w.1.0, refl,
-        (head.devid, _, w.1.1.0, eq-eqb head.devid devid s.imported, refl,
-          (direction_code head.dir, _, w.1.1.1.0, code_below head.dir, refl,
-            (head.ep, _, w.1.1.1.1.0, le-leb head.ep ENDPOINT_MAX s.endpoint, refl,
-              (s.rest.transfer_flags, _, w.1.1.1.1.1.0, refl,
-                (head.length, _, w.1.1.1.1.1.1.0, le-leb head.length SUBMIT_MAX s.short, refl,
-                  (s.rest.start_frame, _, w.1.1.1.1.1.1.1.0, refl,
-                    (s.rest.number_of_packets, _, w.1.1.1.1.1.1.1.1.0, packet_count_no s.rest.number_of_packets s.packets, refl,
-                      (s.rest.interval, r, w.1.1.1.1.1.1.1.1.1.0, refl,
-                        (head.setup, transferred, s.setup, refl,
-                          (transferred, [], rw same_dir (carries_len head.dir head.length transferred s.carried), sym (append-nil transferred),
-                            (ap (λ (d : Dir). up.Submit (record head { dir = d })) same_dir, refl)))))))))))))
+    let same_dir : dir_of (direction_code head.dir) ≡ head.dir = dir_of_code head.dir in (
+      CMD_SUBMIT,
+      _,
+      lit< tt,
+      refl,
+      s.layout,
+      (
+        head.seqnum,
+        _,
+        w.1.0,
+        refl,
+        (
+          head.devid,
+          _,
+          w.1.1.0,
+          eq-eqb head.devid devid s.imported,
+          refl,
+          (
+            direction_code head.dir,
+            _,
+            w.1.1.1.0,
+            code_below head.dir,
+            refl,
+            (
+              head.ep,
+              _,
+              w.1.1.1.1.0,
+              le-leb head.ep ENDPOINT_MAX s.endpoint,
+              refl,
+              (
+                s.rest.transfer_flags,
+                _,
+                w.1.1.1.1.1.0,
+                refl,
+                (
+                  head.length,
+                  _,
+                  w.1.1.1.1.1.1.0,
+                  le-leb head.length SUBMIT_MAX s.short,
+                  refl,
+                  (
+                    s.rest.start_frame,
+                    _,
+                    w.1.1.1.1.1.1.1.0,
+                    refl,
+                    (
+                      s.rest.number_of_packets,
+                      _,
+                      w.1.1.1.1.1.1.1.1.0,
+                      packet_count_no s.rest.number_of_packets s.packets,
+                      refl,
+                      (
+                        s.rest.interval,
+                        r,
+                        w.1.1.1.1.1.1.1.1.1.0,
+                        refl,
+                        (
+                          head.setup,
+                          transferred,
+                          s.setup,
+                          refl,
+                          (
+                            transferred,
+                            [],
+                            rw same_dir (carries_len head.dir head.length transferred s.carried),
+                            sym (append-nil transferred),
+                            (ap (λ (d : Dir). up.Submit (record head { dir = d })) same_dir, refl),
+                          ),
+                        ),
+                      ),
+                    ),
+                  ),
+                ),
+              ),
+            ),
+          ),
+        ),
+      ),
+    )
 urb_complete devid (Unlink head) bytes s =
-    let w = s.wide in
-    (CMD_UNLINK, _, lit< tt, refl, s.layout,
-      (head.seqnum, _, w.1.0, refl,
-        (head.devid, _, w.1.1.0, eq-eqb head.devid devid s.imported, refl,
-          (s.rest.direction, _, w.1.1.1.0, refl,
-            (s.rest.ep, _, w.1.1.1.1.0, refl,
-              (head.target, s.rest.padding, w.1.1.1.1.1.0, refl,
-                (s.rest.padding, [], s.padded, sym (append-nil s.rest.padding), (refl, refl))))))))
+    let w = s.wide in (
+      CMD_UNLINK,
+      _,
+      lit< tt,
+      refl,
+      s.layout,
+      (
+        head.seqnum,
+        _,
+        w.1.0,
+        refl,
+        (
+          head.devid,
+          _,
+          w.1.1.0,
+          eq-eqb head.devid devid s.imported,
+          refl,
+          (
+            s.rest.direction,
+            _,
+            w.1.1.1.0,
+            refl,
+            (
+              s.rest.ep,
+              _,
+              w.1.1.1.1.0,
+              refl,
+              (
+                head.target,
+                s.rest.padding,
+                w.1.1.1.1.1.0,
+                refl,
+                (s.rest.padding, [], s.padded, sym (append-nil s.rest.padding), (refl, refl)),
+              ),
+            ),
+          ),
+        ),
+      ),
+    )
 
 two : ℕ → List ℕ → List ℕ
 two n rest = to_be_bytes w16 n ++ rest
@@ -153,15 +249,15 @@ unfolding op_header
 request_sound what bytes (version, r1, l1, a1, e1, (code, r2, l2, a2, e2, (status, r3, l3, e3, tail))) =
     let is_version : version ≡ USBIP_VERSION = eqb-true version USBIP_VERSION a1 in
     let all : bytes ≡ to_be_bytes w16 version ++ (to_be_bytes w16 code ++ (to_be_bytes w32 status ++ r3)) =
-        e1 ∙ ap (λ (t : List ℕ). to_be_bytes w16 version ++ t) (e2 ∙ ap (λ (t : List ℕ). to_be_bytes w16 code ++ t) e3) in
+    e1 ∙ ap (λ (t : List ℕ). to_be_bytes w16 version ++ t) (e2 ∙ ap (λ (t : List ℕ). to_be_bytes w16 code ++ t) e3) in
     let P : ℕ → Type 0 = λ c. (bytes ≡ to_be_bytes w16 USBIP_VERSION ++ (to_be_bytes w16 c ++ (to_be_bytes w32 status ++ r3)))
-        × Spelled (cond (eqb c REQ_IMPORT) (Block 32 (λ busid. Done (up.Op (Import busid)))) (Done (up.Op DevList))) what r3 in
+    × Spelled (cond (eqb c REQ_IMPORT) (Block 32 (λ busid. Done (up.Op (Import busid)))) (Done (up.Op DevList))) what r3 in
     elim (two_commands P REQ_DEVLIST REQ_IMPORT code a2 (subst (λ (v : ℕ). bytes ≡ to_be_bytes w16 v ++ (to_be_bytes w16 code ++ (to_be_bytes w32 status ++ r3))) is_version all, tail)) [
       | inl (h, (same, none)) ↦
-        subst (λ (u : Up). Means Ops u bytes) same (record { status = status; wide = l3; whole = tt; layout = subst (λ (t : List ℕ). bytes ≡ op_header REQ_DEVLIST status ++ t) none h ∙ append-nil (op_header REQ_DEVLIST status) })
+          subst (λ (u : Up). Means Ops u bytes) same (record { status = status; wide = l3; whole = tt; layout = subst (λ (t : List ℕ). bytes ≡ op_header REQ_DEVLIST status ++ t) none h ∙ append-nil (op_header REQ_DEVLIST status) })
       | inr (h, (busid, r4, l4, e4, (same, none))) ↦
-        let last : r3 ≡ busid = e4 ∙ (ap (λ (t : List ℕ). busid ++ t) none ∙ append-nil busid) in
-        subst (λ (u : Up). Means Ops u bytes) same (record { status = status; wide = l3; whole = l4; layout = subst (λ (t : List ℕ). bytes ≡ op_header REQ_IMPORT status ++ t) last h })
+          let last : r3 ≡ busid = e4 ∙ (ap (λ (t : List ℕ). busid ++ t) none ∙ append-nil busid) in
+          subst (λ (u : Up). Means Ops u bytes) same (record { status = status; wide = l3; whole = l4; layout = subst (λ (t : List ℕ). bytes ≡ op_header REQ_IMPORT status ++ t) last h })
     ]
 
 pub request_complete : (request : OpRequest) (bytes : List ℕ) → SpellsRequest request bytes → Spelled request_form (up.Op request) bytes

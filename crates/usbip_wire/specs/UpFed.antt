@@ -1,12 +1,13 @@
 -- what a reader of a client's messages holds and answers
-use Rattle.std.specs.Prelude.{◌≡◌, ℕ, ◌≤◌, Bool, true, false, Option, Some, None, List, [], ◌++◌, length, take, drop, if◌then◌else◌}
+use Rattle.std.specs.Prelude.{◌≡◌, ℕ, ◌+◌, ◌≤◌, Result, Ok, Err, Bool, true, false, Option, Some, None, List, [], ◌++◌, length, take, drop, if◌then◌else◌}
 use Rattle.tmc_base.specs.declared.field.Field.{Field}
-use Rattle.usbip_wire.specs.declared.urb.TheConstants.{URB_HEADER}
+use Rattle.usbip_wire.specs.declared.urb.TheConstants.{URB_HEADER, HELD_MAX}
 use Rattle.usbip_wire.specs.declared.up.Up.{Up}
 use Rattle.usbip_wire.specs.declared.up.Up.TheVariants as up
 use Rattle.usbip_wire.specs.declared.up.UpPhase.{UpPhase}
 use Rattle.usbip_wire.specs.declared.up.UpPhase.TheVariants.{Ops, Urbs}
 use Rattle.usbip_wire.specs.declared.up.UpStep.{UpStep}
+use Rattle.usbip_wire.specs.declared.stop.Stop.{Stop}
 use Rattle.usbip_wire.specs.OpRequest.{SpellsRequest}
 use Rattle.usbip_wire.specs.Up.{Spells, Submit, Unlink}
 use Rattle.usbip_wire.specs.Stream as stream
@@ -60,3 +61,17 @@ Answers phase start piece used what new =
 pub record Fed (old : Held) (piece : List ℕ) (step : UpStep) (new : Held) : Type 0 where
   pub fresh : old.bad ≡ None → Answers old.phase (kept old) piece step.used step.what new
   pub again : (f : Field) → old.bad ≡ Some f → (step ≡ record { used = 0; what = up.Bad f }) × (new ≡ old)
+
+-- what the held bytes are found to be
+abbrev pub Judged : UpPhase → List ℕ → Result Up Stop → Type 0
+Judged phase rest (Ok what) = form.read (up_form phase) rest ≡ Ok (what, [])
+Judged phase rest (Err stop) = form.read (up_form phase) rest ≡ Err stop
+
+-- no byte stands behind a whole message
+abbrev pub Ends : UpPhase → List ℕ → Type 0
+Ends phase rest = (what : Up) (left : List ℕ) → form.read (up_form phase) rest ≡ Ok (what, left) → left ≡ []
+
+-- there is room for the longest message, and what is held does not pass the end of one
+pub record IsReader (phase : UpPhase) (rest : List ℕ) (spare : ℕ) (whole : Bool) (bad : Option Field) : Type 0 where
+  pub room : HELD_MAX ≤ length rest + spare
+  pub ends : whole ≡ false → bad ≡ None → Ends phase rest

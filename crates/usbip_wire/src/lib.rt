@@ -13,6 +13,7 @@ mod stop;
 mod submit;
 mod unlink;
 mod up;
+mod up_reader;
 mod up_reading;
 mod urb;
 
@@ -21,5 +22,6 @@ pub use ret_submit::{RetSubmitHead, put_ret_submit};
 pub use ret_unlink::{RetUnlinkHead, put_ret_unlink};
 pub use submit::{SubmitHead, put_submit};
 pub use unlink::{UnlinkHead, put_unlink};
-pub use up::Up;
+pub use up::{Up, UpStep};
+pub use up_reader::UpReader;
 pub use urb::{Dir, ENDPOINT_MAX, URB_HEADER};

@@ -3,7 +3,7 @@
 ghost use Rattle.std.specs.Prelude.{◌≡◌, true, false, Ok, Err, MatchResult};
 ghost use Rattle.usbip_wire.specs.declared.stop.Stop.TheVariants.{Refused};
 ghost use Rattle.usbip_wire.specs.Form.{Two, Four, number_at, block_at};
-ghost use Rattle.usbip_wire.specs.Given.{Gives};
+ghost use Rattle.usbip_wire.specs.Given.{Gives, IsBytes};
 
 use crate::stop::Stop;
 use tmc_base::Field;
@@ -60,4 +60,11 @@ pub(crate) fn accept(accepted: bool, field: Field) -> Result<(), Stop>
     } else {
         Err(Stop::Refused(field))
     }
+}
+
+/// What `u8` says of its values.
+pub(crate) fn are_bytes(bytes: &[u8])
+    ensures { IsBytes bytes.now }
+{
+    let _bytes = bytes;
 }

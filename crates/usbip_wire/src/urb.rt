@@ -1,10 +1,13 @@
-ghost use Rattle.std.specs.Prelude.{◌≡◌, ◌+◌, ◌*◌, ◌≤◌, ◌++◌, length};
+ghost use Rattle.std.specs.Prelude.{◌≡◌, ◌+◌, ◌*◌, ◌≤◌, ◌++◌, length, drop};
 ghost use Rattle.usbip_wire.specs.Urb.{fields, direction_code};
 
 use bytes::BytesMut;
 
 /// The bytes in front of a URB message's data.
 pub const URB_HEADER: usize = 48;
+
+/// The longest message that a reader holds: a header, and the data of the longest submit.
+pub(crate) const HELD_MAX: usize = 70_048;
 
 /// The greatest endpoint number.
 pub const ENDPOINT_MAX: u32 = 15;
@@ -69,4 +72,15 @@ pub(crate) fn put_fields(words: &[u32], out: &mut BytesMut)
     for word in words {
         out.extend_reserved(&word.to_be_bytes());
     }
+}
+
+/// What stands behind a header.
+pub(crate) fn behind_header(held: &[u8]) -> &[u8]
+    ensures { result.now ≡ drop URB_HEADER held.now }
+{
+    if held.len() < URB_HEADER {
+        return &[];
+    }
+    let (_header, rest) = held.split_at(URB_HEADER);
+    rest
 }
