@@ -1,7 +1,11 @@
 pub mod Answered
+pub mod Recorded
 pub mod Fronts
 pub mod Forms
 pub mod Pieces
 pub mod UpSpelled
 pub mod UpRead
 pub mod UpFeeding
+pub mod DownSpelled
+pub mod DownRead
+pub mod DownFeeding

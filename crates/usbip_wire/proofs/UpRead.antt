@@ -33,7 +33,7 @@ whole_means phase what bytes fits e =
     let s = sound (up_form phase) bytes what [] fits e in
     up_sound phase what bytes (subst (λ (t : List ℕ). Spelled (up_form phase) what t) (sym (s.1 ∙ append-nil s.0)) s.2)
 
-none_by : {M : Type 0} (form : Form M) (m : M) (front rest tail : List ℕ) (stop : Stop) → Spelled form m front → rest ≡ front ++ tail
+pub none_by : {M : Type 0} (form : Form M) (m : M) (front rest tail : List ℕ) (stop : Stop) → Spelled form m front → rest ≡ front ++ tail
     → read form rest ≡ Err stop → ⊥
 none_by {M} form m front rest tail stop s e r =
     let x : read form rest ≡ Ok (m, tail) = subst (λ (t : List ℕ). read form t ≡ Ok (m, tail)) (sym e) (complete form m front tail s) in

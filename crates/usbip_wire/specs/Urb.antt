@@ -1,6 +1,6 @@
 -- what the URB messages share (Linux kernel documentation, "USB/IP protocol": usbip_header_basic)
 use Rattle.std.specs.Prelude.{◌≡◌, ◌⊎◌, ◌==◌, ◌||◌, Bool, if◌then◌else◌, ℕ, ℤ, ◌<◌, ◌^◌, List, [], ◌∷◌}
-use Rattle.std.specs.Int.{w32, to_be_bytes, cast_signed, cast_unsigned}
+use Rattle.std.specs.Int.{w16, w32, to_be_bytes, cast_signed, cast_unsigned}
 use Rattle.std.specs.List.{flat_map}
 use Rattle.usbip_wire.specs.declared.urb.Dir.{Dir}
 use Rattle.usbip_wire.specs.declared.urb.Dir.TheVariants.{Out, In}
@@ -9,6 +9,10 @@ use Rattle.usbip_wire.specs.declared.urb.TheConstants.{NOT_ISOCHRONOUS}
 -- fields of four bytes each, the highest byte of each first
 unfoldable pub fields : List ℕ → List ℕ
 fields words = flat_map (λ word. to_be_bytes w32 word) words
+
+-- fields of two bytes each
+unfoldable pub halves : List ℕ → List ℕ
+halves words = flat_map (λ word. to_be_bytes w16 word) words
 
 -- each of these fits a field of four bytes
 abbrev pub AreWide : List ℕ → Type 0
@@ -40,3 +44,8 @@ carried In size = 0
 -- a number_of_packets of a transfer that is not isochronous
 abbrev pub is_no_packet_count : ℕ → Bool
 is_no_packet_count packets = (packets == NOT_ISOCHRONOUS) || (packets == 0)
+
+-- the bytes of data behind an answer's header
+abbrev pub returned : Dir → ℕ → ℕ
+returned Out actual = 0
+returned In actual = actual

@@ -3,6 +3,10 @@
 //! Each `put_` call appends one spelling of its message, and takes no memory.
 #![tactic(auto)]
 
+mod device;
+mod dirs;
+mod down;
+mod down_reading;
 mod fields;
 mod op;
 mod op_request;
@@ -17,6 +21,9 @@ mod up_reader;
 mod up_reading;
 mod urb;
 
+pub use device::{DEVICE_RECORD, DeviceRecord};
+pub use dirs::{DIRS_MAX, Dirs, Outstanding};
+pub use down::{Down, DownStep};
 pub use op_request::{OpRequest, put_op_request};
 pub use ret_submit::{RetSubmitHead, put_ret_submit};
 pub use ret_unlink::{RetUnlinkHead, put_ret_unlink};

@@ -1,5 +1,5 @@
 ghost use Rattle.std.specs.Prelude.{◌≡◌, ◌+◌, ◌*◌, ◌≤◌, ◌++◌, length, drop};
-ghost use Rattle.usbip_wire.specs.Urb.{fields, direction_code};
+ghost use Rattle.usbip_wire.specs.Urb.{fields, halves, direction_code};
 
 use bytes::BytesMut;
 
@@ -32,7 +32,7 @@ pub enum Dir {
 
 impl Dir {
     ghost use Rattle.std.specs.Prelude.{◌≡◌};
-    ghost use Rattle.usbip_wire.specs.Urb.{direction_code, dir_of, carried};
+    ghost use Rattle.usbip_wire.specs.Urb.{direction_code, dir_of, carried, returned};
 
     /// Its number in a URB header.
     pub(crate) fn code(self) -> u32
@@ -59,6 +59,28 @@ impl Dir {
             Dir::Out => length as usize,
             Dir::In => 0,
         }
+    }
+
+    /// The bytes of data that come with the answer to a submit that transferred `actual` bytes.
+    pub(crate) fn returned(self, actual: u32) -> usize
+        ensures { result ≡ returned self actual }
+    {
+        match self {
+            Dir::Out => 0,
+            Dir::In => actual as usize,
+        }
+    }
+}
+
+/// Appends these fields of two bytes.
+#[tactic(auto, unfolding(crate::specs::Urb::halves))]
+pub(crate) fn put_halves(words: &[u16], out: &mut BytesMut)
+    requires { 2 * length words.now ≤ out.old.spare }
+    ensures items { out.new.items ≡ out.old.items ++ halves words.now }
+    ensures spare { out.new.spare + 2 * length words.now ≡ out.old.spare }
+{
+    for word in words {
+        out.extend_reserved(&word.to_be_bytes());
     }
 }
 
