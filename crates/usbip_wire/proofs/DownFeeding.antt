@@ -11,10 +11,10 @@ use Rattle.usbip_wire.specs.declared.stop.Stop.{Stop}
 use Rattle.usbip_wire.specs.declared.stop.Stop.TheVariants.{Short, Refused}
 use Rattle.usbip_wire.specs.Form.{read}
 use Rattle.usbip_wire.specs.Given.{IsBytes}
-use Rattle.usbip_wire.specs.DownFed.{Held, Answers, Judged, Means, BadAt}
+use Rattle.usbip_wire.specs.DownFed.{Held, Answers, Judged, Means, BadAt, Ends}
 use Rattle.usbip_wire.specs.DownForm.{down_form, after}
 use Rattle.usbip_wire.proofs.DownRead.{whole_means, whole_good, stopped_none, short_good}
-use Rattle.usbip_wire.proofs.Forms.{more_bad, refused_bad}
+use Rattle.usbip_wire.proofs.Forms.{more_bad, refused_bad, exact}
 use Rattle.usbip_wire.proofs.Pieces.{rest_of_piece}
 
 -- the reader behind so many bytes of a piece
@@ -63,3 +63,18 @@ answers_more phase entries start piece used self n all e judged =
     let whole : take used piece ≡ piece = take_all used piece (omega arith) in
     let s : read (down_form phase entries) (start ++ piece) ≡ Err (Short n) = subst (λ (t : List ℕ). read (down_form phase entries) (start ++ t) ≡ Err (Short n)) whole r in
     (all, stopped_none phase entries (start ++ piece) (Short n) s, short_good phase entries (start ++ piece) n s, e ∙ ap (λ (t : List ℕ). record { phase = phase; rest = start ++ t; whole = false; bad = None }) whole)
+
+-- before the first byte of a piece
+pub begun : (self : Held) → self.whole ≡ false → self.bad ≡ None → self ≡ record { phase = self.phase; rest = self.rest ++ []; whole = false; bad = None }
+begun self w b = ap (λ (x : Bool). record self { whole = x }) w ∙ (ap (λ (x : Option Field). record self { whole = false; bad = x }) b
+    ∙ ap (λ (t : List ℕ). record { phase = self.phase; rest = t; whole = false; bad = None }) (sym (append-nil self.rest)))
+
+pub ended : (phase : DownPhase) (entries : List Outstanding) (rest : List ℕ) (what : Down) (left : List ℕ) → read (down_form phase entries) rest ≡ Ok (what, left)
+    → Ends phase entries rest → read (down_form phase entries) rest ≡ Ok (what, [])
+ended phase entries rest what left e ends = subst (λ (t : List ℕ). read (down_form phase entries) rest ≡ Ok (what, t)) (ends what left e) e
+
+-- no more bytes than are missing do not pass the end of a message
+pub still_ends : (entries : List Outstanding) (self new : Held) (next : List ℕ) (n : ℕ) → new ≡ record self { rest = self.rest ++ next }
+    → read (down_form self.phase entries) self.rest ≡ Err (Short n) → length next ≤ n → Ends new.phase entries new.rest
+still_ends entries self new next n e r le =
+    subst (λ (h : Held). Ends h.phase entries h.rest) (sym e) (λ what left w. exact (down_form self.phase entries) self.rest next n what left r le w)

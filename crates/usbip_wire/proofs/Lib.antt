@@ -1,5 +1,6 @@
 pub mod Answered
 pub mod Recorded
+pub mod Entries
 pub mod Fronts
 pub mod Forms
 pub mod Pieces

@@ -64,7 +64,7 @@ unlink_within : (seqnum devid : ℕ) → Within (unlink_form seqnum devid) 70036
 unfolding unlink_form
 unlink_within seqnum devid = (lit≤ tt, λ direction. (lit≤ tt, λ ep. (lit≤ tt, λ target. (lit≤ tt, λ padding. tt))))
 
-both_within : {M : Type 0} (b : Bool) (f g : Form M) (most : ℕ) → Within f most → Within g most → Within (cond b f g) most
+pub both_within : {M : Type 0} (b : Bool) (f g : Form M) (most : ℕ) → Within f most → Within g most → Within (cond b f g) most
 both_within true f g most x y = x
 both_within false f g most x y = y
 

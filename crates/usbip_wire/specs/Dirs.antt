@@ -1,5 +1,6 @@
 -- outstanding submits and unlinks
-use Rattle.std.specs.Prelude.{ℕ, ◌<◌, ◌==◌, length, Bool, true, false, Option, Some, None, List, [], ◌∷◌, if◌then◌else◌}
+use Rattle.std.specs.Prelude.{ℕ, ◌<◌, ◌≤◌, ◌==◌, length, Bool, true, false, Option, Some, None, List, [], ◌∷◌, if◌then◌else◌}
+use Rattle.tmc_base.specs.declared.limits.TheConstants.{SUBMIT_MAX}
 use Rattle.usbip_wire.specs.declared.urb.Dir.{Dir}
 use Rattle.usbip_wire.specs.declared.dirs.TheConstants.{DIRS_MAX}
 use Rattle.usbip_wire.specs.declared.dirs.Outstanding.{Outstanding}
@@ -9,6 +10,15 @@ use Rattle.usbip_wire.specs.declared.dirs.Outstanding.TheVariants.{Submit, Unlin
 abbrev pub number_of : Outstanding → ℕ
 number_of (Submit seqnum dir size) = seqnum
 number_of (Unlink seqnum) = seqnum
+
+-- a submit is no longer than a reader accepts
+abbrev pub IsShort : Outstanding → Type 0
+IsShort (Submit seqnum dir size) = size ≤ SUBMIT_MAX
+IsShort (Unlink seqnum) = Unit {0}
+
+abbrev pub AreShort : List Outstanding → Type 0
+AreShort [] = Unit {0}
+AreShort (entry ∷ entries) = IsShort entry × AreShort entries
 
 -- there is a free place
 abbrev pub HasRoom : List Outstanding → Type 0

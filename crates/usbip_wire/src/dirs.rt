@@ -44,14 +44,16 @@ impl Model for Dirs {
 
     ghost Value = { List Outstanding };
 
+    ghost use Rattle.usbip_wire.specs.Dirs.{AreShort};
+
     ghost view = { λ a. take a.len a.entries };
 
-    ghost invariant = { λ a. a.len ≤ 16 };
+    ghost invariant = { λ a. (a.len ≤ 16) × AreShort (take a.len a.entries) };
 }
 
 impl Dirs {
     ghost use Rattle.usbip_wire.specs.declared.dirs.Outstanding.TheVariants.{Submit, Unlink};
-    ghost use Rattle.usbip_wire.specs.Dirs.{HasRoom, find, others};
+    ghost use Rattle.usbip_wire.specs.Dirs.{HasRoom, IsShort, AreShort, find, others};
 
     /// No entries.
     pub fn new() -> Dirs
@@ -127,15 +129,24 @@ impl Dirs {
         None
     }
 
+    /// What the list keeps.
+    pub(crate) fn know(&self)
+        ensures { AreShort self.now }
+    {
+        let _entries = self.as_slice();
+    }
+
     fn as_slice(&self) -> &[Outstanding]
         ensures items { result.now ≡ self.now }
         ensures most { length result.now ≤ DIRS_MAX }
+        ensures short { AreShort self.now }
     {
         &self.entries[..self.len]
     }
 
     fn push(&mut self, entry: Outstanding)
-        requires { HasRoom self.old }
+        requires free { HasRoom self.old }
+        requires short { IsShort entry }
         ensures { self.new ≡ self.old ++ entry ∷ [] }
     {
         self.entries[self.len] = entry;

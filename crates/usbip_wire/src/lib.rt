@@ -6,6 +6,7 @@
 mod device;
 mod dirs;
 mod down;
+mod down_reader;
 mod down_reading;
 mod fields;
 mod op;
@@ -24,6 +25,7 @@ mod urb;
 pub use device::{DEVICE_RECORD, DeviceRecord};
 pub use dirs::{DIRS_MAX, Dirs, Outstanding};
 pub use down::{Down, DownStep};
+pub use down_reader::DownReader;
 pub use op_request::{OpRequest, put_op_request};
 pub use ret_submit::{RetSubmitHead, put_ret_submit};
 pub use ret_unlink::{RetUnlinkHead, put_ret_unlink};
