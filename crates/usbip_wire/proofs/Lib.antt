@@ -10,3 +10,5 @@ pub mod UpFeeding
 pub mod DownSpelled
 pub mod DownRead
 pub mod DownFeeding
+pub mod Determined
+pub mod Laws
