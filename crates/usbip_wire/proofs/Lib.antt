@@ -11,4 +11,5 @@ pub mod DownSpelled
 pub mod DownRead
 pub mod DownFeeding
 pub mod Determined
-pub mod Laws
+pub mod Free
+pub mod Places

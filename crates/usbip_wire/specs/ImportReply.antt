@@ -10,6 +10,11 @@ abbrev pub import_bytes : ℕ → Option DeviceRecord → List ℕ
 import_bytes status None = op_header REP_IMPORT status
 import_bytes status (Some device) = op_header REP_IMPORT status ++ record_bytes device
 
+-- its length
+abbrev pub import_size : Option DeviceRecord → ℕ
+import_size None = 8
+import_size (Some device) = 320
+
 -- the device is there exactly where the status is 0
 abbrev pub IsImported : ℕ → Option DeviceRecord → Type 0
 IsImported status None = status ≡ 0 → ⊥

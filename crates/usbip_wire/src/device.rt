@@ -1,5 +1,5 @@
 ghost use Rattle.std.specs.Prelude.{◌≡◌, ◌+◌, ◌≤◌, ◌++◌};
-ghost use Rattle.usbip_wire.specs.Device.{record_bytes};
+ghost use Rattle.usbip_wire.specs.Device.{IsRecord, record_bytes};
 
 use crate::urb::{put_fields, put_halves};
 use bytes::BytesMut;
@@ -48,4 +48,11 @@ pub(crate) fn put_record(device: &DeviceRecord, out: &mut BytesMut)
         device.configurations,
         device.interfaces,
     ]);
+}
+
+/// What the types of a record say of its fields.
+pub(crate) fn know_record(device: DeviceRecord)
+    ensures { IsRecord device }
+{
+    let _device = device;
 }

@@ -9,6 +9,8 @@ mod down;
 mod down_reader;
 mod down_reading;
 mod fields;
+mod import_reply;
+mod laws;
 mod op;
 mod op_request;
 mod reading;
@@ -26,6 +28,11 @@ pub use device::{DEVICE_RECORD, DeviceRecord};
 pub use dirs::{DIRS_MAX, Dirs, Outstanding};
 pub use down::{Down, DownStep};
 pub use down_reader::DownReader;
+pub use import_reply::put_import_reply;
+pub use laws::{
+    answers_are_determined, bad_fields_are_refused, parts_are_determined, requests_are_determined,
+    urbs_are_determined,
+};
 pub use op_request::{OpRequest, put_op_request};
 pub use ret_submit::{RetSubmitHead, put_ret_submit};
 pub use ret_unlink::{RetUnlinkHead, put_ret_unlink};
