@@ -52,9 +52,11 @@ pub answers_bad : (phase : DownPhase) (entries : List Outstanding) (start piece 
 answers_bad phase entries start piece used self f new le e fits judged next =
     let bytes : IsBytes (start ++ take used piece) = subst (λ (h : Held). IsBytes h.rest) e fits in
     let r : read (down_form phase entries) (start ++ take used piece) ≡ Err (Refused f) = subst (λ (h : Held). read (down_form h.phase entries) h.rest ≡ Err (Refused f)) e judged in
-    let b : BadAt phase entries (start ++ take used piece) f = refused_bad (down_form phase entries) (start ++ take used piece) f bytes r in
-    (le, subst (λ (t : List ℕ). BadAt phase entries t f) (rest_of_piece start piece used) (more_bad (down_form phase entries) (start ++ take used piece) (drop used piece) f b),
-      next ∙ ap (λ (h : Held). record h { bad = Some f }) e)
+    let b : BadAt phase entries (start ++ take used piece) f = refused_bad (down_form phase entries) (start ++ take used piece) f bytes r in (
+      le,
+      subst (λ (t : List ℕ). BadAt phase entries t f) (rest_of_piece start piece used) (more_bad (down_form phase entries) (start ++ take used piece) (drop used piece) f b),
+      next ∙ ap (λ (h : Held). record h { bad = Some f }) e,
+    )
 
 pub answers_more : (phase : DownPhase) (entries : List Outstanding) (start piece : List ℕ) (used : ℕ) (self : Held) (n : ℕ) → used ≡ length piece
     → self ≡ at phase start piece used → Judged self.phase entries self.rest (Err (Short n)) → Answers phase entries start piece used down.More self

@@ -91,9 +91,38 @@ returned_most In actual le = le
 
 ret_submit_within : (seqnum : ℕ) (asked : Option (Dir × ℕ)) → size_asked asked ≤ SUBMIT_MAX → Within (ret_submit_form seqnum asked) 70040
 unfolding ret_submit_form
-ret_submit_within seqnum asked small =
-    (lit≤ tt, λ devid. (lit≤ tt, λ direction. (lit≤ tt, λ ep. (lit≤ tt, λ status. (lit≤ tt, λ actual le. (lit≤ tt, λ start. (lit≤ tt, λ packets _. (lit≤ tt, λ errors. (lit≤ tt, λ high. (lit≤ tt, λ low.
-    (returned_most (dir_asked asked) actual (omega (arith, small, leb-true actual (size_asked asked) le)), λ transferred. tt)))))))))))
+ret_submit_within seqnum asked small = (
+  lit≤ tt,
+  λ devid. (
+    lit≤ tt,
+    λ direction. (
+      lit≤ tt,
+      λ ep. (
+        lit≤ tt,
+        λ status. (
+          lit≤ tt,
+          λ actual le. (
+            lit≤ tt,
+            λ start. (
+              lit≤ tt,
+              λ packets _. (
+                lit≤ tt,
+                λ errors. (
+                  lit≤ tt,
+                  λ high. (
+                    lit≤ tt,
+                    λ low.
+                        (returned_most (dir_asked asked) actual (omega (arith, small, leb-true actual (size_asked asked) le)), λ transferred. tt),
+                  ),
+                ),
+              ),
+            ),
+          ),
+        ),
+      ),
+    ),
+  ),
+)
 
 ret_unlink_within : (seqnum : ℕ) → Within (ret_unlink_form seqnum) 70040
 unfolding ret_unlink_form
@@ -107,19 +136,29 @@ record_within of most le =
 ops_within : (devices interfaces : ℕ) → Within (ops_form devices interfaces) HELD_MAX
 ops_within devices interfaces =
     both_within (eqb interfaces 0) (cond (eqb devices 0) reply_form (record_form part.List)) interface_form HELD_MAX
-    (both_within (eqb devices 0) reply_form (record_form part.List) HELD_MAX
-      (lit≤ tt, λ version _. (lit≤ tt, λ code _. (lit≤ tt, λ status.
-        both_within (eqb code REP_DEVLIST) (Number Four (λ devices. Done (down.Count status devices))) (cond (eqb status 0) (record_form part.Import) (Done (down.Import status None))) 70040
-        (lit≤ tt, λ devices. tt)
-        (both_within (eqb status 0) (record_form part.Import) (Done (down.Import status None)) 70040 (record_within part.Import 70040 (lit≤ tt)) tt))))
-      (record_within part.List HELD_MAX (lit≤ tt)))
+    (both_within (eqb devices 0) reply_form (record_form part.List) HELD_MAX (
+      lit≤ tt,
+      λ version _. (
+        lit≤ tt,
+        λ code _. (
+          lit≤ tt,
+          λ status.
+              both_within (eqb code REP_DEVLIST) (Number Four (λ devices. Done (down.Count status devices))) (cond (eqb status 0) (record_form part.Import) (Done (down.Import status None))) 70040
+              (lit≤ tt, λ devices. tt)
+              (both_within (eqb status 0) (record_form part.Import) (Done (down.Import status None)) 70040 (record_within part.Import 70040 (lit≤ tt)) tt),
+        ),
+      ),
+    )
+    (record_within part.List HELD_MAX (lit≤ tt)))
     (lit≤ tt, λ last. tt)
 
 pub down_within : (phase : DownPhase) (entries : List Outstanding) → AreShort entries → Within (down_form phase entries) HELD_MAX
 down_within (Ops devices interfaces) entries short = ops_within devices interfaces
-down_within Urbs entries short =
-    (lit≤ tt, λ command _. both_within (eqb command RET_SUBMIT)
+down_within Urbs entries short = (
+  lit≤ tt,
+  λ command _. both_within (eqb command RET_SUBMIT)
       (Judged Four SEQNUM (λ seqnum. is_some (submit_of (find seqnum entries))) (λ seqnum. ret_submit_form seqnum (submit_of (find seqnum entries))))
       (Judged Four SEQNUM (λ seqnum. is_unlink (find seqnum entries)) (λ seqnum. ret_unlink_form seqnum)) 70044
       (lit≤ tt, λ seqnum _. ret_submit_within seqnum (submit_of (find seqnum entries)) (find_short seqnum entries short))
-      (lit≤ tt, λ seqnum _. ret_unlink_within seqnum))
+      (lit≤ tt, λ seqnum _. ret_unlink_within seqnum),
+)

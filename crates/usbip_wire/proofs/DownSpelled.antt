@@ -59,10 +59,11 @@ ret_submit_sound entries seqnum None what bytes rest ls found some e0 s = absurd
 ret_submit_sound entries seqnum (Some asked) what bytes rest ls found some e0 (devid, r1, l1, e1, (direction, r2, l2, e2, (ep, r3, l3, e3, (status, r4, l4, e4, (actual, r5, l5, a5, e5, (start, r6, l6, e6, (packets, r7, l7, a7, e7, (errors, r8, l8, e8, (high, r9, l9, e9, (low, r10, l10, e10, (transferred, r11, l11, e11, (same, none)))))))))))) =
     let code : cast_unsigned w32 (cast_signed w32 status) ≡ status = code_back status l4 in
     let all : bytes ≡ put RET_SUBMIT (put seqnum (put devid (put direction (put ep (put status (put actual (put start (put packets (put errors (put high (put low transferred))))))))))) =
-        e0 ∙ ap (λ (t : List ℕ). put RET_SUBMIT (put seqnum t)) (e1 ∙ ap (λ (t : List ℕ). put devid t) (e2 ∙ ap (λ (t : List ℕ). put direction t) (e3 ∙ ap (λ (t : List ℕ). put ep t) (e4 ∙ ap (λ (t : List ℕ). put status t) (e5 ∙ ap (λ (t : List ℕ). put actual t) (e6 ∙ ap (λ (t : List ℕ). put start t) (e7 ∙ ap (λ (t : List ℕ). put packets t) (e8 ∙ ap (λ (t : List ℕ). put errors t) (e9 ∙ ap (λ (t : List ℕ). put high t) (e10 ∙ ap (λ (t : List ℕ). put low t) (e11 ∙ ap (λ (t : List ℕ). transferred ++ t) none ∙ append-nil transferred))))))))))) in
+    e0 ∙ ap (λ (t : List ℕ). put RET_SUBMIT (put seqnum t)) (e1 ∙ ap (λ (t : List ℕ). put devid t) (e2 ∙ ap (λ (t : List ℕ). put direction t) (e3 ∙ ap (λ (t : List ℕ). put ep t) (e4 ∙ ap (λ (t : List ℕ). put status t) (e5 ∙ ap (λ (t : List ℕ). put actual t) (e6 ∙ ap (λ (t : List ℕ). put start t) (e7 ∙ ap (λ (t : List ℕ). put packets t) (e8 ∙ ap (λ (t : List ℕ). put errors t) (e9 ∙ ap (λ (t : List ℕ). put high t) (e10 ∙ ap (λ (t : List ℕ). put low t) (e11 ∙ ap (λ (t : List ℕ). transferred ++ t) none ∙ append-nil transferred))))))))))) in
     let behind : drop 48 bytes ≡ transferred = rw all refl in
-    subst (λ (u : Down). Means Urbs entries u bytes) same
-    (record { dir = asked.0; size = asked.1 }, found,
+    subst (λ (u : Down). Means Urbs entries u bytes) same (
+      record { dir = asked.0; size = asked.1 },
+      found,
       record {
         rest = record { devid = devid; direction = direction; ep = ep; start_frame = start; number_of_packets = packets; error_count = errors; padding_high = high; padding_low = low };
         within = leb-true actual asked.1 a5;
@@ -71,7 +72,8 @@ ret_submit_sound entries seqnum (Some asked) what bytes rest ls found some e0 (d
         wide = (lit< tt, (ls, (l1, (l2, (l3, (rw code l4, (l5, (l6, (l7, (l8, (l9, (l10, tt))))))))))));
         returned = rw behind (returns asked.0 actual transferred l11);
         layout = rw (behind, code) all;
-      })
+      },
+    )
 
 ret_unlink_sound : (entries : List Outstanding) (seqnum : ℕ) (what : Down) (bytes rest : List ℕ) → seqnum < 2 ^ 32
     → is_unlink (find seqnum entries) ≡ true → bytes ≡ put RET_UNLINK (put seqnum rest) → Spelled (ret_unlink_form seqnum) what rest → Means Urbs entries what bytes
@@ -79,15 +81,17 @@ unfolding ret_unlink_form ret_unlink_bytes fields
 ret_unlink_sound entries seqnum what bytes rest ls found e0 (devid, r1, l1, e1, (direction, r2, l2, e2, (ep, r3, l3, e3, (status, r4, l4, e4, (padding, r5, l5, e5, (same, none)))))) =
     let code : cast_unsigned w32 (cast_signed w32 status) ≡ status = code_back status l4 in
     let all : bytes ≡ put RET_UNLINK (put seqnum (put devid (put direction (put ep (put status padding))))) =
-        e0 ∙ ap (λ (t : List ℕ). put RET_UNLINK (put seqnum t)) (e1 ∙ ap (λ (t : List ℕ). put devid t) (e2 ∙ ap (λ (t : List ℕ). put direction t) (e3 ∙ ap (λ (t : List ℕ). put ep t) (e4 ∙ ap (λ (t : List ℕ). put status t) (e5 ∙ ap (λ (t : List ℕ). padding ++ t) none ∙ append-nil padding))))) in
-    subst (λ (u : Down). Means Urbs entries u bytes) same
-    (found, record {
-      rest = record { devid = devid; direction = direction; ep = ep; padding = padding };
-      status = ap (λ n. cast_signed w32 n) code;
-      padded = l5;
-      wide = (lit< tt, (ls, (l1, (l2, (l3, (rw code l4, tt))))));
-      layout = rw code all;
-    })
+    e0 ∙ ap (λ (t : List ℕ). put RET_UNLINK (put seqnum t)) (e1 ∙ ap (λ (t : List ℕ). put devid t) (e2 ∙ ap (λ (t : List ℕ). put direction t) (e3 ∙ ap (λ (t : List ℕ). put ep t) (e4 ∙ ap (λ (t : List ℕ). put status t) (e5 ∙ ap (λ (t : List ℕ). padding ++ t) none ∙ append-nil padding))))) in
+    subst (λ (u : Down). Means Urbs entries u bytes) same (
+      found,
+      record {
+        rest = record { devid = devid; direction = direction; ep = ep; padding = padding };
+        status = ap (λ n. cast_signed w32 n) code;
+        padded = l5;
+        wide = (lit< tt, (ls, (l1, (l2, (l3, (rw code l4, tt))))));
+        layout = rw code all;
+      },
+    )
 
 -- what follows the command of an answer
 abbrev answer_rest : List Outstanding → ℕ → Form Down
@@ -120,31 +124,135 @@ head_of (RetUnlink head) = down.RetUnlink head
 pub answer_complete : (entries : List Outstanding) (message : Message) (bytes : List ℕ) → SpellsAnswer entries message bytes → Spelled (answer_form entries) (head_of message) bytes
 unfolding ret_submit_form ret_submit_bytes ret_unlink_form ret_unlink_bytes fields
 answer_complete entries (RetSubmit head transferred) bytes (asked, found, s) =
-    let w = s.wide in
-    (RET_SUBMIT, _, lit< tt, refl, s.layout,
-      (head.seqnum, _, w.1.0, ap (λ (o : Option (Dir × ℕ)). is_some o) found, refl,
-        (s.rest.devid, _, w.1.1.0, refl,
-          (s.rest.direction, _, w.1.1.1.0, refl,
-            (s.rest.ep, _, w.1.1.1.1.0, refl,
-              (cast_unsigned w32 head.status, _, w.1.1.1.1.1.0, refl,
-                (head.actual, _, w.1.1.1.1.1.1.0, rw found (le-leb head.actual asked.size s.within), refl,
-                  (s.rest.start_frame, _, w.1.1.1.1.1.1.1.0, refl,
-                    (s.rest.number_of_packets, _, w.1.1.1.1.1.1.1.1.0, packet_count_no s.rest.number_of_packets s.packets, refl,
-                      (s.rest.error_count, _, w.1.1.1.1.1.1.1.1.1.0, refl,
-                        (s.rest.padding_high, _, w.1.1.1.1.1.1.1.1.1.1.0, refl,
-                          (s.rest.padding_low, transferred, w.1.1.1.1.1.1.1.1.1.1.1.0, refl,
-                            (transferred, [], rw found (returns_len asked.dir head.actual transferred s.returned), sym (append-nil transferred),
-                              (ap (λ z. down.RetSubmit (record head { status = z })) s.status, refl))))))))))))))
+    let w = s.wide in (
+      RET_SUBMIT,
+      _,
+      lit< tt,
+      refl,
+      s.layout,
+      (
+        head.seqnum,
+        _,
+        w.1.0,
+        ap (λ (o : Option (Dir × ℕ)). is_some o) found,
+        refl,
+        (
+          s.rest.devid,
+          _,
+          w.1.1.0,
+          refl,
+          (
+            s.rest.direction,
+            _,
+            w.1.1.1.0,
+            refl,
+            (
+              s.rest.ep,
+              _,
+              w.1.1.1.1.0,
+              refl,
+              (
+                cast_unsigned w32 head.status,
+                _,
+                w.1.1.1.1.1.0,
+                refl,
+                (
+                  head.actual,
+                  _,
+                  w.1.1.1.1.1.1.0,
+                  rw found (le-leb head.actual asked.size s.within),
+                  refl,
+                  (
+                    s.rest.start_frame,
+                    _,
+                    w.1.1.1.1.1.1.1.0,
+                    refl,
+                    (
+                      s.rest.number_of_packets,
+                      _,
+                      w.1.1.1.1.1.1.1.1.0,
+                      packet_count_no s.rest.number_of_packets s.packets,
+                      refl,
+                      (
+                        s.rest.error_count,
+                        _,
+                        w.1.1.1.1.1.1.1.1.1.0,
+                        refl,
+                        (
+                          s.rest.padding_high,
+                          _,
+                          w.1.1.1.1.1.1.1.1.1.1.0,
+                          refl,
+                          (
+                            s.rest.padding_low,
+                            transferred,
+                            w.1.1.1.1.1.1.1.1.1.1.1.0,
+                            refl,
+                            (
+                              transferred,
+                              [],
+                              rw found (returns_len asked.dir head.actual transferred s.returned),
+                              sym (append-nil transferred),
+                              (ap (λ z. down.RetSubmit (record head { status = z })) s.status, refl),
+                            ),
+                          ),
+                        ),
+                      ),
+                    ),
+                  ),
+                ),
+              ),
+            ),
+          ),
+        ),
+      ),
+    )
 answer_complete entries (RetUnlink head) bytes (found, s) =
-    let w = s.wide in
-    (RET_UNLINK, _, lit< tt, refl, s.layout,
-      (head.seqnum, _, w.1.0, found, refl,
-        (s.rest.devid, _, w.1.1.0, refl,
-          (s.rest.direction, _, w.1.1.1.0, refl,
-            (s.rest.ep, _, w.1.1.1.1.0, refl,
-              (cast_unsigned w32 head.status, s.rest.padding, w.1.1.1.1.1.0, refl,
-                (s.rest.padding, [], s.padded, sym (append-nil s.rest.padding),
-                  (ap (λ z. down.RetUnlink (record head { status = z })) s.status, refl))))))))
+    let w = s.wide in (
+      RET_UNLINK,
+      _,
+      lit< tt,
+      refl,
+      s.layout,
+      (
+        head.seqnum,
+        _,
+        w.1.0,
+        found,
+        refl,
+        (
+          s.rest.devid,
+          _,
+          w.1.1.0,
+          refl,
+          (
+            s.rest.direction,
+            _,
+            w.1.1.1.0,
+            refl,
+            (
+              s.rest.ep,
+              _,
+              w.1.1.1.1.0,
+              refl,
+              (
+                cast_unsigned w32 head.status,
+                s.rest.padding,
+                w.1.1.1.1.1.0,
+                refl,
+                (
+                  s.rest.padding,
+                  [],
+                  s.padded,
+                  sym (append-nil s.rest.padding),
+                  (ap (λ z. down.RetUnlink (record head { status = z })) s.status, refl),
+                ),
+              ),
+            ),
+          ),
+        ),
+      ),
+    )
 
 -- ---- parts of the operations
 
@@ -176,7 +284,7 @@ unfolding record_form record_bytes fields halves
 record_sound of what bytes (path, r1, l1, e1, (busid, r2, l2, e2, (busnum, r3, l3, e3, (devnum, r4, l4, e4, (speed, r5, l5, e5, (vendor, r6, l6, e6, (product, r7, l7, e7, (bcd, r8, l8, e8, (last, r9, l9, e9, (same, none)))))))))) =
     let cells = six_cells last l9 in
     let all : bytes ≡ path ++ (busid ++ put busnum (put devnum (put speed (two vendor (two product (two bcd last)))))) =
-        e1 ∙ ap (λ (t : List ℕ). path ++ t) (e2 ∙ ap (λ (t : List ℕ). busid ++ t) (e3 ∙ ap (λ (t : List ℕ). put busnum t) (e4 ∙ ap (λ (t : List ℕ). put devnum t) (e5 ∙ ap (λ (t : List ℕ). put speed t) (e6 ∙ ap (λ (t : List ℕ). two vendor t) (e7 ∙ ap (λ (t : List ℕ). two product t) (e8 ∙ ap (λ (t : List ℕ). two bcd t) (e9 ∙ ap (λ (t : List ℕ). last ++ t) none ∙ append-nil last)))))))) in
+    e1 ∙ ap (λ (t : List ℕ). path ++ t) (e2 ∙ ap (λ (t : List ℕ). busid ++ t) (e3 ∙ ap (λ (t : List ℕ). put busnum t) (e4 ∙ ap (λ (t : List ℕ). put devnum t) (e5 ∙ ap (λ (t : List ℕ). put speed t) (e6 ∙ ap (λ (t : List ℕ). two vendor t) (e7 ∙ ap (λ (t : List ℕ). two product t) (e8 ∙ ap (λ (t : List ℕ). two bcd t) (e9 ∙ ap (λ (t : List ℕ). last ++ t) none ∙ append-nil last)))))))) in
     record {
       device = _;
       told = same;
@@ -188,16 +296,55 @@ pub record_complete : (of : RecordOf) (device : DeviceRecord) (bytes : List ℕ)
 unfolding record_form record_bytes fields halves
 record_complete of d bytes fits layout =
     let last : List ℕ = d.device_class ∷ d.device_subclass ∷ d.device_protocol ∷ d.configuration_value ∷ d.configurations ∷ d.interfaces ∷ [] in
-    let w = fits.wide in
-    (d.path, _, fits.path, layout,
-      (d.busid, _, fits.busid, refl,
-        (d.busnum, _, w.0, refl,
-          (d.devnum, _, w.1.0, refl,
-            (d.speed, _, w.1.1.0, refl,
-              (d.id_vendor, _, fits.id_vendor, refl,
-                (d.id_product, _, fits.id_product, refl,
-                  (d.bcd_device, last, fits.bcd_device, refl,
-                    (last, [], refl, refl, (refl, refl))))))))))
+    let w = fits.wide in (
+      d.path,
+      _,
+      fits.path,
+      layout,
+      (
+        d.busid,
+        _,
+        fits.busid,
+        refl,
+        (
+          d.busnum,
+          _,
+          w.0,
+          refl,
+          (
+            d.devnum,
+            _,
+            w.1.0,
+            refl,
+            (
+              d.speed,
+              _,
+              w.1.1.0,
+              refl,
+              (
+                d.id_vendor,
+                _,
+                fits.id_vendor,
+                refl,
+                (
+                  d.id_product,
+                  _,
+                  fits.id_product,
+                  refl,
+                  (
+                    d.bcd_device,
+                    last,
+                    fits.bcd_device,
+                    refl,
+                    (last, [], refl, refl, (refl, refl)),
+                  ),
+                ),
+              ),
+            ),
+          ),
+        ),
+      ),
+    )
 
 -- what follows the status of a reply
 abbrev reply_rest : ℕ → ℕ → Form Down
@@ -221,14 +368,14 @@ unfolding op_header
 import_sound status what bytes rest ls e s =
     elim (cases_eq status 0) [
       | inl zero_is ↦
-        let t : Spelled (record_form part.Import) what rest = rw (eq-eqb status 0 zero_is) at s in
-        let r = record_sound part.Import what rest t in
-        subst (λ (u : Down). SpellsPart 0 0 u bytes) r.told
-        (refl, refl, record { wide = lit< tt; imported = (refl, r.fits); layout = subst (λ n. bytes ≡ head REP_IMPORT n (record_bytes r.device)) zero_is (e ∙ ap (λ (t : List ℕ). head REP_IMPORT status t) r.layout) })
+          let t : Spelled (record_form part.Import) what rest = rw (eq-eqb status 0 zero_is) at s in
+          let r = record_sound part.Import what rest t in
+          subst (λ (u : Down). SpellsPart 0 0 u bytes) r.told
+          (refl, refl, record { wide = lit< tt; imported = (refl, r.fits); layout = subst (λ n. bytes ≡ head REP_IMPORT n (record_bytes r.device)) zero_is (e ∙ ap (λ (t : List ℕ). head REP_IMPORT status t) r.layout) })
       | inr some ↦
-        let t : Spelled (Done (down.Import status None)) what rest = rw (ne_eqb status 0 some) at s in
-        subst (λ (u : Down). SpellsPart 0 0 u bytes) t.0
-        (refl, refl, record { wide = ls; imported = some; layout = e ∙ ap (λ (t : List ℕ). head REP_IMPORT status t) t.1 })
+          let t : Spelled (Done (down.Import status None)) what rest = rw (ne_eqb status 0 some) at s in
+          subst (λ (u : Down). SpellsPart 0 0 u bytes) t.0
+          (refl, refl, record { wide = ls; imported = some; layout = e ∙ ap (λ (t : List ℕ). head REP_IMPORT status t) t.1 })
     ]
 
 reply_sound : (what : Down) (bytes : List ℕ) → Spelled reply_form what bytes → SpellsPart 0 0 what bytes
@@ -273,14 +420,50 @@ ops_complete devices zero (down.Interface class subclass protocol) bytes (i, pad
 ops_complete devices (suc interfaces) (down.Interface class subclass protocol) bytes (i, padding, e) =
     let t : Spelled interface_form (down.Interface class subclass protocol) bytes = (class ∷ subclass ∷ protocol ∷ padding ∷ [], [], refl, e, (refl, refl)) in
     rw (nonzero interfaces) t
-ops_complete zero zero (down.Import status None) bytes (d, i, s) =
-    (USBIP_VERSION, _, lit< tt, refl, s.layout, (REP_IMPORT, _, lit< tt, refl, refl, (status, [], s.wide, refl,
-      subst (λ b. Spelled (cond b (record_form part.Import) (Done (down.Import status None))) (down.Import status None) []) (sym (ne_eqb status 0 s.imported)) (refl, refl))))
+ops_complete zero zero (down.Import status None) bytes (d, i, s) = (
+  USBIP_VERSION,
+  _,
+  lit< tt,
+  refl,
+  s.layout,
+  (
+    REP_IMPORT,
+    _,
+    lit< tt,
+    refl,
+    refl,
+    (
+      status,
+      [],
+      s.wide,
+      refl,
+      subst (λ b. Spelled (cond b (record_form part.Import) (Done (down.Import status None))) (down.Import status None) []) (sym (ne_eqb status 0 s.imported)) (refl, refl),
+    ),
+  ),
+)
 ops_complete zero zero (down.Import status (Some device)) bytes (d, i, s) =
     let zero_is : 0 ≡ status = sym s.imported.0 in
-    subst (λ n. Spelled (ops_form 0 0) (down.Import n (Some device)) bytes) zero_is
-    (USBIP_VERSION, _, lit< tt, refl, subst (λ n. bytes ≡ import_bytes n (Some device)) s.imported.0 s.layout, (REP_IMPORT, _, lit< tt, refl, refl, (0, record_bytes device, lit< tt, refl,
-      record_complete part.Import device (record_bytes device) s.imported.1 refl)))
+    subst (λ n. Spelled (ops_form 0 0) (down.Import n (Some device)) bytes) zero_is (
+      USBIP_VERSION,
+      _,
+      lit< tt,
+      refl,
+      subst (λ n. bytes ≡ import_bytes n (Some device)) s.imported.0 s.layout,
+      (
+        REP_IMPORT,
+        _,
+        lit< tt,
+        refl,
+        refl,
+        (
+          0,
+          record_bytes device,
+          lit< tt,
+          refl,
+          record_complete part.Import device (record_bytes device) s.imported.1 refl,
+        ),
+      ),
+    )
 ops_complete (suc devices) interfaces (down.Import status device) bytes (d, i, s) = absurd (omega (arith, d))
 ops_complete zero (suc interfaces) (down.Import status device) bytes (d, i, s) = absurd (omega (arith, i))
 ops_complete devices interfaces (down.RetSubmit answer) bytes s = absurd s

@@ -13,3 +13,4 @@ pub mod DownFeeding
 pub mod Determined
 pub mod Free
 pub mod Places
+pub mod Listed

@@ -51,10 +51,15 @@ unfolding record_form
 record_placed of at = λ path busid busnum devnum speed vendor product bcd last. tt
 
 reply_placed : Placed reply_form 0
-reply_placed =
-    (refl, λ version. (refl, λ code status.
-      both_placed (eqb code REP_DEVLIST) (Number Four (λ devices. Done (down.Count status devices))) (cond (eqb status 0) (record_form part.Import) (Done (down.Import status None))) 8
-      (λ devices. tt) (both_placed (eqb status 0) (record_form part.Import) (Done (down.Import status None)) 8 (record_placed part.Import 8) tt)))
+reply_placed = (
+  refl,
+  λ version. (
+    refl,
+    λ code status.
+        both_placed (eqb code REP_DEVLIST) (Number Four (λ devices. Done (down.Count status devices))) (cond (eqb status 0) (record_form part.Import) (Done (down.Import status None))) 8
+        (λ devices. tt) (both_placed (eqb status 0) (record_form part.Import) (Done (down.Import status None)) 8 (record_placed part.Import 8) tt),
+  ),
+)
 
 ops_placed : (devices interfaces : ℕ) → Placed (ops_form devices interfaces) 0
 ops_placed devices interfaces =
@@ -70,11 +75,13 @@ unfolding ret_unlink_form
 ret_unlink_placed seqnum = λ devid direction ep status padding. tt
 
 answers_placed : (entries : List Outstanding) → Placed (answer_form entries) 0
-answers_placed entries =
-    (refl, λ command. both_placed (eqb command RET_SUBMIT)
+answers_placed entries = (
+  refl,
+  λ command. both_placed (eqb command RET_SUBMIT)
       (Judged Four SEQNUM (λ seqnum. is_some (submit_of (find seqnum entries))) (λ seqnum. ret_submit_form seqnum (submit_of (find seqnum entries))))
       (Judged Four SEQNUM (λ seqnum. is_unlink (find seqnum entries)) (λ seqnum. ret_unlink_form seqnum)) 4
-      (refl, λ seqnum. ret_submit_placed seqnum (submit_of (find seqnum entries))) (refl, λ seqnum. ret_unlink_placed seqnum))
+      (refl, λ seqnum. ret_submit_placed seqnum (submit_of (find seqnum entries))) (refl, λ seqnum. ret_unlink_placed seqnum),
+)
 
 pub bad_request : (rest : List ℕ) (f : Field) → BadAt request_form rest f → RefusedAt SpellsRequest rest f
 bad_request = refused_at request_form SpellsRequest (λ m. up.Op m) up_spelled.request_complete requests_placed

@@ -1,5 +1,5 @@
 -- what a reader of a device's messages holds and answers
-use Rattle.std.specs.Prelude.{◌≡◌, ℕ, ◌+◌, ◌≤◌, Result, Ok, Err, Bool, true, false, Option, Some, None, List, [], ◌++◌, length, take, drop, if◌then◌else◌}
+use Rattle.std.specs.Prelude.{◌≡◌, ℕ, ◌+◌, ◌≤◌, Result, Ok, Err, Bool, true, false, Option, Some, None, List, [], ◌∷◌, ◌++◌, length, take, drop, if◌then◌else◌}
 use Rattle.tmc_base.specs.declared.field.Field.{Field}
 use Rattle.usbip_wire.specs.declared.urb.TheConstants.{URB_HEADER, HELD_MAX}
 use Rattle.usbip_wire.specs.declared.dirs.Outstanding.{Outstanding}
@@ -40,6 +40,12 @@ Means (Ops devices interfaces) entries what bytes = SpellsPart devices interface
 Means Urbs entries (down.RetSubmit head) bytes = SpellsAnswer entries (RetSubmit head (drop URB_HEADER bytes)) bytes
 Means Urbs entries (down.RetUnlink head) bytes = SpellsAnswer entries (RetUnlink head) bytes
 Means Urbs entries what bytes = ⊥
+
+-- these bytes are these parts of the operations in a row, each where the one before it left off
+abbrev pub SpellsParts : DownPhase → List Down → List ℕ → Type 0
+SpellsParts phase [] bytes = bytes ≡ []
+SpellsParts phase (what ∷ whats) bytes =
+    (front : List ℕ) × (rest : List ℕ) × (bytes ≡ front ++ rest) × Means phase [] what front × SpellsParts (after phase what) whats rest
 
 -- no front of these bytes is a message of the phase
 abbrev pub NoneWhole : DownPhase → List Outstanding → List ℕ → Type 0

@@ -116,7 +116,7 @@ abbrev pub answer_form : List Outstanding → Form Down
 answer_form entries =
     Judged Four COMMAND (λ command. (command == RET_SUBMIT) || (command == RET_UNLINK)) (λ command.
     if command == RET_SUBMIT then
-      Judged Four SEQNUM (λ seqnum. is_some (submit_of (find seqnum entries))) (λ seqnum. ret_submit_form seqnum (submit_of (find seqnum entries)))
+    Judged Four SEQNUM (λ seqnum. is_some (submit_of (find seqnum entries))) (λ seqnum. ret_submit_form seqnum (submit_of (find seqnum entries)))
     else Judged Four SEQNUM (λ seqnum. is_unlink (find seqnum entries)) (λ seqnum. ret_unlink_form seqnum))
 
 abbrev pub ops_form : ℕ → ℕ → Form Down

@@ -6,11 +6,18 @@ use tmc_base::Field;
 #[derive(Clone, Copy, Debug, PartialEq, Eq)]
 pub enum Down {
     /// The head of a device list.
-    Count { status: u32, devices: u32 },
+    Count {
+        status: u32,
+        devices: u32,
+    },
     /// A device of a list.
     Device(DeviceRecord),
     /// An interface of the last device.
-    Interface { class: u8, subclass: u8, protocol: u8 },
+    Interface {
+        class: u8,
+        subclass: u8,
+        protocol: u8,
+    },
     /// The answer to an import. The device is there exactly where the status is 0.
     Import {
         status: u32,

@@ -133,12 +133,7 @@ fn read_answer<'a>(dirs: &Dirs, held: &'a [u8]) -> Result<(Down, &'a [u8]), Stop
 }
 
 #[tactic(auto, unfolding(crate::specs::DownForm::ret_submit_form))]
-fn read_ret_submit(
-    seqnum: u32,
-    dir: Dir,
-    length: u32,
-    rest: &[u8],
-) -> Result<(Down, &[u8]), Stop>
+fn read_ret_submit(seqnum: u32, dir: Dir, length: u32, rest: &[u8]) -> Result<(Down, &[u8]), Stop>
     ensures { Gives (λ x. (x.0, x.1.now)) result (read (ret_submit_form seqnum (Some (dir, length))) rest.now) }
 {
     let (_devid, rest) = word(rest)?;

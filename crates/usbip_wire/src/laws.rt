@@ -19,32 +19,28 @@ pub fn requests_are_determined()
     ensures free { ArePrefixFree SpellsRequest }
     ensures determined { AreDetermined SpellsRequest }
     ensures again { AreReadAgain SpellsRequest }
-{
-}
+{}
 
 /// The same of the submits and unlinks to one device.
 pub fn urbs_are_determined()
     ensures free { (devid : ℕ) → ArePrefixFree (Spells devid) }
     ensures determined { (devid : ℕ) → AreDetermined (Spells devid) }
     ensures again { (devid : ℕ) → AreReadAgain (Spells devid) }
-{
-}
+{}
 
 /// The same of the parts of an operation's answer, where so many devices and interfaces are awaited.
 pub fn parts_are_determined()
     ensures free { (devices interfaces : ℕ) → ArePrefixFree (SpellsPart devices interfaces) }
     ensures determined { (devices interfaces : ℕ) → AreDetermined (SpellsPart devices interfaces) }
     ensures again { (devices interfaces : ℕ) → AreReadAgain (SpellsPart devices interfaces) }
-{
-}
+{}
 
 /// The same of the answers to one list of outstanding messages.
 pub fn answers_are_determined()
     ensures free { (entries : List Outstanding) → ArePrefixFree (SpellsAnswer entries) }
     ensures determined { (entries : List Outstanding) → AreDetermined (SpellsAnswer entries) }
     ensures again { (entries : List Outstanding) → AreReadAgain (SpellsAnswer entries) }
-{
-}
+{}
 
 /// A bad field stands whole at its offset, and no spelling that begins with the bytes before it has its
 /// value there.
@@ -55,5 +51,4 @@ pub fn bad_fields_are_refused()
         → down_fed.BadAt (down_phase.Ops devices interfaces) entries rest f → RefusedAt (SpellsPart devices interfaces) rest f }
     ensures answer { (entries : List Outstanding) (rest : List ℕ) (f : Field)
         → down_fed.BadAt down_phase.Urbs entries rest f → RefusedAt (SpellsAnswer entries) rest f }
-{
-}
+{}

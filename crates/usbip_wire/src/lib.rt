@@ -4,6 +4,7 @@
 #![tactic(auto)]
 
 mod device;
+mod device_list;
 mod dirs;
 mod down;
 mod down_reader;
@@ -25,6 +26,7 @@ mod up_reading;
 mod urb;
 
 pub use device::{DEVICE_RECORD, DeviceRecord};
+pub use device_list::put_device_list;
 pub use dirs::{DIRS_MAX, Dirs, Outstanding};
 pub use down::{Down, DownStep};
 pub use down_reader::DownReader;

@@ -21,7 +21,7 @@ pub returns-in-Ok-clause-fresh : goal.returns-in-Ok-clause-fresh
 returns-in-Ok-clause-fresh c = λ none.
     let judged = c.in-Ok.ensures.judged in
     let e : read (down_form c.loop-what.self.phase c.args.dirs.now) c.loop-what.self.rest ≡ Ok (c.in-Ok.what, []) =
-        ended c.loop-what.self.phase c.args.dirs.now c.loop-what.self.rest c.in-Ok.what judged.0 judged.1 (c.loop-what.invariant.ends none) in
+    ended c.loop-what.self.phase c.args.dirs.now c.loop-what.self.rest c.in-Ok.what judged.0 judged.1 (c.loop-what.invariant.ends none) in
     answers_whole c.args.self.now.phase c.args.dirs.now c.args.self.now.rest c.args.piece.now c.loop-what.used c.loop-what.self c.in-Ok.what _
     c.loop-what.invariant.within c.loop-what.invariant.held c.in-Ok.ensures.bytes e c.finish.ensures
 
@@ -57,6 +57,6 @@ loop-what-preserved c =
     record {
       within = omega (arith, c.min.ensures, c.loop-what.invariant.within);
       held = c.add.ensures ∙ (ap (λ (h : Held). record h { rest = h.rest ++ next }) c.loop-what.invariant.held
-        ∙ ap (λ (t : List ℕ). record { phase = c.args.self.now.phase; rest = t; whole = false; bad = None }) (next_of_piece c.args.self.now.rest c.args.piece.now c.loop-what.used c.min.result));
+          ∙ ap (λ (t : List ℕ). record { phase = c.args.self.now.phase; rest = t; whole = false; bad = None }) (next_of_piece c.args.self.now.rest c.args.piece.now c.loop-what.used c.min.result));
       ends = λ none. still_ends c.args.dirs.now c.loop-what.self c.add.new.self next c.in-Err-Short.missing c.add.ensures e few;
     }
