@@ -29,6 +29,7 @@ use Rattle.usbip_wire.specs.Op.{op_header}
 use Rattle.usbip_wire.specs.RetSubmit.{Asked, Returns, ret_submit_bytes}
 use Rattle.usbip_wire.specs.RetUnlink.{SpellsRetUnlink, ret_unlink_bytes}
 use Rattle.usbip_wire.specs.Urb.{fields, halves, returned}
+use Rattle.usbip_wire.proofs.Wide.{each_wide}
 use Rattle.usbip_wire.proofs.UpSpelled.{two_commands, no_packet_count, packet_count_no}
 
 abbrev put : ℕ → List ℕ → List ℕ
@@ -69,7 +70,7 @@ ret_submit_sound entries seqnum (Some asked) what bytes rest ls found some e0 (d
         within = leb-true actual asked.1 a5;
         packets = no_packet_count packets a7;
         status = ap (λ n. cast_signed w32 n) code;
-        wide = (lit< tt, (ls, (l1, (l2, (l3, (rw code l4, (l5, (l6, (l7, (l8, (l9, (l10, tt))))))))))));
+        wide = each_wide (RET_SUBMIT ∷ seqnum ∷ devid ∷ direction ∷ ep ∷ cast_unsigned w32 (cast_signed w32 status) ∷ actual ∷ start ∷ packets ∷ errors ∷ high ∷ low ∷ []) (lit< tt, (ls, (l1, (l2, (l3, (rw code l4, (l5, (l6, (l7, (l8, (l9, (l10, tt))))))))))));
         returned = rw behind (returns asked.0 actual transferred l11);
         layout = rw (behind, code) all;
       },
@@ -88,7 +89,7 @@ ret_unlink_sound entries seqnum what bytes rest ls found e0 (devid, r1, l1, e1, 
         rest = record { devid = devid; direction = direction; ep = ep; padding = padding };
         status = ap (λ n. cast_signed w32 n) code;
         padded = l5;
-        wide = (lit< tt, (ls, (l1, (l2, (l3, (rw code l4, tt))))));
+        wide = each_wide (RET_UNLINK ∷ seqnum ∷ devid ∷ direction ∷ ep ∷ cast_unsigned w32 (cast_signed w32 status) ∷ []) (lit< tt, (ls, (l1, (l2, (l3, (rw code l4, tt))))));
         layout = rw code all;
       },
     )
@@ -133,60 +134,60 @@ answer_complete entries (RetSubmit head transferred) bytes (asked, found, s) =
       (
         head.seqnum,
         _,
-        w.1.0,
+        w 1,
         ap (λ (o : Option (Dir × ℕ)). is_some o) found,
         refl,
         (
           s.rest.devid,
           _,
-          w.1.1.0,
+          w 2,
           refl,
           (
             s.rest.direction,
             _,
-            w.1.1.1.0,
+            w 3,
             refl,
             (
               s.rest.ep,
               _,
-              w.1.1.1.1.0,
+              w 4,
               refl,
               (
                 cast_unsigned w32 head.status,
                 _,
-                w.1.1.1.1.1.0,
+                w 5,
                 refl,
                 (
                   head.actual,
                   _,
-                  w.1.1.1.1.1.1.0,
+                  w 6,
                   rw found (le-leb head.actual asked.size s.within),
                   refl,
                   (
                     s.rest.start_frame,
                     _,
-                    w.1.1.1.1.1.1.1.0,
+                    w 7,
                     refl,
                     (
                       s.rest.number_of_packets,
                       _,
-                      w.1.1.1.1.1.1.1.1.0,
+                      w 8,
                       packet_count_no s.rest.number_of_packets s.packets,
                       refl,
                       (
                         s.rest.error_count,
                         _,
-                        w.1.1.1.1.1.1.1.1.1.0,
+                        w 9,
                         refl,
                         (
                           s.rest.padding_high,
                           _,
-                          w.1.1.1.1.1.1.1.1.1.1.0,
+                          w 10,
                           refl,
                           (
                             s.rest.padding_low,
                             transferred,
-                            w.1.1.1.1.1.1.1.1.1.1.1.0,
+                            w 11,
                             refl,
                             (
                               transferred,
@@ -217,28 +218,28 @@ answer_complete entries (RetUnlink head) bytes (found, s) =
       (
         head.seqnum,
         _,
-        w.1.0,
+        w 1,
         found,
         refl,
         (
           s.rest.devid,
           _,
-          w.1.1.0,
+          w 2,
           refl,
           (
             s.rest.direction,
             _,
-            w.1.1.1.0,
+            w 3,
             refl,
             (
               s.rest.ep,
               _,
-              w.1.1.1.1.0,
+              w 4,
               refl,
               (
                 cast_unsigned w32 head.status,
                 s.rest.padding,
-                w.1.1.1.1.1.0,
+                w 5,
                 refl,
                 (
                   s.rest.padding,
@@ -288,7 +289,7 @@ record_sound of what bytes (path, r1, l1, e1, (busid, r2, l2, e2, (busnum, r3, l
     record {
       device = _;
       told = same;
-      fits = record { path = l1; busid = l2; wide = (l3, (l4, (l5, tt))); id_vendor = l6; id_product = l7; bcd_device = l8 };
+      fits = record { path = l1; busid = l2; busnum = l3; devnum = l4; speed = l5; id_vendor = l6; id_product = l7; bcd_device = l8 };
       layout = all ∙ ap (λ (t : List ℕ). path ++ (busid ++ put busnum (put devnum (put speed (two vendor (two product (two bcd t))))))) cells;
     }
 
@@ -296,7 +297,7 @@ pub record_complete : (of : RecordOf) (device : DeviceRecord) (bytes : List ℕ)
 unfolding record_form record_bytes fields halves
 record_complete of d bytes fits layout =
     let last : List ℕ = d.device_class ∷ d.device_subclass ∷ d.device_protocol ∷ d.configuration_value ∷ d.configurations ∷ d.interfaces ∷ [] in
-    let w = fits.wide in (
+     (
       d.path,
       _,
       fits.path,
@@ -309,17 +310,17 @@ record_complete of d bytes fits layout =
         (
           d.busnum,
           _,
-          w.0,
+          fits.busnum,
           refl,
           (
             d.devnum,
             _,
-            w.1.0,
+            fits.devnum,
             refl,
             (
               d.speed,
               _,
-              w.1.1.0,
+              fits.speed,
               refl,
               (
                 d.id_vendor,

@@ -1,3 +1,4 @@
+pub mod Wide
 pub mod Answered
 pub mod Recorded
 pub mod Entries

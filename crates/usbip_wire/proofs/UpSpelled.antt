@@ -21,6 +21,7 @@ use Rattle.usbip_wire.specs.Submit.{SpellsSubmit, Carries, submit_bytes}
 use Rattle.usbip_wire.specs.Unlink.{SpellsUnlink, unlink_bytes}
 use Rattle.usbip_wire.specs.Up.{Message, Submit, Unlink, Spells}
 use Rattle.usbip_wire.specs.UpFed.{Means}
+use Rattle.usbip_wire.proofs.Wide.{each_wide}
 use Rattle.usbip_wire.specs.UpForm.{request_form, submit_form, unlink_form, urb_form}
 use Rattle.usbip_wire.specs.Urb.{AreWide, IsNoPacketCount, fields, direction_code, dir_of, carried, is_no_packet_count}
 
@@ -82,7 +83,7 @@ submit_sound devid seqnum number what bytes rest ls ln imported e0 (direction, r
       packets = no_packet_count packets a6;
       setup = l8;
       carried = rw behind (carries (dir_of direction) size transferred l9);
-      wide = (lit< tt, (ls, (ln, (rw code l1, (l2, (l3, (l4, (l5, (l6, (l7, tt))))))))));
+      wide = each_wide (CMD_SUBMIT ∷ seqnum ∷ number ∷ direction_code (dir_of direction) ∷ ep ∷ flags ∷ size ∷ start ∷ packets ∷ interval ∷ []) (lit< tt, (ls, (ln, (rw code l1, (l2, (l3, (l4, (l5, (l6, (l7, tt))))))))));
       layout = rw (behind, code) all;
     })
 
@@ -97,7 +98,7 @@ unlink_sound devid seqnum number what bytes rest ls ln imported e0 (direction, r
       rest = record { direction = direction; ep = ep; padding = padding };
       imported = imported;
       padded = l4;
-      wide = (lit< tt, (ls, (ln, (l1, (l2, (l3, tt))))));
+      wide = each_wide (CMD_UNLINK ∷ seqnum ∷ number ∷ direction ∷ ep ∷ target ∷ []) (lit< tt, (ls, (ln, (l1, (l2, (l3, tt))))));
       layout = all;
     })
 
@@ -130,52 +131,52 @@ urb_complete devid (Submit head transferred) bytes s =
       (
         head.seqnum,
         _,
-        w.1.0,
+        w 1,
         refl,
         (
           head.devid,
           _,
-          w.1.1.0,
+          w 2,
           eq-eqb head.devid devid s.imported,
           refl,
           (
             direction_code head.dir,
             _,
-            w.1.1.1.0,
+            w 3,
             code_below head.dir,
             refl,
             (
               head.ep,
               _,
-              w.1.1.1.1.0,
+              w 4,
               le-leb head.ep ENDPOINT_MAX s.endpoint,
               refl,
               (
                 s.rest.transfer_flags,
                 _,
-                w.1.1.1.1.1.0,
+                w 5,
                 refl,
                 (
                   head.length,
                   _,
-                  w.1.1.1.1.1.1.0,
+                  w 6,
                   le-leb head.length SUBMIT_MAX s.short,
                   refl,
                   (
                     s.rest.start_frame,
                     _,
-                    w.1.1.1.1.1.1.1.0,
+                    w 7,
                     refl,
                     (
                       s.rest.number_of_packets,
                       _,
-                      w.1.1.1.1.1.1.1.1.0,
+                      w 8,
                       packet_count_no s.rest.number_of_packets s.packets,
                       refl,
                       (
                         s.rest.interval,
                         r,
-                        w.1.1.1.1.1.1.1.1.1.0,
+                        w 9,
                         refl,
                         (
                           head.setup,
@@ -210,28 +211,28 @@ urb_complete devid (Unlink head) bytes s =
       (
         head.seqnum,
         _,
-        w.1.0,
+        w 1,
         refl,
         (
           head.devid,
           _,
-          w.1.1.0,
+          w 2,
           eq-eqb head.devid devid s.imported,
           refl,
           (
             s.rest.direction,
             _,
-            w.1.1.1.0,
+            w 3,
             refl,
             (
               s.rest.ep,
               _,
-              w.1.1.1.1.0,
+              w 4,
               refl,
               (
                 head.target,
                 s.rest.padding,
-                w.1.1.1.1.1.0,
+                w 5,
                 refl,
                 (s.rest.padding, [], s.padded, sym (append-nil s.rest.padding), (refl, refl)),
               ),

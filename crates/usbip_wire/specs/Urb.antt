@@ -1,5 +1,5 @@
 -- what the URB messages share (Linux kernel documentation, "USB/IP protocol": usbip_header_basic)
-use Rattle.std.specs.Prelude.{◌≡◌, ◌⊎◌, ◌==◌, ◌||◌, Bool, if◌then◌else◌, ℕ, ℤ, ◌<◌, ◌^◌, List, [], ◌∷◌}
+use Rattle.std.specs.Prelude.{◌≡◌, ◌⊎◌, ◌==◌, ◌||◌, Bool, if◌then◌else◌, ℕ, ℤ, ◌<◌, ◌^◌, List, slice_index}
 use Rattle.std.specs.Int.{w16, w32, to_be_bytes, cast_signed, cast_unsigned}
 use Rattle.std.specs.List.{flat_map}
 use Rattle.usbip_wire.specs.declared.urb.Dir.{Dir}
@@ -16,8 +16,7 @@ halves words = flat_map (λ word. to_be_bytes w16 word) words
 
 -- each of these fits a field of four bytes
 abbrev pub AreWide : List ℕ → Type 0
-AreWide [] = Unit {0}
-AreWide (word ∷ words) = (word < 2 ^ 32) × AreWide words
+AreWide words = (i : ℕ) → slice_index words i < 2 ^ 32
 
 -- a status is a signed number of four bytes, in two's complement
 abbrev pub Fits32 : ℤ → Type 0

@@ -43,3 +43,6 @@ pub use unlink::{UnlinkHead, put_unlink};
 pub use up::{Up, UpStep};
 pub use up_reader::UpReader;
 pub use urb::{Dir, ENDPOINT_MAX, URB_HEADER};
+
+#[cfg(test)]
+mod tests;

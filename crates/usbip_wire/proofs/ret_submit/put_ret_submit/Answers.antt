@@ -1,7 +1,8 @@
 use Rattle.std.proofs.Common.{rules, ◌≡◌, inl, refl, arith}
 use Rattle.std.proofs.lemmas.Int.{to_z-of_z}
 use Rattle.std.specs.Int.{w32, cast_unsigned}
-use Rattle.usbip_wire.specs.RetSubmit.{unused}
+use Rattle.usbip_wire.specs.RetSubmit.{unused, ret_submit_words}
+use Rattle.usbip_wire.proofs.Wide.{each_wide}
 use Rattle.usbip_wire.proofs.Answered.{answer_appended}
 use Rattle.usbip_wire.proofs.ret_submit.put_ret_submit.Goals as goal
 
@@ -17,7 +18,7 @@ returns-clause-spelled_in c = λ whole asked within. record {
   packets = inl refl;
   returned = whole;
   status = search rules;
-  wide = search rules;
+  wide = each_wide (ret_submit_words c.args.head unused) (search rules);
   layout = refl;
 }
 
@@ -28,6 +29,6 @@ returns-clause-spelled_out c = λ none asked within. record {
   packets = inl refl;
   returned = none;
   status = search rules;
-  wide = search rules;
+  wide = each_wide (ret_submit_words c.args.head unused) (search rules);
   layout = refl;
 }
