@@ -128,3 +128,143 @@ fn requests_written_and_read(rt: HostRuntime) -> Result<(), Fail> {
     assert_eq!(rt; step.what, Up::Bad(field(Layer::Op, Name::Code, 2)));
     Ok(())
 }
+
+#[test]
+fn answers_cut_at_every_place(rt: HostRuntime) -> Result<(), Fail> {
+    let mut dirs = Dirs::new();
+    dirs.add_submit(1, Dir::In, 64);
+    dirs.add_submit(2, Dir::Out, 20);
+    dirs.add_unlink(3);
+    let given = RetSubmitHead {
+        seqnum: 1,
+        status: 0,
+        actual: 3,
+    };
+    let taken = RetSubmitHead {
+        seqnum: 2,
+        status: -32,
+        actual: 20,
+    };
+    let unlinked = RetUnlinkHead {
+        seqnum: 3,
+        status: -104,
+    };
+    let mut out = BytesMut::with_capacity(rt.alloc(), 147)?;
+    put_ret_submit(given, b"abc", &mut out);
+    put_ret_submit(taken, &[], &mut out);
+    put_ret_unlink(unlinked, &mut out);
+    assert_eq!(rt; out.len(), 147);
+    for cut in 0..51 {
+        let mut reader = DownReader::urbs(rt.alloc())?;
+        let first = reader.feed(&out.as_slice()[..cut], &dirs);
+        assert_eq!(rt; first.what, Down::More);
+        let second = reader.feed(&out.as_slice()[cut..], &dirs);
+        assert_eq!(rt; second.used, 51 - cut);
+        assert_eq!(rt; second.what, Down::RetSubmit(given));
+        assert_eq!(rt; reader.data(), b"abc".as_slice());
+        let third = reader.feed(&out.as_slice()[51..], &dirs);
+        assert_eq!(rt; third.used, 48);
+        assert_eq!(rt; third.what, Down::RetSubmit(taken));
+        assert_eq!(rt; reader.data(), b"".as_slice());
+        let last = reader.feed(&out.as_slice()[99..], &dirs);
+        assert_eq!(rt; last.used, 48);
+        assert_eq!(rt; last.what, Down::RetUnlink(unlinked));
+    }
+    Ok(())
+}
+
+#[test]
+fn refused_fields_of_answers(rt: HostRuntime) -> Result<(), Fail> {
+    let cases: [(&[u8], Field); 5] = [
+        (b"\0\0\0\x01", field(Layer::Urb, Name::Command, 0)),
+        (b"\0\0\0\x03\0\0\0\x07", field(Layer::Urb, Name::Seqnum, 4)),
+        (b"\0\0\0\x04\0\0\0\x01", field(Layer::Urb, Name::Seqnum, 4)),
+        (
+            b"\0\0\0\x03\0\0\0\x01\0\0\0\0\0\0\0\0\0\0\0\0\0\0\0\0\0\0\0\x41",
+            field(Layer::Urb, Name::ActualLength, 24),
+        ),
+        (
+            b"\0\0\0\x03\0\0\0\x01\0\0\0\0\0\0\0\0\0\0\0\0\0\0\0\0\0\0\0\x40\0\0\0\0\0\0\0\x02",
+            field(Layer::Urb, Name::Packets, 32),
+        ),
+    ];
+    let mut dirs = Dirs::new();
+    dirs.add_submit(1, Dir::In, 64);
+    for (text, refused) in cases {
+        let mut reader = DownReader::urbs(rt.alloc())?;
+        assert_eq!(rt; reader.feed(text, &dirs).what, Down::Bad(refused));
+        let again = reader.feed(text, &dirs);
+        assert_eq!(rt; again.used, 0);
+        assert_eq!(rt; again.what, Down::Bad(refused));
+    }
+    Ok(())
+}
+
+#[test]
+fn lists_and_imports_written_and_read(rt: HostRuntime) -> Result<(), Fail> {
+    let device = DeviceRecord {
+        path: [b'p'; 256],
+        busid: [b'b'; 32],
+        busnum: 1,
+        devnum: 2,
+        speed: 3,
+        id_vendor: 0xF055,
+        id_product: 0x0488,
+        bcd_device: 0x0100,
+        device_class: 4,
+        device_subclass: 5,
+        device_protocol: 6,
+        configuration_value: 7,
+        configurations: 8,
+        interfaces: 1,
+    };
+    let dirs = Dirs::new();
+    let mut out = BytesMut::with_capacity(rt.alloc(), 656)?;
+    put_device_list(0, &[device], &[[0xFE, 3, 1]], &mut out);
+    put_import_reply(0, Some(&device), &mut out);
+    put_import_reply(1, None, &mut out);
+    let mut reader = DownReader::ops(rt.alloc())?;
+    let mut rest = out.as_slice();
+    let parts = [
+        Down::Count {
+            status: 0,
+            devices: 1,
+        },
+        Down::Device(device),
+        Down::Interface {
+            class: 0xFE,
+            subclass: 3,
+            protocol: 1,
+        },
+        Down::Import {
+            status: 0,
+            device: Some(device),
+        },
+        Down::Import {
+            status: 1,
+            device: None,
+        },
+        Down::More,
+    ];
+    for part in parts {
+        let step = reader.feed(rest, &dirs);
+        assert_eq!(rt; step.what, part);
+        assert_eq!(rt; reader.data(), b"".as_slice());
+        rest = &rest[step.used..];
+    }
+    assert!(rt; rest.is_empty());
+    Ok(())
+}
+
+#[test]
+fn outstanding_messages(rt: HostRuntime) {
+    let mut dirs = Dirs::new();
+    dirs.add_submit(7, Dir::In, 4096);
+    dirs.add_unlink(8);
+    assert_eq!(rt; dirs.len(), 2);
+    assert!(rt; dirs.holds(7));
+    dirs.remove(7);
+    assert!(rt; !dirs.holds(7));
+    assert!(rt; dirs.holds(8));
+    assert_eq!(rt; dirs.len(), 1);
+}
