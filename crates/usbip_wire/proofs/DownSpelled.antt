@@ -296,8 +296,7 @@ record_sound of what bytes (path, r1, l1, e1, (busid, r2, l2, e2, (busnum, r3, l
 pub record_complete : (of : RecordOf) (device : DeviceRecord) (bytes : List ℕ) → IsRecord device → bytes ≡ record_bytes device → Spelled (record_form of) (record_told of device) bytes
 unfolding record_form record_bytes fields halves
 record_complete of d bytes fits layout =
-    let last : List ℕ = d.device_class ∷ d.device_subclass ∷ d.device_protocol ∷ d.configuration_value ∷ d.configurations ∷ d.interfaces ∷ [] in
-     (
+    let last : List ℕ = d.device_class ∷ d.device_subclass ∷ d.device_protocol ∷ d.configuration_value ∷ d.configurations ∷ d.interfaces ∷ [] in (
       d.path,
       _,
       fits.path,

@@ -114,6 +114,7 @@ fn requests_written_and_read(rt: HostRuntime) -> Result<(), Fail> {
     for request in [OpRequest::DevList, OpRequest::Import { busid }] {
         let mut out = BytesMut::with_capacity(rt.alloc(), 40)?;
         put_op_request(request, &mut out);
+        assert!(rt; out.len() > 7);
         let mut reader = UpReader::ops(rt.alloc())?;
         for byte in &out.as_slice()[..7] {
             assert_eq!(rt; reader.feed(&[*byte]).what, Up::More);
