@@ -1,1 +1,17 @@
+pub mod Wide
 pub mod Answered
+pub mod Recorded
+pub mod Entries
+pub mod Fronts
+pub mod Forms
+pub mod Pieces
+pub mod UpSpelled
+pub mod UpRead
+pub mod UpFeeding
+pub mod DownSpelled
+pub mod DownRead
+pub mod DownFeeding
+pub mod Determined
+pub mod Free
+pub mod Places
+pub mod Listed

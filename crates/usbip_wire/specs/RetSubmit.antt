@@ -5,7 +5,7 @@ use Rattle.usbip_wire.specs.declared.urb.Dir.{Dir}
 use Rattle.usbip_wire.specs.declared.urb.Dir.TheVariants.{Out, In}
 use Rattle.usbip_wire.specs.declared.urb.TheConstants.{RET_SUBMIT, NOT_ISOCHRONOUS}
 use Rattle.usbip_wire.specs.declared.ret_submit.RetSubmitHead.{RetSubmitHead}
-use Rattle.usbip_wire.specs.Urb.{fields, IsNoPacketCount}
+use Rattle.usbip_wire.specs.Urb.{AreWide, Fits32, fields, IsNoPacketCount}
 
 -- what an answer depends on: the direction and the length of the submit that it answers
 pub record Asked : Type 0 where
@@ -28,11 +28,10 @@ abbrev pub unused : Rest
 unused =
     record { devid = 0; direction = 0; ep = 0; start_frame = 0; number_of_packets = NOT_ISOCHRONOUS; error_count = 0; padding_high = 0; padding_low = 0 }
 
--- the layout: twelve fields, and the data
-unfoldable pub ret_submit_bytes : RetSubmitHead → Rest → List ℕ → List ℕ
-ret_submit_bytes head rest transferred =
-    fields
-    (RET_SUBMIT
+-- the twelve fields
+abbrev pub ret_submit_words : RetSubmitHead → Rest → List ℕ
+ret_submit_words head rest =
+    RET_SUBMIT
     ∷ head.seqnum
     ∷ rest.devid
     ∷ rest.direction
@@ -44,8 +43,11 @@ ret_submit_bytes head rest transferred =
     ∷ rest.error_count
     ∷ rest.padding_high
     ∷ rest.padding_low
-    ∷ [])
-    ++ transferred
+    ∷ []
+
+-- the layout: twelve fields, and the data
+unfoldable pub ret_submit_bytes : RetSubmitHead → Rest → List ℕ → List ℕ
+ret_submit_bytes head rest transferred = fields (ret_submit_words head rest) ++ transferred
 
 -- the data comes with the answer to an IN submit, and none comes with the answer to an OUT submit
 abbrev pub Returns : Dir → ℕ → List ℕ → Type 0
@@ -57,5 +59,7 @@ pub record SpellsRetSubmit (asked : Asked) (head : RetSubmitHead) (transferred b
   pub rest : Rest
   pub within : head.actual ≤ asked.size
   pub packets : IsNoPacketCount rest.number_of_packets
+  pub status : Fits32 head.status
+  pub wide : AreWide (ret_submit_words head rest)
   pub returned : Returns asked.dir head.actual transferred
   pub layout : bytes ≡ ret_submit_bytes head rest transferred

@@ -5,7 +5,7 @@ use Rattle.usbip_wire.specs.declared.urb.Dir.{Dir}
 use Rattle.usbip_wire.specs.declared.urb.Dir.TheVariants.{Out, In}
 use Rattle.usbip_wire.specs.declared.urb.TheConstants.{CMD_SUBMIT, ENDPOINT_MAX, NOT_ISOCHRONOUS}
 use Rattle.usbip_wire.specs.declared.submit.SubmitHead.{SubmitHead}
-use Rattle.usbip_wire.specs.Urb.{fields, direction_code, IsNoPacketCount}
+use Rattle.usbip_wire.specs.Urb.{AreWide, fields, direction_code, IsNoPacketCount}
 
 -- the fields that a submit of this link does not use
 pub record Rest : Type 0 where
@@ -18,11 +18,10 @@ pub record Rest : Type 0 where
 abbrev pub unused : Rest
 unused = record { transfer_flags = 0; start_frame = 0; number_of_packets = NOT_ISOCHRONOUS; interval = 0 }
 
--- the layout: ten fields, the setup packet, and the data
-unfoldable pub submit_bytes : SubmitHead → Rest → List ℕ → List ℕ
-submit_bytes head rest transferred =
-    fields
-    (CMD_SUBMIT
+-- the ten fields in front of the setup packet
+abbrev pub submit_words : SubmitHead → Rest → List ℕ
+submit_words head rest =
+    CMD_SUBMIT
     ∷ head.seqnum
     ∷ head.devid
     ∷ direction_code head.dir
@@ -32,8 +31,11 @@ submit_bytes head rest transferred =
     ∷ rest.start_frame
     ∷ rest.number_of_packets
     ∷ rest.interval
-    ∷ [])
-    ++ (head.setup ++ transferred)
+    ∷ []
+
+-- the layout: ten fields, the setup packet, and the data
+unfoldable pub submit_bytes : SubmitHead → Rest → List ℕ → List ℕ
+submit_bytes head rest transferred = fields (submit_words head rest) ++ (head.setup ++ transferred)
 
 -- the data goes with an OUT submit, and none goes with an IN submit
 abbrev pub Carries : Dir → ℕ → List ℕ → Type 0
@@ -49,4 +51,5 @@ pub record SpellsSubmit (devid : ℕ) (head : SubmitHead) (transferred bytes : L
   pub packets : IsNoPacketCount rest.number_of_packets
   pub setup : length head.setup ≡ 8
   pub carried : Carries head.dir head.length transferred
+  pub wide : AreWide (submit_words head rest)
   pub layout : bytes ≡ submit_bytes head rest transferred

@@ -1,7 +1,8 @@
-use Rattle.std.proofs.Common.{◌≡◌, inl, refl, arith}
+use Rattle.std.proofs.Common.{rules, ◌≡◌, inl, refl, arith}
 use Rattle.std.proofs.lemmas.Int.{to_z-of_z}
 use Rattle.std.specs.Int.{w32, cast_unsigned}
-use Rattle.usbip_wire.specs.RetSubmit.{unused}
+use Rattle.usbip_wire.specs.RetSubmit.{unused, ret_submit_words}
+use Rattle.usbip_wire.proofs.Wide.{each_wide}
 use Rattle.usbip_wire.proofs.Answered.{answer_appended}
 use Rattle.usbip_wire.proofs.ret_submit.put_ret_submit.Goals as goal
 
@@ -16,6 +17,8 @@ returns-clause-spelled_in c = λ whole asked within. record {
   within = within;
   packets = inl refl;
   returned = whole;
+  status = search rules;
+  wide = each_wide (ret_submit_words c.args.head unused) (search rules);
   layout = refl;
 }
 
@@ -25,5 +28,7 @@ returns-clause-spelled_out c = λ none asked within. record {
   within = within;
   packets = inl refl;
   returned = none;
+  status = search rules;
+  wide = each_wide (ret_submit_words c.args.head unused) (search rules);
   layout = refl;
 }

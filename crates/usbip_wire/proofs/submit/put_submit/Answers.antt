@@ -1,5 +1,6 @@
-use Rattle.std.proofs.Common.{inl, refl}
-use Rattle.usbip_wire.specs.Submit.{submit_bytes, unused}
+use Rattle.std.proofs.Common.{rules, inl, refl}
+use Rattle.usbip_wire.specs.Submit.{submit_bytes, submit_words, unused}
+use Rattle.usbip_wire.proofs.Wide.{each_wide}
 use Rattle.tmc_base.proofs.Appends.{three_appended}
 use Rattle.usbip_wire.proofs.submit.put_submit.Goals as goal
 
@@ -17,5 +18,6 @@ returns-clause-spelled c = record {
   packets = inl refl;
   setup = c.put_setup.ensures.eight;
   carried = c.requires.carried;
+  wide = each_wide (submit_words c.args.head unused) (search rules);
   layout = refl;
 }

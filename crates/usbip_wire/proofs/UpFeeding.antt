@@ -1,0 +1,62 @@
+-- what feeding answers, from what the held bytes are
+use Rattle.std.proofs.Common.{◌≡◌, ℕ, zero, suc, ◌+◌, ◌-◌, ◌<◌, ◌≤◌, Bool, true, false, Option, Some, None, List, [], ◌∷◌, ◌++◌, length, take, drop, Result, Ok, Err, refl, sym, ap, subst, ◌∙◌, append_assoc, arith}
+use Rattle.std.proofs.lemmas.List.{take_all, take-append-drop, append-nil}
+use Rattle.tmc_base.specs.declared.field.Field.{Field}
+use Rattle.usbip_wire.specs.declared.stop.Stop.{Stop}
+use Rattle.usbip_wire.specs.declared.stop.Stop.TheVariants.{Short, Refused}
+use Rattle.usbip_wire.specs.declared.up.Up.{Up}
+use Rattle.usbip_wire.specs.declared.up.Up.TheVariants as up
+use Rattle.usbip_wire.specs.declared.up.UpPhase.{UpPhase}
+use Rattle.usbip_wire.specs.declared.up.UpPhase.TheVariants.{Ops, Urbs}
+use Rattle.usbip_wire.specs.Form.{read}
+use Rattle.usbip_wire.specs.Given.{IsBytes}
+use Rattle.usbip_wire.specs.UpForm.{up_form}
+use Rattle.usbip_wire.specs.UpFed.{Held, Answers, Judged, Means, BadAt}
+use Rattle.usbip_wire.proofs.Forms.{more_bad, refused_bad}
+use Rattle.usbip_wire.proofs.Pieces.{rest_of_piece}
+use Rattle.usbip_wire.proofs.UpRead.{whole_means, whole_good, stopped_none, short_good}
+
+-- the reader behind so many bytes of a piece
+abbrev pub at : UpPhase → List ℕ → List ℕ → ℕ → Held
+at phase start piece used = record { phase = phase; rest = start ++ take used piece; whole = false; bad = None }
+
+answers_message : (phase : UpPhase) (start piece : List ℕ) (used : ℕ) (what : Up) (new : Held) → used ≤ length piece
+    → Means phase what (start ++ take used piece) → ((f : Field) → BadAt phase (start ++ piece) f → ⊥)
+    → new ≡ record { phase = phase; rest = start ++ take used piece; whole = true; bad = None } → Answers phase start piece used what new
+answers_message phase start piece used (up.Op request) new le m g e = (le, m, g, e)
+answers_message phase start piece used (up.Submit head) new le m g e = (le, m, g, e)
+answers_message phase start piece used (up.Unlink head) new le m g e = (le, m, g, e)
+answers_message Ops start piece used up.More new le m g e = absurd m
+answers_message (Urbs devid) start piece used up.More new le m g e = absurd m
+answers_message Ops start piece used (up.Bad f) new le m g e = absurd m
+answers_message (Urbs devid) start piece used (up.Bad f) new le m g e = absurd m
+
+pub answers_whole : (phase : UpPhase) (start piece : List ℕ) (used : ℕ) (self : Held) (what : Up) (new : Held) → used ≤ length piece
+    → self ≡ at phase start piece used → IsBytes self.rest → Judged self.phase self.rest (Ok what) → new ≡ record self { whole = true }
+    → Answers phase start piece used what new
+answers_whole phase start piece used self what new le e fits judged after =
+    let bytes : IsBytes (start ++ take used piece) = subst (λ (h : Held). IsBytes h.rest) e fits in
+    let r : read (up_form phase) (start ++ take used piece) ≡ Ok (what, []) = subst (λ (h : Held). read (up_form h.phase) h.rest ≡ Ok (what, [])) e judged in
+    answers_message phase start piece used what new le (whole_means phase what (start ++ take used piece) bytes r)
+    (λ f b. whole_good phase (start ++ take used piece) (drop used piece) what r f (subst (λ (t : List ℕ). BadAt phase t f) (sym (rest_of_piece start piece used)) b))
+    (after ∙ ap (λ (h : Held). record h { whole = true }) e)
+
+pub answers_bad : (phase : UpPhase) (start piece : List ℕ) (used : ℕ) (self : Held) (f : Field) (new : Held) → used ≤ length piece
+    → self ≡ at phase start piece used → IsBytes self.rest → Judged self.phase self.rest (Err (Refused f)) → new ≡ record self { bad = Some f }
+    → Answers phase start piece used (up.Bad f) new
+answers_bad phase start piece used self f new le e fits judged after =
+    let bytes : IsBytes (start ++ take used piece) = subst (λ (h : Held). IsBytes h.rest) e fits in
+    let r : read (up_form phase) (start ++ take used piece) ≡ Err (Refused f) = subst (λ (h : Held). read (up_form h.phase) h.rest ≡ Err (Refused f)) e judged in
+    let b : BadAt phase (start ++ take used piece) f = refused_bad (up_form phase) (start ++ take used piece) f bytes r in (
+      le,
+      subst (λ (t : List ℕ). BadAt phase t f) (rest_of_piece start piece used) (more_bad (up_form phase) (start ++ take used piece) (drop used piece) f b),
+      after ∙ ap (λ (h : Held). record h { bad = Some f }) e,
+    )
+
+pub answers_more : (phase : UpPhase) (start piece : List ℕ) (used : ℕ) (self : Held) (n : ℕ) → used ≡ length piece
+    → self ≡ at phase start piece used → Judged self.phase self.rest (Err (Short n)) → Answers phase start piece used up.More self
+answers_more phase start piece used self n all e judged =
+    let r : read (up_form phase) (start ++ take used piece) ≡ Err (Short n) = subst (λ (h : Held). read (up_form h.phase) h.rest ≡ Err (Short n)) e judged in
+    let whole : take used piece ≡ piece = take_all used piece (omega arith) in
+    let s : read (up_form phase) (start ++ piece) ≡ Err (Short n) = subst (λ (t : List ℕ). read (up_form phase) (start ++ t) ≡ Err (Short n)) whole r in
+    (all, stopped_none phase (start ++ piece) (Short n) s, short_good phase (start ++ piece) n s, e ∙ ap (λ (t : List ℕ). record { phase = phase; rest = start ++ t; whole = false; bad = None }) whole)

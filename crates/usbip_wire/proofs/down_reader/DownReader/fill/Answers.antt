@@ -1,0 +1,62 @@
+use Rattle.std.proofs.Common.{◌≡◌, ℕ, ◌+◌, ◌-◌, ◌<◌, ◌≤◌, List, [], ◌++◌, length, take, drop, refl, sym, ap, subst, ◌∙◌, arith, true, false, Some, None, Ok}
+use Rattle.std.proofs.lemmas.List.{append-nil, length-take, length-drop}
+use Rattle.usbip_wire.specs.declared.urb.TheConstants.{HELD_MAX}
+use Rattle.usbip_wire.specs.Form.{read}
+use Rattle.usbip_wire.specs.DownForm.{down_form}
+use Rattle.usbip_wire.specs.DownFed.{Held}
+use Rattle.usbip_wire.proofs.Forms.{exact, missing, within_most}
+use Rattle.usbip_wire.proofs.Pieces.{next_of_piece}
+use Rattle.usbip_wire.proofs.DownRead.{down_within, none_ends}
+use Rattle.usbip_wire.proofs.DownFeeding.{begun, ended, answers_whole, answers_bad, answers_more, still_ends}
+use Rattle.usbip_wire.proofs.down_reader.DownReader.fill.Goals as goal
+
+pub loop-what-init : goal.loop-what-init
+loop-what-init c = record {
+  within = omega arith;
+  held = begun c.args.self.now c.requires.unread c.requires.good;
+  ends = none_ends c.args.self.now.phase c.args.dirs.now c.args.self.now.rest c.know.ensures;
+}
+
+pub returns-in-Ok-clause-fresh : goal.returns-in-Ok-clause-fresh
+returns-in-Ok-clause-fresh c = λ none.
+    let judged = c.in-Ok.ensures.judged in
+    let e : read (down_form c.loop-what.self.phase c.args.dirs.now) c.loop-what.self.rest ≡ Ok (c.in-Ok.what, []) =
+    ended c.loop-what.self.phase c.args.dirs.now c.loop-what.self.rest c.in-Ok.what judged.0 judged.1 (c.loop-what.invariant.ends none) in
+    answers_whole c.args.self.now.phase c.args.dirs.now c.args.self.now.rest c.args.piece.now c.loop-what.used c.loop-what.self c.in-Ok.what _
+    c.loop-what.invariant.within c.loop-what.invariant.held c.in-Ok.ensures.bytes e c.finish.ensures
+
+pub returns-in-Err-Refused-clause-fresh : goal.returns-in-Err-Refused-clause-fresh
+returns-in-Err-Refused-clause-fresh c = λ none.
+    let e = rw c.in-Err-Refused.field-0-is at c.in-Err-Refused.ensures.judged in
+    answers_bad c.args.self.now.phase c.args.dirs.now c.args.self.now.rest c.args.piece.now c.loop-what.used c.loop-what.self c.in-Err-Refused.field _
+    c.loop-what.invariant.within c.loop-what.invariant.held c.in-Err-Refused.ensures.bytes e (ap (λ (h : Held). record h { bad = Some c.in-Err-Refused.field }) c.self.view_is)
+
+pub returns-then-used-piece-clause-fresh : goal.returns-then-used-piece-clause-fresh
+returns-then-used-piece-clause-fresh c = λ none.
+    let e = rw c.in-Err-Short.field-0-is at c.in-Err-Short.ensures.judged in
+    answers_more c.args.self.now.phase c.args.dirs.now c.args.self.now.rest c.args.piece.now c.loop-what.used c.loop-what.self c.in-Err-Short.missing
+    c.if-used-piece.true c.loop-what.invariant.held e
+
+pub add-requires : goal.add-requires
+add-requires c =
+    let e = rw c.in-Err-Short.field-0-is at c.in-Err-Short.ensures.judged in
+    let most = within_most (down_form c.loop-what.self.phase c.args.dirs.now) HELD_MAX c.loop-what.self.rest c.in-Err-Short.missing (down_within c.loop-what.self.phase c.args.dirs.now c.in-Err-Short.ensures.short) e in
+    omega (arith, most, c.min.ensures, length-take (c.loop-what.used + c.min.result - c.loop-what.used) (drop c.loop-what.used c.args.piece.now))
+
+pub loop-what-smaller : goal.loop-what-smaller
+loop-what-smaller c =
+    let e = rw c.in-Err-Short.field-0-is at c.in-Err-Short.ensures.judged in
+    let some = missing (down_form c.loop-what.self.phase c.args.dirs.now) c.loop-what.self.rest c.in-Err-Short.missing e in
+    omega (arith, some, c.min.ensures, c.loop-what.invariant.within, c.if-used-piece.false)
+
+pub loop-what-preserved : goal.loop-what-preserved
+loop-what-preserved c =
+    let e = rw c.in-Err-Short.field-0-is at c.in-Err-Short.ensures.judged in
+    let next : List ℕ = take (c.loop-what.used + c.min.result - c.loop-what.used) (drop c.loop-what.used c.args.piece.now) in
+    let few : length next ≤ c.in-Err-Short.missing = omega (arith, c.min.ensures, length-take (c.loop-what.used + c.min.result - c.loop-what.used) (drop c.loop-what.used c.args.piece.now)) in
+    record {
+      within = omega (arith, c.min.ensures, c.loop-what.invariant.within);
+      held = c.add.ensures ∙ (ap (λ (h : Held). record h { rest = h.rest ++ next }) c.loop-what.invariant.held
+          ∙ ap (λ (t : List ℕ). record { phase = c.args.self.now.phase; rest = t; whole = false; bad = None }) (next_of_piece c.args.self.now.rest c.args.piece.now c.loop-what.used c.min.result));
+      ends = λ none. still_ends c.args.dirs.now c.loop-what.self c.add.new.self next c.in-Err-Short.missing c.add.ensures e few;
+    }

@@ -1,0 +1,12 @@
+use Rattle.std.proofs.Common.{◌≡◌, ◌≤◌, ◌-◌, ◌++◌, length, take, None, false}
+use Rattle.usbip_wire.specs.UpFed.{Ends}
+use Rattle.usbip_wire.proofs.up_reader.UpReader.fill.Given as goal
+
+abbrev pub invariant-loop-what : goal.invariant-loop-what
+invariant-loop-what l = record {
+  within : l.used ≤ length l.piece;
+  held : l.self ≡ record { phase = l.fn.self.phase; rest = l.fn.self.rest ++ take l.used l.fn.piece; whole = false; bad = None };
+}
+
+abbrev pub decreases-loop-what : goal.decreases-loop-what
+decreases-loop-what l = length l.piece - l.used

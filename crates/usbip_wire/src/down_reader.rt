@@ -1,0 +1,187 @@
+//! The reader of what a device sends.
+
+ghost use Rattle.std.specs.Prelude.{◌≡◌, ◌+◌, ◌≤◌, [], ◌++◌, length, IfOk, Some, None, true, false};
+ghost use Rattle.usbip_wire.specs.declared.down.DownPhase.TheVariants.{Ops, Urbs};
+ghost use Rattle.usbip_wire.specs.Dirs.{AreShort};
+ghost use Rattle.usbip_wire.specs.DownForm.{after};
+ghost use Rattle.usbip_wire.specs.Given.{IsBytes};
+ghost use Rattle.usbip_wire.specs.DownFed.{Held, Fed, Answers, NoneWhole, Judged, kept, data_of};
+
+use crate::dirs::Dirs;
+use crate::down::{Down, DownPhase, DownStep};
+use crate::down_reading::read_down;
+use crate::reading::are_bytes;
+use crate::stop::Stop;
+use crate::urb::{HELD_MAX, behind_header};
+use bytes::BytesMut;
+use std::alloc::Global;
+use std::marker::Model;
+use tmc_base::{Field, Memory};
+
+/// Reads a device's messages from bytes that come in pieces. It holds at most one message.
+#[derive(Drop)]
+pub struct DownReader {
+    phase: DownPhase,
+    buf: BytesMut,
+    whole: bool,
+    bad: Option<Field>,
+}
+
+impl Model for DownReader {
+    ghost use Rattle.std.specs.Prelude.{◌+◌, ◌≤◌, length};
+    ghost use Rattle.usbip_wire.specs.DownFed.{Held};
+
+    ghost Value = { Held };
+
+    ghost view = { λ r. record { phase = r.phase; rest = r.buf.items; whole = r.whole; bad = r.bad } };
+
+    ghost invariant = { λ r. 70048 ≤ length r.buf.items + r.buf.spare };
+}
+
+impl DownReader {
+    /// A reader of the answers to operations. It takes all the memory that it will need.
+    pub fn ops(alloc: Global) -> Result<DownReader, Memory>
+        ensures { IfOk result (λ reader. reader ≡ record { phase = Ops 0 0; rest = []; whole = false; bad = None }) }
+    {
+        DownReader::begun(
+            alloc,
+            DownPhase::Ops {
+                devices: 0,
+                interfaces: 0,
+            },
+        )
+    }
+
+    /// A reader of the answers to URB messages. It takes all the memory that it will need.
+    pub fn urbs(alloc: Global) -> Result<DownReader, Memory>
+        ensures { IfOk result (λ reader. reader ≡ record { phase = Urbs; rest = []; whole = false; bad = None }) }
+    {
+        DownReader::begun(alloc, DownPhase::Urbs)
+    }
+
+    fn begun(alloc: Global, phase: DownPhase) -> Result<DownReader, Memory>
+        ensures { IfOk result (λ reader. reader ≡ record { phase = phase; rest = []; whole = false; bad = None }) }
+    {
+        let buf = BytesMut::with_capacity(alloc, HELD_MAX)?;
+        Ok(DownReader {
+            phase,
+            buf,
+            whole: false,
+            bad: None,
+        })
+    }
+
+    /// Takes bytes up to the end of the next message, of answers to what `dirs` says is outstanding. It
+    /// takes no memory. `Bad` comes where the last byte of a refused field has come; from then on nothing
+    /// is used, and the answer stays the same. The bytes that are kept are judged by the `dirs` of each
+    /// call: while part of an answer is kept, its entry must stand as it did.
+    pub fn feed(&mut self, piece: &[u8], dirs: &Dirs) -> DownStep
+        ensures { Fed self.old dirs.now piece.now result self.new }
+    {
+        if let Some(field) = self.bad {
+            return DownStep {
+                used: 0,
+                what: Down::Bad(field),
+            };
+        }
+        self.begin();
+        self.fill(piece, dirs)
+    }
+
+    /// The data of the answer that the last `feed` gave, and nothing after any other.
+    pub fn data(&self) -> &[u8]
+        ensures { result.now ≡ data_of self.now }
+    {
+        if !self.whole {
+            return &[];
+        }
+        match self.phase {
+            DownPhase::Ops { .. } => &[],
+            DownPhase::Urbs => behind_header(self.buf.as_slice()),
+        }
+    }
+
+    /// Lets the last message go.
+    fn begin(&mut self)
+        requires { self.old.bad ≡ None }
+        ensures { self.new ≡ record { phase = self.old.phase; rest = kept self.old; whole = false; bad = None } }
+    {
+        if self.whole {
+            self.buf.clear();
+            self.whole = false;
+        }
+    }
+
+    fn fill(&mut self, piece: &[u8], dirs: &Dirs) -> DownStep
+        requires good { self.old.bad ≡ None }
+        requires unread { self.old.whole ≡ false }
+        ensures fresh { NoneWhole self.old.phase dirs.now self.old.rest
+            → Answers self.old.phase dirs.now self.old.rest piece.now result.used result.what self.new }
+        ensures within { result.used ≤ length piece.now }
+    {
+        self.know();
+        let mut used = 0;
+        loop {
+            match self.judge(dirs) {
+                Ok(what) => {
+                    self.finish(&what);
+                    return DownStep { used, what };
+                }
+                Err(Stop::Refused(field)) => {
+                    self.bad = Some(field);
+                    return DownStep {
+                        used,
+                        what: Down::Bad(field),
+                    };
+                }
+                Err(Stop::Short(missing)) => {
+                    if used == piece.len() {
+                        return DownStep {
+                            used,
+                            what: Down::More,
+                        };
+                    }
+                    let end = used + missing.min(piece.len() - used);
+                    self.add(&piece[used..end]);
+                    used = end;
+                }
+            }
+        }
+    }
+
+    /// What the bytes held are.
+    fn judge(&self, dirs: &Dirs) -> Result<Down, Stop>
+        ensures judged { Judged self.now.phase dirs.now self.now.rest result }
+        ensures bytes { IsBytes self.now.rest }
+        ensures short { AreShort dirs.now }
+    {
+        dirs.know();
+        let held = self.buf.as_slice();
+        are_bytes(held);
+        let (what, _left) = read_down(self.phase, dirs, held)?;
+        Ok(what)
+    }
+
+    /// What `u8` says of the bytes held.
+    fn know(&self)
+        ensures { IsBytes self.now.rest }
+    {
+        are_bytes(self.buf.as_slice());
+    }
+
+    /// Holds these bytes too.
+    fn add(&mut self, next: &[u8])
+        requires { length self.old.rest + length next.now ≤ HELD_MAX }
+        ensures { self.new ≡ record self.old { rest = self.old.rest ++ next.now } }
+    {
+        self.buf.extend_reserved(next);
+    }
+
+    /// A message is whole.
+    fn finish(&mut self, what: &Down)
+        ensures { self.new ≡ record self.old { phase = after self.old.phase what.now; whole = true } }
+    {
+        self.phase = self.phase.after(what);
+        self.whole = true;
+    }
+}

@@ -1,0 +1,54 @@
+//! What holds of the spellings. Each function does nothing, and its contract is the law.
+
+ghost use Rattle.std.specs.Prelude.{ℕ, List};
+ghost use Rattle.tmc_base.specs.declared.field.Field.{Field};
+ghost use Rattle.usbip_wire.specs.declared.dirs.Outstanding.{Outstanding};
+ghost use Rattle.usbip_wire.specs.declared.up.UpPhase.TheVariants as up_phase;
+ghost use Rattle.usbip_wire.specs.declared.down.DownPhase.TheVariants as down_phase;
+ghost use Rattle.usbip_wire.specs.DevList.{SpellsPart};
+ghost use Rattle.usbip_wire.specs.Down.{SpellsAnswer};
+ghost use Rattle.usbip_wire.specs.DownFed as down_fed;
+ghost use Rattle.usbip_wire.specs.Laws.{ArePrefixFree, AreDetermined, AreReadAgain, RefusedAt};
+ghost use Rattle.usbip_wire.specs.OpRequest.{SpellsRequest};
+ghost use Rattle.usbip_wire.specs.Up.{Spells};
+ghost use Rattle.usbip_wire.specs.UpFed as up_fed;
+
+/// No request of an operation begins another, the bytes determine the requests and the rest, and what was
+/// written is read again, whatever follows it.
+pub fn requests_are_determined()
+    ensures free { ArePrefixFree SpellsRequest }
+    ensures determined { AreDetermined SpellsRequest }
+    ensures again { AreReadAgain SpellsRequest }
+{}
+
+/// The same of the submits and unlinks to one device.
+pub fn urbs_are_determined()
+    ensures free { (devid : ℕ) → ArePrefixFree (Spells devid) }
+    ensures determined { (devid : ℕ) → AreDetermined (Spells devid) }
+    ensures again { (devid : ℕ) → AreReadAgain (Spells devid) }
+{}
+
+/// The same of the parts of an operation's answer, where so many devices and interfaces are awaited.
+pub fn parts_are_determined()
+    ensures free { (devices interfaces : ℕ) → ArePrefixFree (SpellsPart devices interfaces) }
+    ensures determined { (devices interfaces : ℕ) → AreDetermined (SpellsPart devices interfaces) }
+    ensures again { (devices interfaces : ℕ) → AreReadAgain (SpellsPart devices interfaces) }
+{}
+
+/// The same of the answers to one list of outstanding messages.
+pub fn answers_are_determined()
+    ensures free { (entries : List Outstanding) → ArePrefixFree (SpellsAnswer entries) }
+    ensures determined { (entries : List Outstanding) → AreDetermined (SpellsAnswer entries) }
+    ensures again { (entries : List Outstanding) → AreReadAgain (SpellsAnswer entries) }
+{}
+
+/// A bad field stands whole at its offset, and no spelling that begins with the bytes before it has its
+/// value there.
+pub fn bad_fields_are_refused()
+    ensures request { (rest : List ℕ) (f : Field) → up_fed.BadAt up_phase.Ops rest f → RefusedAt SpellsRequest rest f }
+    ensures urb { (devid : ℕ) (rest : List ℕ) (f : Field) → up_fed.BadAt (up_phase.Urbs devid) rest f → RefusedAt (Spells devid) rest f }
+    ensures part { (devices interfaces : ℕ) (entries : List Outstanding) (rest : List ℕ) (f : Field)
+        → down_fed.BadAt (down_phase.Ops devices interfaces) entries rest f → RefusedAt (SpellsPart devices interfaces) rest f }
+    ensures answer { (entries : List Outstanding) (rest : List ℕ) (f : Field)
+        → down_fed.BadAt down_phase.Urbs entries rest f → RefusedAt (SpellsAnswer entries) rest f }
+{}
