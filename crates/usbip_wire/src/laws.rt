@@ -1,8 +1,10 @@
 //! What holds of the spellings. Each function does nothing, and its contract is the law.
 
-ghost use Rattle.std.specs.Prelude.{ℕ, List};
+ghost use Rattle.std.specs.Prelude.{◌≡◌, ℕ, List};
 ghost use Rattle.tmc_base.specs.declared.field.Field.{Field};
 ghost use Rattle.usbip_wire.specs.declared.dirs.Outstanding.{Outstanding};
+ghost use Rattle.usbip_wire.specs.declared.op.TheConstants.{USBIP_VERSION, REQ_DEVLIST, REP_DEVLIST, REQ_IMPORT, REP_IMPORT};
+ghost use Rattle.usbip_wire.specs.declared.urb.TheConstants.{CMD_SUBMIT, CMD_UNLINK, RET_SUBMIT, RET_UNLINK, NOT_ISOCHRONOUS, ENDPOINT_MAX, URB_HEADER};
 ghost use Rattle.usbip_wire.specs.declared.up.UpPhase.TheVariants as up_phase;
 ghost use Rattle.usbip_wire.specs.declared.down.DownPhase.TheVariants as down_phase;
 ghost use Rattle.usbip_wire.specs.DevList.{SpellsPart};
@@ -12,6 +14,19 @@ ghost use Rattle.usbip_wire.specs.Laws.{ArePrefixFree, AreDetermined, AreReadAga
 ghost use Rattle.usbip_wire.specs.OpRequest.{SpellsRequest};
 ghost use Rattle.usbip_wire.specs.Up.{Spells};
 ghost use Rattle.usbip_wire.specs.UpFed as up_fed;
+
+/// The numbers of the protocol: the version, the codes of operations and of URBs, what stands in place of the
+/// number of packets where a transfer is not isochronous, the highest endpoint, and the bytes of an URB's header.
+pub fn numbers_are_the_protocols()
+    ensures version { USBIP_VERSION ≡ 0x0111 }
+    ensures list { (REQ_DEVLIST ≡ 0x8005) × (REP_DEVLIST ≡ 0x0005) }
+    ensures import { (REQ_IMPORT ≡ 0x8003) × (REP_IMPORT ≡ 0x0003) }
+    ensures submit { (CMD_SUBMIT ≡ 1) × (RET_SUBMIT ≡ 3) }
+    ensures unlink { (CMD_UNLINK ≡ 2) × (RET_UNLINK ≡ 4) }
+    ensures packets { NOT_ISOCHRONOUS ≡ 0xffffffff }
+    ensures endpoint { ENDPOINT_MAX ≡ 15 }
+    ensures header { URB_HEADER ≡ 48 }
+{}
 
 /// No request of an operation begins another, the bytes determine the requests and the rest, and what was
 /// written is read again, whatever follows it.
