@@ -1,5 +1,5 @@
 -- how a call of the program ends
-use Rattle.std.proofs.Common.{◌≡◌, ◌⊎◌, inl, inr, ⊎_elim, ℕ, ◌+◌, ◌<◌, ◌≤◌, List, [], ◌∷◌, ◌++◌, length, Bool, true, false, IsTrue, map, get_or, refl, sym, ap, ◌∙◌, subst, arith, length-append, append-nil, codes, Option, Some}
+use Rattle.std.proofs.Common.{◌≡◌, ◌⊎◌, inl, inr, ⊎_elim, ℕ, ◌<◌, ◌≤◌, List, [], ◌∷◌, ◌++◌, length, Bool, true, false, IsTrue, map, get_or, refl, sym, ap, ◌∙◌, subst, arith, length-append, append-nil, codes, Option, Some}
 use Rattle.std.proofs.lemmas.Bool.{cases_lt, false≢true}
 use Rattle.std.proofs.lemmas.Slice.Eq.{bytes_eq-Decides}
 use Rattle.std.specs.Str.{bytes_eq}
@@ -139,9 +139,9 @@ ends_printed one words Usage before after bytes message response e ask told ques
 ends_printed one words Refused before after bytes message response e ask told question calm_source calm_sink =
     let read = e.1.1 in
     absurd (⊎_elim
-      (λ ended. not_refused one bytes message response read.1 read.2 question (subst (λ bs. IsRefused bs read.1 read.2) (sym (all_read bytes read.0 before.left after.left told read.3.first ended)) read.4))
-      (λ long. omega (arith, long, not_shorter bytes read.0 before.left after.left told read.3.first, line_size bytes message question.line, question.asked.short))
-      read.3.enough)
+    (λ ended. not_refused one bytes message response read.1 read.2 question (subst (λ bs. IsRefused bs read.1 read.2) (sym (all_read bytes read.0 before.left after.left told read.3.first ended)) read.4))
+    (λ long. omega (arith, long, not_shorter bytes read.0 before.left after.left told read.3.first, line_size bytes message question.line, question.asked.short))
+    read.3.enough)
 ends_printed one words SourceFault before after bytes message response e ask told question calm_source calm_sink = absurd (calm_source e.1)
 ends_printed one words SinkFault before after bytes message response e ask told question calm_source calm_sink = absurd (calm_sink e.0)
 ends_printed one words NoMemory before after bytes message response e ask told question calm_source calm_sink = inr refl

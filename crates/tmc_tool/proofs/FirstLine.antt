@@ -1,7 +1,7 @@
 -- the first line of some bytes is one, and one line is not both asked and refused
-use Rattle.std.proofs.Common.{◌≡◌, ◌⊎◌, ⊎_elim, ℕ, zero, suc, ◌+◌, ◌<◌, ◌≤◌, List, [], ◌∷◌, ◌++◌, length, refl, sym, ap, ◌∙◌, subst, arith, length-append}
+use Rattle.std.proofs.Common.{◌≡◌, ⊎_elim, ℕ, ◌+◌, ◌≤◌, List, [], ◌∷◌, ◌++◌, length, refl, sym, ap, ◌∙◌, subst, arith, length-append}
 use Rattle.std.specs.Prelude.{Contains}
-use Rattle.std.proofs.lemmas.List.Elements.{Contains-append_left, Contains-append_right}
+use Rattle.std.proofs.lemmas.List.Elements.{Contains-append_right}
 use Rattle.tmc_tool.specs.declared.line.LineWhat.{LineWhat}
 use Rattle.tmc_tool.specs.declared.line.LineWhat.TheVariants.{Words, EmptyMessage, LongMessage, NotYet}
 use Rattle.tmc_tool.specs.Line.{IsFirstLine, IsQuestion, IsRefused, Responds}
@@ -42,13 +42,13 @@ pub same_line : (bytes m n b d : List ℕ) → IsFirstLine bytes m b → IsFirst
 same_line bytes m n b d first second =
     ⊎_elim
     (λ alone. ⊎_elim
-      (λ other. (sym alone.0 ∙ other.0, alone.1 ∙ sym other.1))
-      (λ other. absurd (first.pure (subst (λ xs. Contains xs 10) (sym (sym alone.0 ∙ other)) (split_in n d))))
-      second.cut)
+    (λ other. (sym alone.0 ∙ other.0, alone.1 ∙ sym other.1))
+    (λ other. absurd (first.pure (subst (λ xs. Contains xs 10) (sym (sym alone.0 ∙ other)) (split_in n d))))
+    second.cut)
     (λ ended. ⊎_elim
-      (λ other. absurd (second.pure (subst (λ xs. Contains xs 10) (sym (sym other.0 ∙ ended)) (split_in m b))))
-      (λ other. at_seam m n b d first.pure second.pure (sym ended ∙ other))
-      second.cut)
+    (λ other. absurd (second.pure (subst (λ xs. Contains xs 10) (sym (sym other.0 ∙ ended)) (split_in m b))))
+    (λ other. at_seam m n b d first.pure second.pure (sym ended ∙ other))
+    second.cut)
     first.cut
 
 -- a line that is nothing but a message, with or without an NL, has at most one byte more
@@ -79,9 +79,9 @@ not_refused one bytes message response line NotYet question refused =
     ⊎_elim
     (λ long. omega (arith, long, question.asked.short, ap length same.0))
     (λ other.
-      let agree : response ≡ other.0 = one message response other.0 question.asked.responds (subst (λ m. Responds m other.0) (sym same.0) other.1) in
-      ⊎_elim
-      (λ none. omega (arith, question.asked.answered, ap length (agree ∙ none)))
-      (λ long. omega (arith, question.asked.whole, ap length agree, long))
-      other.2)
+    let agree : response ≡ other.0 = one message response other.0 question.asked.responds (subst (λ m. Responds m other.0) (sym same.0) other.1) in
+    ⊎_elim
+    (λ none. omega (arith, question.asked.answered, ap length (agree ∙ none)))
+    (λ long. omega (arith, question.asked.whole, ap length agree, long))
+    other.2)
     r.5

@@ -1,5 +1,5 @@
 -- what the code says of a line, by its message and what stands behind it
-use Rattle.std.specs.Prelude.{◌≡◌, ◌⊎◌, ℕ, ⊤, ◌<◌, ◌≤◌, List, [], length}
+use Rattle.std.specs.Prelude.{◌≡◌, ℕ, ⊤, ◌<◌, ◌≤◌, List, [], length}
 use Rattle.tmc_tool.specs.declared.line.LineFault.{LineFault}
 use Rattle.tmc_tool.specs.declared.line.LineFault.TheVariants.{At, Memory}
 use Rattle.tmc_tool.specs.declared.line.LineWhat.{LineWhat}

@@ -169,10 +169,20 @@ fn refuses_what_cannot_be_asked(rt: HostRuntime) -> Result<(), Fail> {
         ("ask", "\n*IDN?", 2, "refused line 1 EmptyMessage\n"),
         ("ask", "*CLS", 2, "refused line 1 NotYet\n"),
         ("ask", "FOO;*OPC?", 2, "refused line 1 NotYet\n"),
-        ("ask", "*CLS\nmore lines behind it", 2, "refused line 1 NotYet\n"),
+        (
+            "ask",
+            "*CLS\nmore lines behind it",
+            2,
+            "refused line 1 NotYet\n",
+        ),
         ("ask", "READ? 3994", 2, "refused line 1 NotYet\n"),
         ("ask", "*IDN?\n\n", 2, "refused line 2 Words\n"),
-        ("ask", "*IDN?\nmore lines behind it", 2, "refused line 2 Words\n"),
+        (
+            "ask",
+            "*IDN?\nmore lines behind it",
+            2,
+            "refused line 2 Words\n",
+        ),
         ("frob", "*IDN?", 1, "usage\n"),
         ("", "*IDN?", 1, "usage\n"),
         ("ask ask", "*IDN?", 1, "usage\n"),
@@ -203,7 +213,10 @@ fn judges_a_line_by_its_size(rt: HostRuntime) -> Result<(), Fail> {
         input.extend_from_slice(end.as_bytes())?;
         let (status, sink) = run(alloc, "ask", &input, 4_096)?;
         assert_eq!(rt; status, want_status, "{start:?} {count} {end:?}");
-        assert!(rt; sink.bytes().starts_with(want.as_bytes()), "{start:?} {count} {end:?}");
+        assert!(rt;
+            sink.bytes().starts_with(want.as_bytes()),
+            "{start:?} {count} {end:?}"
+        );
     }
     Ok(())
 }

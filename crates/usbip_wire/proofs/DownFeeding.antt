@@ -1,5 +1,5 @@
 -- what feeding answers, from what the held bytes are
-use Rattle.std.proofs.Common.{◌≡◌, ℕ, zero, suc, ◌+◌, ◌-◌, ◌<◌, ◌≤◌, Bool, true, false, Option, Some, None, List, [], ◌∷◌, ◌++◌, length, take, drop, Result, Ok, Err, refl, sym, ap, subst, ◌∙◌, append_assoc, arith}
+use Rattle.std.proofs.Common.{◌≡◌, ℕ, ◌≤◌, Bool, true, false, Option, Some, None, List, [], ◌++◌, length, take, drop, Ok, Err, sym, ap, subst, ◌∙◌, arith}
 use Rattle.std.proofs.lemmas.List.{take_all, append-nil}
 use Rattle.tmc_base.specs.declared.field.Field.{Field}
 use Rattle.usbip_wire.specs.declared.dirs.Outstanding.{Outstanding}
@@ -7,7 +7,6 @@ use Rattle.usbip_wire.specs.declared.down.Down.{Down}
 use Rattle.usbip_wire.specs.declared.down.Down.TheVariants as down
 use Rattle.usbip_wire.specs.declared.down.DownPhase.{DownPhase}
 use Rattle.usbip_wire.specs.declared.down.DownPhase.TheVariants.{Ops, Urbs}
-use Rattle.usbip_wire.specs.declared.stop.Stop.{Stop}
 use Rattle.usbip_wire.specs.declared.stop.Stop.TheVariants.{Short, Refused}
 use Rattle.usbip_wire.specs.Form.{read}
 use Rattle.usbip_wire.specs.Given.{IsBytes}

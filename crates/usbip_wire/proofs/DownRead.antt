@@ -1,5 +1,5 @@
 -- what reading says of a device's messages
-use Rattle.std.proofs.Common.{◌≡◌, ℕ, zero, suc, ◌+◌, ◌-◌, ◌≤◌, lit≤, arith, cond, eqb, true, false, Bool, Option, Some, None, List, [], ◌∷◌, ◌++◌, length, drop, Result, Ok, Err, refl, sym, ap, subst, ◌∙◌}
+use Rattle.std.proofs.Common.{◌≡◌, ℕ, ◌≤◌, lit≤, arith, cond, eqb, Option, Some, None, List, [], ◌∷◌, ◌++◌, drop, Ok, Err, sym, subst, ◌∙◌}
 use Rattle.std.specs.Prelude.{is_some}
 use Rattle.std.proofs.lemmas.Bool.{leb-true, cond_both}
 use Rattle.std.proofs.lemmas.List.{append-nil}
@@ -18,17 +18,17 @@ use Rattle.usbip_wire.specs.declared.op.TheConstants.{REP_DEVLIST}
 use Rattle.usbip_wire.specs.declared.urb.Dir.{Dir}
 use Rattle.usbip_wire.specs.declared.urb.Dir.TheVariants.{Out, In}
 use Rattle.usbip_wire.specs.declared.stop.Stop.{Stop}
-use Rattle.usbip_wire.specs.declared.stop.Stop.TheVariants.{Short, Refused}
+use Rattle.usbip_wire.specs.declared.stop.Stop.TheVariants.{Short}
 use Rattle.usbip_wire.specs.declared.urb.TheConstants.{URB_HEADER, HELD_MAX, RET_SUBMIT}
 use Rattle.usbip_wire.specs.Down.{RetSubmit, RetUnlink}
 use Rattle.usbip_wire.specs.DownFed.{Means, NoneWhole, BadAt, Ends}
 use Rattle.usbip_wire.specs.Dirs.{IsShort, AreShort, number_of, find, submit_of, is_unlink}
 use Rattle.usbip_wire.specs.DownForm.{down_form, ops_form, answer_form, reply_form, record_form, interface_form, ret_submit_form, ret_unlink_form, dir_asked, size_asked}
-use Rattle.usbip_wire.specs.Form.{Form, Judged, Number, Done, Four, Spelled, read}
+use Rattle.usbip_wire.specs.Form.{Judged, Number, Done, Four, Spelled, read}
 use Rattle.usbip_wire.specs.Given.{IsBytes}
 use Rattle.usbip_wire.specs.Urb.{returned}
 use Rattle.usbip_wire.proofs.DownSpelled.{answer_sound, answer_complete, ops_sound, ops_complete, head_of}
-use Rattle.usbip_wire.proofs.Forms.{sound, complete, bad_refused, more_whole, Within}
+use Rattle.usbip_wire.proofs.Forms.{sound, bad_refused, more_whole, Within}
 use Rattle.usbip_wire.proofs.UpRead.{none_by, both_within}
 
 down_sound : (phase : DownPhase) (entries : List Outstanding) (what : Down) (bytes : List ℕ) → Spelled (down_form phase entries) what bytes → Means phase entries what bytes

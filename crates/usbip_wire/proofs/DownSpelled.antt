@@ -1,15 +1,15 @@
 -- a device's messages by their layout, and field by field
-use Rattle.std.proofs.Common.{◌≡◌, ℕ, zero, suc, ◌+◌, ◌-◌, ◌^◌, ◌<◌, ◌≤◌, Bool, true, false, cond, ltb, leb, eqb, ◌||◌, Option, Some, None, List, [], ◌∷◌, ◌++◌, length, drop, get_or, refl, sym, ap, subst, ◌∙◌, append_assoc, arith, inl, inr, ◌⊎◌, lit<, lit≤, eq-eqb}
+use Rattle.std.proofs.Common.{◌≡◌, ℕ, zero, suc, ◌^◌, ◌<◌, true, false, cond, eqb, Option, Some, None, List, [], ◌∷◌, ◌++◌, length, drop, get_or, refl, sym, ap, subst, ◌∙◌, arith, inl, inr, lit<, eq-eqb}
 use Rattle.std.specs.Prelude.{is_some}
 use Rattle.std.specs.Int.{w16, w32, to_be_bytes, cast_signed, cast_unsigned}
-use Rattle.std.proofs.lemmas.Bool.{le-leb, leb-true, eqb-true, eqb-false, ne_eqb, cases_eq, cases_Bool}
+use Rattle.std.proofs.lemmas.Bool.{le-leb, leb-true, eqb-true, ne_eqb, cases_eq}
 use Rattle.std.proofs.lemmas.Int.{of_z-to_z}
-use Rattle.std.proofs.lemmas.List.{drop_at, append-nil}
+use Rattle.std.proofs.lemmas.List.{append-nil}
 use Rattle.usbip_wire.specs.declared.device.DeviceRecord.{DeviceRecord}
 use Rattle.usbip_wire.specs.declared.dirs.Outstanding.{Outstanding}
 use Rattle.usbip_wire.specs.declared.down.Down.{Down}
 use Rattle.usbip_wire.specs.declared.down.Down.TheVariants as down
-use Rattle.usbip_wire.specs.declared.down.DownPhase.TheVariants.{Ops, Urbs}
+use Rattle.usbip_wire.specs.declared.down.DownPhase.TheVariants.{Urbs}
 use Rattle.usbip_wire.specs.declared.down.RecordOf.{RecordOf}
 use Rattle.usbip_wire.specs.declared.down.RecordOf.TheVariants as part
 use Rattle.usbip_wire.specs.declared.fields.TheConstants.{SEQNUM}
@@ -17,17 +17,17 @@ use Rattle.usbip_wire.specs.declared.op.TheConstants.{USBIP_VERSION, REP_DEVLIST
 use Rattle.usbip_wire.specs.declared.urb.Dir.{Dir}
 use Rattle.usbip_wire.specs.declared.urb.Dir.TheVariants.{Out, In}
 use Rattle.usbip_wire.specs.declared.urb.TheConstants.{RET_SUBMIT, RET_UNLINK}
-use Rattle.usbip_wire.specs.DevList.{SpellsPart, count_bytes}
+use Rattle.usbip_wire.specs.DevList.{SpellsPart}
 use Rattle.usbip_wire.specs.Device.{record_bytes, IsRecord}
 use Rattle.usbip_wire.specs.Dirs.{find, submit_of, is_unlink}
 use Rattle.usbip_wire.specs.Down.{Message, RetSubmit, RetUnlink, SpellsAnswer}
 use Rattle.usbip_wire.specs.DownFed.{Means}
-use Rattle.usbip_wire.specs.DownForm.{answer_form, dir_asked, interface_form, ops_form, record_form, record_told, reply_form, ret_submit_form, ret_unlink_form, size_asked}
+use Rattle.usbip_wire.specs.DownForm.{answer_form, interface_form, ops_form, record_form, record_told, reply_form, ret_submit_form, ret_unlink_form}
 use Rattle.usbip_wire.specs.Form.{Form, Spelled, Judged, Number, Done, Four}
-use Rattle.usbip_wire.specs.ImportReply.{SpellsImport, import_bytes}
+use Rattle.usbip_wire.specs.ImportReply.{import_bytes}
 use Rattle.usbip_wire.specs.Op.{op_header}
-use Rattle.usbip_wire.specs.RetSubmit.{Asked, Returns, ret_submit_bytes}
-use Rattle.usbip_wire.specs.RetUnlink.{SpellsRetUnlink, ret_unlink_bytes}
+use Rattle.usbip_wire.specs.RetSubmit.{Returns, ret_submit_bytes}
+use Rattle.usbip_wire.specs.RetUnlink.{ret_unlink_bytes}
 use Rattle.usbip_wire.specs.Urb.{fields, halves, returned}
 use Rattle.usbip_wire.proofs.Wide.{each_wide}
 use Rattle.usbip_wire.proofs.UpSpelled.{two_commands, no_packet_count, packet_count_no}

@@ -1,15 +1,15 @@
 -- what reading says of a form's messages
-use Rattle.std.proofs.Common.{◌≡◌, ℕ, zero, suc, ◌+◌, ◌-◌, ◌^◌, ◌<◌, ◌≤◌, Bool, true, false, cond, ltb, List, [], ◌∷◌, ◌++◌, length, get_or, take, drop, Result, Ok, Err, refl, sym, ap, subst, ◌∙◌, append_assoc, arith, inl, inr, ◌⊎◌}
+use Rattle.std.proofs.Common.{◌≡◌, ℕ, zero, suc, ◌+◌, ◌-◌, ◌<◌, ◌≤◌, Bool, true, false, cond, List, [], ◌∷◌, ◌++◌, length, take, drop, Result, Ok, Err, refl, sym, ap, ◌∙◌, append_assoc, arith, inl, inr, ◌⊎◌}
 use Rattle.std.specs.Bool.{MatchBool}
-use Rattle.std.specs.Int.{byte_len, from_be_bytes, to_be_bytes}
+use Rattle.std.specs.Int.{to_be_bytes}
 use Rattle.std.proofs.lemmas.Bool.{lt-ltb}
 use Rattle.std.proofs.lemmas.List.{take_at, drop_at, take-append-drop, take-append-le, drop-append-le, length-append, length-take, length-drop}
 use Rattle.tmc_base.specs.declared.field.Field.{Field}
 use Rattle.usbip_wire.specs.declared.stop.Stop.{Stop}
 use Rattle.usbip_wire.specs.declared.stop.Stop.TheVariants.{Short, Refused}
-use Rattle.usbip_wire.specs.Form.{Form, Number, Judged, Block, Done, Size, Two, Four, width, limit, Spelled, BadAt, read}
+use Rattle.usbip_wire.specs.Form.{Form, Number, Judged, Block, Done, Two, Four, width, Spelled, BadAt, read}
 use Rattle.usbip_wire.specs.Given.{IsBytes}
-use Rattle.usbip_wire.proofs.Fronts.{IsBytes-drop, IsBytes-take, cut, size_of, value_of, number_parts, number_below, put_value, put_rest, put_long, front_long, more_long}
+use Rattle.usbip_wire.proofs.Fronts.{IsBytes-drop, cut, size_of, value_of, number_parts, number_below, put_value, put_rest, put_long, front_long, more_long}
 
 -- what a test that was passed chose
 pub passed : {A : Type 0} (b : Bool) (r : Result A Stop) (f : Field) (x : A) → cond b r (Err (Refused f)) ≡ Ok x → (b ≡ true) × (r ≡ Ok x)

@@ -1,23 +1,16 @@
 -- the laws of each kind of messages
-use Rattle.std.proofs.Common.{◌≡◌, ℕ, ◌+◌, Bool, true, false, cond, eqb, Option, List, [], ◌∷◌, ◌++◌, length, drop, refl, sym, ap, subst, ◌∙◌, arith}
-use Rattle.std.specs.Prelude.{is_some}
+use Rattle.std.proofs.Common.{◌≡◌, ℕ, List, drop, refl, sym, ap, ◌∙◌}
 use Rattle.std.proofs.lemmas.List.{drop_at}
-use Rattle.tmc_base.specs.declared.field.Field.{Field}
 use Rattle.usbip_wire.specs.declared.dirs.Outstanding.{Outstanding}
-use Rattle.usbip_wire.specs.declared.down.Down.{Down}
-use Rattle.usbip_wire.specs.declared.op_request.OpRequest.{OpRequest}
-use Rattle.usbip_wire.specs.declared.op_request.OpRequest.TheVariants.{DevList, Import}
 use Rattle.usbip_wire.specs.declared.ret_submit.RetSubmitHead.{RetSubmitHead}
 use Rattle.usbip_wire.specs.declared.submit.SubmitHead.{SubmitHead}
-use Rattle.usbip_wire.specs.declared.up.Up.{Up}
 use Rattle.usbip_wire.specs.declared.up.Up.TheVariants as up
 use Rattle.usbip_wire.specs.declared.down.Down.TheVariants as down
 use Rattle.usbip_wire.specs.DevList.{SpellsPart}
 use Rattle.usbip_wire.specs.Down as downward
 use Rattle.usbip_wire.specs.Down.{SpellsAnswer}
 use Rattle.usbip_wire.specs.DownForm.{answer_form, ops_form}
-use Rattle.usbip_wire.specs.Form.{Form, Spelled, BadAt}
-use Rattle.usbip_wire.specs.Laws.{ArePrefixFree, RefusedAt}
+use Rattle.usbip_wire.specs.Laws.{ArePrefixFree}
 use Rattle.usbip_wire.specs.OpRequest.{SpellsRequest}
 use Rattle.usbip_wire.specs.RetSubmit.{Asked, SpellsRetSubmit, ret_submit_bytes}
 use Rattle.usbip_wire.specs.Submit.{SpellsSubmit, submit_bytes}

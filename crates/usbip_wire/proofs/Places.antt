@@ -1,9 +1,8 @@
 -- the judged fields stand at their places
-use Rattle.std.proofs.Common.{◌≡◌, ℕ, ◌+◌, Bool, true, false, cond, eqb, List, refl}
-use Rattle.std.specs.Prelude.{Option, Some, None, is_some}
+use Rattle.std.proofs.Common.{ℕ, Bool, true, false, cond, eqb, List, refl}
+use Rattle.std.specs.Prelude.{Option, None, is_some}
 use Rattle.tmc_base.specs.declared.field.Field.{Field}
 use Rattle.usbip_wire.specs.declared.dirs.Outstanding.{Outstanding}
-use Rattle.usbip_wire.specs.declared.down.Down.{Down}
 use Rattle.usbip_wire.specs.declared.down.Down.TheVariants as down
 use Rattle.usbip_wire.specs.declared.down.RecordOf.{RecordOf}
 use Rattle.usbip_wire.specs.declared.down.RecordOf.TheVariants as part
@@ -15,7 +14,6 @@ use Rattle.usbip_wire.specs.declared.urb.Dir.{Dir}
 use Rattle.usbip_wire.specs.declared.urb.TheConstants.{CMD_UNLINK, RET_SUBMIT}
 use Rattle.usbip_wire.specs.DevList.{SpellsPart}
 use Rattle.usbip_wire.specs.Dirs.{find, submit_of, is_unlink}
-use Rattle.usbip_wire.specs.Down as downward
 use Rattle.usbip_wire.specs.Down.{SpellsAnswer}
 use Rattle.usbip_wire.specs.DownForm.{answer_form, ops_form, reply_form, record_form, interface_form, ret_submit_form, ret_unlink_form}
 use Rattle.usbip_wire.specs.Form.{Form, Number, Judged, Block, Done, Four, BadAt}

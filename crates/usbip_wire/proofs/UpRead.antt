@@ -1,10 +1,10 @@
 -- what reading says of a client's messages
-use Rattle.std.proofs.Common.{◌≡◌, ℕ, ◌+◌, ◌-◌, ◌≤◌, lit≤, arith, cond, eqb, true, false, Bool, List, [], ◌∷◌, ◌++◌, length, Result, Ok, Err, refl, sym, ap, subst, ◌∙◌}
+use Rattle.std.proofs.Common.{◌≡◌, ℕ, ◌≤◌, lit≤, arith, cond, eqb, true, false, Bool, List, [], ◌++◌, Ok, Err, sym, subst, ◌∙◌}
 use Rattle.std.proofs.lemmas.Bool.{leb-true}
 use Rattle.std.proofs.lemmas.List.{append-nil}
 use Rattle.tmc_base.specs.declared.field.Field.{Field}
 use Rattle.usbip_wire.specs.declared.stop.Stop.{Stop}
-use Rattle.usbip_wire.specs.declared.stop.Stop.TheVariants.{Short, Refused}
+use Rattle.usbip_wire.specs.declared.stop.Stop.TheVariants.{Short}
 use Rattle.usbip_wire.specs.declared.up.Up.{Up}
 use Rattle.usbip_wire.specs.declared.up.Up.TheVariants as up
 use Rattle.usbip_wire.specs.declared.up.UpPhase.{UpPhase}
@@ -20,7 +20,7 @@ use Rattle.usbip_wire.specs.UpForm.{up_form, request_form, urb_form, submit_form
 use Rattle.usbip_wire.specs.UpFed.{Means, NoneWhole, BadAt}
 use Rattle.usbip_wire.specs.Given.{IsBytes}
 use Rattle.usbip_wire.specs.Urb.{dir_of, carried}
-use Rattle.usbip_wire.proofs.Forms.{sound, complete, bad_refused, more_whole, more_bad, exact, Within, within_most}
+use Rattle.usbip_wire.proofs.Forms.{sound, complete, bad_refused, more_whole, Within}
 use Rattle.usbip_wire.proofs.UpSpelled.{urb_sound, urb_complete, request_sound, request_complete, head_of}
 
 up_sound : (phase : UpPhase) (what : Up) (bytes : List ℕ) → Spelled (up_form phase) what bytes → Means phase what bytes

@@ -1,8 +1,8 @@
 -- a client's messages by their layout, and field by field
-use Rattle.std.proofs.Common.{◌≡◌, ℕ, zero, suc, ◌+◌, ◌-◌, ◌^◌, ◌<◌, ◌≤◌, Bool, true, false, cond, ltb, leb, eqb, ◌||◌, List, [], ◌∷◌, ◌++◌, length, drop, Result, Ok, Err, refl, sym, ap, subst, ◌∙◌, append_assoc, arith, inl, inr, ◌⊎◌, lit<, lit≤, eq-eqb}
-use Rattle.std.specs.Int.{w16, w32, from_be_bytes, to_be_bytes}
-use Rattle.std.proofs.lemmas.Bool.{lt-ltb, ltb-true, le-leb, leb-true, eqb-true, or_cases, or_left, or_right}
-use Rattle.std.proofs.lemmas.List.{drop_at, append-nil, length-append}
+use Rattle.std.proofs.Common.{◌≡◌, ℕ, zero, suc, ◌^◌, ◌<◌, true, cond, ltb, eqb, ◌||◌, List, [], ◌∷◌, ◌++◌, length, drop, refl, sym, ap, subst, ◌∙◌, arith, inl, inr, ◌⊎◌, lit<, eq-eqb}
+use Rattle.std.specs.Int.{w16, w32, to_be_bytes}
+use Rattle.std.proofs.lemmas.Bool.{ltb-true, le-leb, leb-true, eqb-true, or_cases, or_left, or_right}
+use Rattle.std.proofs.lemmas.List.{drop_at, append-nil}
 use Rattle.tmc_base.specs.declared.limits.TheConstants.{SUBMIT_MAX}
 use Rattle.usbip_wire.specs.declared.urb.Dir.{Dir}
 use Rattle.usbip_wire.specs.declared.urb.Dir.TheVariants.{Out, In}
@@ -10,20 +10,19 @@ use Rattle.usbip_wire.specs.declared.urb.TheConstants.{CMD_SUBMIT, CMD_UNLINK, E
 use Rattle.usbip_wire.specs.declared.op.TheConstants.{USBIP_VERSION, REQ_DEVLIST, REQ_IMPORT}
 use Rattle.usbip_wire.specs.declared.op_request.OpRequest.{OpRequest}
 use Rattle.usbip_wire.specs.declared.op_request.OpRequest.TheVariants.{DevList, Import}
-use Rattle.usbip_wire.specs.declared.submit.SubmitHead.{SubmitHead}
 use Rattle.usbip_wire.specs.declared.up.Up.{Up}
 use Rattle.usbip_wire.specs.declared.up.Up.TheVariants as up
 use Rattle.usbip_wire.specs.declared.up.UpPhase.TheVariants.{Ops, Urbs}
 use Rattle.usbip_wire.specs.Form.{Spelled, Block, Done}
 use Rattle.usbip_wire.specs.Op.{op_header}
 use Rattle.usbip_wire.specs.OpRequest.{SpellsRequest}
-use Rattle.usbip_wire.specs.Submit.{SpellsSubmit, Carries, submit_bytes}
-use Rattle.usbip_wire.specs.Unlink.{SpellsUnlink, unlink_bytes}
+use Rattle.usbip_wire.specs.Submit.{Carries, submit_bytes}
+use Rattle.usbip_wire.specs.Unlink.{unlink_bytes}
 use Rattle.usbip_wire.specs.Up.{Message, Submit, Unlink, Spells}
 use Rattle.usbip_wire.specs.UpFed.{Means}
 use Rattle.usbip_wire.proofs.Wide.{each_wide}
 use Rattle.usbip_wire.specs.UpForm.{request_form, submit_form, unlink_form, urb_form}
-use Rattle.usbip_wire.specs.Urb.{AreWide, IsNoPacketCount, fields, direction_code, dir_of, carried, is_no_packet_count}
+use Rattle.usbip_wire.specs.Urb.{IsNoPacketCount, fields, direction_code, dir_of, carried, is_no_packet_count}
 
 abbrev put : ℕ → List ℕ → List ℕ
 put n rest = to_be_bytes w32 n ++ rest

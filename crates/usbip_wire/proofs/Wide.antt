@@ -1,6 +1,5 @@
 -- fields of four bytes, one by one
-use Rattle.std.proofs.Common.{ℕ, zero, suc, ◌<◌, ◌≤◌, ◌^◌, List, [], ◌∷◌, length, get_or, arith, lit<}
-use Rattle.std.proofs.lemmas.List.{get_or_past}
+use Rattle.std.proofs.Common.{ℕ, zero, suc, ◌<◌, ◌^◌, List, [], ◌∷◌, lit<}
 use Rattle.usbip_wire.specs.Urb.{AreWide}
 
 abbrev pub EachWide : List ℕ → Type 0

@@ -1,5 +1,5 @@
 -- the messages from the device to the client, field by field, as a reader judges them
-use Rattle.std.specs.Prelude.{ℕ, ◌-◌, ◌==◌, ◌||◌, nat_le, Bool, true, false, Option, Some, None, is_some, List, slice_index, if◌then◌else◌}
+use Rattle.std.specs.Prelude.{ℕ, ◌-◌, ◌==◌, ◌||◌, nat_le, Option, Some, None, is_some, List, slice_index, if◌then◌else◌}
 use Rattle.std.specs.Int.{w32, cast_signed}
 use Rattle.usbip_wire.specs.declared.device.DeviceRecord.{DeviceRecord}
 use Rattle.usbip_wire.specs.declared.dirs.Outstanding.{Outstanding}
@@ -12,7 +12,7 @@ use Rattle.usbip_wire.specs.declared.down.RecordOf.TheVariants as part
 use Rattle.usbip_wire.specs.declared.fields.TheConstants.{VERSION, CODE, COMMAND, SEQNUM, ACTUAL_LENGTH, PACKETS}
 use Rattle.usbip_wire.specs.declared.op.TheConstants.{USBIP_VERSION, REP_DEVLIST, REP_IMPORT}
 use Rattle.usbip_wire.specs.declared.urb.Dir.{Dir}
-use Rattle.usbip_wire.specs.declared.urb.Dir.TheVariants.{Out, In}
+use Rattle.usbip_wire.specs.declared.urb.Dir.TheVariants.{In}
 use Rattle.usbip_wire.specs.declared.urb.TheConstants.{RET_SUBMIT, RET_UNLINK}
 use Rattle.usbip_wire.specs.Dirs.{find, submit_of, is_unlink}
 use Rattle.usbip_wire.specs.Form.{Form, Number, Judged, Block, Done, Two, Four}

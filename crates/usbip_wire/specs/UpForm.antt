@@ -1,10 +1,10 @@
 -- the messages from the client to the device, field by field, as a reader judges them
-use Rattle.std.specs.Prelude.{ℕ, ◌==◌, ◌||◌, nat_le, nat_lt, Bool, List, if◌then◌else◌}
+use Rattle.std.specs.Prelude.{ℕ, ◌==◌, ◌||◌, nat_le, nat_lt, if◌then◌else◌}
 use Rattle.tmc_base.specs.declared.limits.TheConstants.{SUBMIT_MAX}
 use Rattle.usbip_wire.specs.declared.fields.TheConstants.{VERSION, CODE, COMMAND, DEVID, DIRECTION, ENDPOINT, BUFFER_LENGTH, PACKETS}
 use Rattle.usbip_wire.specs.declared.op.TheConstants.{USBIP_VERSION, REQ_DEVLIST, REQ_IMPORT}
 use Rattle.usbip_wire.specs.declared.op_request.OpRequest.TheVariants.{DevList, Import}
-use Rattle.usbip_wire.specs.declared.urb.TheConstants.{CMD_SUBMIT, CMD_UNLINK, ENDPOINT_MAX, NOT_ISOCHRONOUS}
+use Rattle.usbip_wire.specs.declared.urb.TheConstants.{CMD_SUBMIT, CMD_UNLINK, ENDPOINT_MAX}
 use Rattle.usbip_wire.specs.declared.up.Up.{Up}
 use Rattle.usbip_wire.specs.declared.up.Up.TheVariants.{Op, Submit, Unlink}
 use Rattle.usbip_wire.specs.declared.up.UpPhase.{UpPhase}

@@ -12,7 +12,7 @@ returns-in-Ok-answer g c =
     let reads : Reads c.in-Ok.line.items before after = record { first = c.in-Ok.ensures.first; ended = c.in-Ok.ensures.ended; counts = c.in-Ok.ensures.ok_counts } in
     let line : IsFirstLine c.in-Ok.line.items c.first_line.result.0.now c.first_line.result.1.now = rw c.deref.ensures.value at c.first_line.ensures in
     let asked : IsAsked c.first_line.result.0.now c.deref-in-Ok-answer.result.now =
-        subst (λ response. IsAsked c.first_line.result.0.now response) (sym c.deref-in-Ok-answer.ensures.value) c.in-Ok-answer.ensures.asked in
+    subst (λ response. IsAsked c.first_line.result.0.now response) (sym c.deref-in-Ok-answer.ensures.value) c.in-Ok-answer.ensures.asked in
     report_ends before after _ _ _ _ _ reads line c.in-Ok-answer.ensures.alone asked c.print_report.ensures
 
 pub returns-in-Err-At : goal.returns-in-Err-At
@@ -22,5 +22,5 @@ returns-in-Err-At g c =
     let reads : Reads c.in-Ok.line.items before after = record { first = c.in-Ok.ensures.first; ended = c.in-Ok.ensures.ended; counts = c.in-Ok.ensures.ok_counts } in
     let line : IsFirstLine c.in-Ok.line.items c.first_line.result.0.now c.first_line.result.1.now = rw c.deref.ensures.value at c.first_line.ensures in
     let wrong : IsWrong c.first_line.result.0.now c.first_line.result.1.now c.in-Err-At.line c.in-Err-At.what =
-        subst (λ fault. IsRefusal c.first_line.result.0.now c.first_line.result.1.now fault) c.in-Err-At.field-0-is c.in-Err-At.ensures.refused in
+    subst (λ fault. IsRefusal c.first_line.result.0.now c.first_line.result.1.now fault) c.in-Err-At.field-0-is c.in-Err-At.ensures.refused in
     refusal_ends before after _ _ _ c.in-Err-At.line c.in-Err-At.what _ reads line wrong (rw (c.in-Err-At.line-is, c.in-Err-At.what-is) at c.print_refusal.ensures)

@@ -2,7 +2,6 @@ use Rattle.std.proofs.Common.{◌≡◌, ◌⊎◌, ℕ, List, [], ◌∷◌, sy
 use Rattle.instr_plain.specs.declared.log.LogEntry.{LogEntry}
 use Rattle.instr_plain.specs.declared.log.LogEntry.TheVariants.{Exec as exec_entry}
 use Rattle.instr_plain.specs.Log.{Response}
-use Rattle.tmc_tool.specs.Tool.{Outside}
 use Rattle.tmc_tool.proofs.Ending.{ends_refused, ends_printed}
 use Rattle.tmc_tool.proofs.FirstLine.{OneAnswer}
 use Rattle.tmc_tool.proofs.tool.tool_main.Goals as goal

@@ -1,4 +1,4 @@
-use Rattle.std.proofs.Common.{◌≤◌, length, sym, arith}
+use Rattle.std.proofs.Common.{sym, arith}
 use Rattle.std.proofs.lemmas.List.{drop_all}
 use Rattle.usbip_wire.specs.declared.urb.TheConstants.{URB_HEADER}
 use Rattle.usbip_wire.proofs.urb.behind_header.Goals as goal

@@ -1,5 +1,4 @@
-use Rattle.std.proofs.Common.{rules, ◌≡◌, ◌+◌, ◌≤◌, ◌<◌, length, arith}
-use Rattle.std.proofs.lemmas.Grind.{common_steps}
+use Rattle.std.proofs.Common.{rules, ◌<◌, length}
 use Rattle.usbip_wire.proofs.Entries.{short_set}
 use Rattle.usbip_wire.proofs.dirs.Dirs.push.Goals as goal
 

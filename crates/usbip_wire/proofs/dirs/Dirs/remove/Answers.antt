@@ -1,4 +1,4 @@
-use Rattle.std.proofs.Common.{◌≡◌, subst, sym}
+use Rattle.std.proofs.Common.{subst, sym}
 use Rattle.usbip_wire.specs.Dirs.{AreShort}
 use Rattle.usbip_wire.proofs.Entries.{short_at}
 use Rattle.usbip_wire.proofs.dirs.Dirs.remove.Goals as goal

@@ -1,4 +1,4 @@
-use Rattle.std.proofs.Common.{◌≡◌, ◌≤◌, ◌++◌, length, drop, take}
+use Rattle.std.proofs.Common.{◌≡◌, ◌≤◌, ◌++◌, length, drop}
 use Rattle.usbip_wire.specs.Dirs.{others}
 use Rattle.usbip_wire.proofs.dirs.Dirs.remove.Given as goal
 

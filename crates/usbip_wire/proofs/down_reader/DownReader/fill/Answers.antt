@@ -1,10 +1,10 @@
-use Rattle.std.proofs.Common.{◌≡◌, ℕ, ◌+◌, ◌-◌, ◌<◌, ◌≤◌, List, [], ◌++◌, length, take, drop, refl, sym, ap, subst, ◌∙◌, arith, true, false, Some, None, Ok}
-use Rattle.std.proofs.lemmas.List.{append-nil, length-take, length-drop}
+use Rattle.std.proofs.Common.{◌≡◌, ℕ, ◌+◌, ◌-◌, ◌≤◌, List, [], ◌++◌, length, take, drop, ap, ◌∙◌, arith, false, Some, None, Ok}
+use Rattle.std.proofs.lemmas.List.{length-take}
 use Rattle.usbip_wire.specs.declared.urb.TheConstants.{HELD_MAX}
 use Rattle.usbip_wire.specs.Form.{read}
 use Rattle.usbip_wire.specs.DownForm.{down_form}
 use Rattle.usbip_wire.specs.DownFed.{Held}
-use Rattle.usbip_wire.proofs.Forms.{exact, missing, within_most}
+use Rattle.usbip_wire.proofs.Forms.{missing, within_most}
 use Rattle.usbip_wire.proofs.Pieces.{next_of_piece}
 use Rattle.usbip_wire.proofs.DownRead.{down_within, none_ends}
 use Rattle.usbip_wire.proofs.DownFeeding.{begun, ended, answers_whole, answers_bad, answers_more, still_ends}

@@ -1,5 +1,4 @@
-use Rattle.std.proofs.Common.{rules, arith}
-use Rattle.std.proofs.lemmas.Grind.{common_steps}
+use Rattle.std.proofs.Common.{rules}
 use Rattle.usbip_wire.proofs.down_reader.DownReader.judge.Goals as goal
 
 pub returns-clause-judged : goal.returns-clause-judged

@@ -1,5 +1,5 @@
-use Rattle.std.proofs.Common.{◌≡◌, ℕ, ◌+◌, ◌-◌, ◌<◌, ◌≤◌, List, ◌++◌, length, take, drop, refl, sym, ap, subst, ◌∙◌, arith, true, false, Some, None}
-use Rattle.std.proofs.lemmas.List.{length-take, length-drop}
+use Rattle.std.proofs.Common.{ℕ, ◌+◌, ◌-◌, List, ◌++◌, take, drop, ap, ◌∙◌, arith, true, false, Some, None}
+use Rattle.std.proofs.lemmas.List.{length-take}
 use Rattle.usbip_wire.specs.declared.urb.TheConstants.{HELD_MAX}
 use Rattle.usbip_wire.specs.UpForm.{up_form}
 use Rattle.usbip_wire.specs.UpFed.{Held}

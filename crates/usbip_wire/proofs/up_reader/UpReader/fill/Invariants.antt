@@ -1,5 +1,4 @@
 use Rattle.std.proofs.Common.{◌≡◌, ◌≤◌, ◌-◌, ◌++◌, length, take, None, false}
-use Rattle.usbip_wire.specs.UpFed.{Ends}
 use Rattle.usbip_wire.proofs.up_reader.UpReader.fill.Given as goal
 
 abbrev pub invariant-loop-what : goal.invariant-loop-what
