@@ -15,3 +15,5 @@ pub mod Determined
 pub mod Free
 pub mod Places
 pub mod Listed
+pub mod UpStream
+pub mod DownStream

@@ -1,19 +1,23 @@
 //! What holds of the spellings. Each function does nothing, and its contract is the law.
 
-ghost use Rattle.std.specs.Prelude.{◌≡◌, ℕ, List};
+ghost use Rattle.std.specs.Prelude.{◌≡◌, ℕ, None, List};
 ghost use Rattle.tmc_base.specs.declared.field.Field.{Field};
 ghost use Rattle.usbip_wire.specs.declared.dirs.Outstanding.{Outstanding};
 ghost use Rattle.usbip_wire.specs.declared.op.TheConstants.{USBIP_VERSION, REQ_DEVLIST, REP_DEVLIST, REQ_IMPORT, REP_IMPORT};
 ghost use Rattle.usbip_wire.specs.declared.urb.TheConstants.{CMD_SUBMIT, CMD_UNLINK, RET_SUBMIT, RET_UNLINK, NOT_ISOCHRONOUS, ENDPOINT_MAX, URB_HEADER};
 ghost use Rattle.usbip_wire.specs.declared.up.UpPhase.TheVariants as up_phase;
+ghost use Rattle.usbip_wire.specs.declared.down.DownPhase.{DownPhase};
 ghost use Rattle.usbip_wire.specs.declared.down.DownPhase.TheVariants as down_phase;
 ghost use Rattle.usbip_wire.specs.DevList.{SpellsPart};
 ghost use Rattle.usbip_wire.specs.Down.{SpellsAnswer};
 ghost use Rattle.usbip_wire.specs.DownFed as down_fed;
+ghost use Rattle.usbip_wire.specs.DownPieces as down_pieces;
 ghost use Rattle.usbip_wire.specs.Laws.{ArePrefixFree, AreDetermined, AreReadAgain, RefusedAt};
 ghost use Rattle.usbip_wire.specs.OpRequest.{SpellsRequest};
 ghost use Rattle.usbip_wire.specs.Up.{Spells};
+ghost use Rattle.usbip_wire.specs.Stream.{InRow, Reads};
 ghost use Rattle.usbip_wire.specs.UpFed as up_fed;
+ghost use Rattle.usbip_wire.specs.UpPieces as up_pieces;
 
 /// The numbers of the protocol: the version, the codes of operations and of URBs, what stands in place of the
 /// number of packets where a transfer is not isochronous, the highest endpoint, and the bytes of an URB's header.
@@ -66,4 +70,28 @@ pub fn bad_fields_are_refused()
         → down_fed.BadAt (down_phase.Ops devices interfaces) entries rest f → RefusedAt (SpellsPart devices interfaces) rest f }
     ensures answer { (entries : List Outstanding) (rest : List ℕ) (f : Field)
         → down_fed.BadAt down_phase.Urbs entries rest f → RefusedAt (SpellsAnswer entries) rest f }
+{}
+
+/// Pieces are one stream: whatever pieces a client's bytes were fed in, the messages that a reader gave, with
+/// their data, are those of the bytes used, in their order, and what it keeps is the rest behind them. Until a
+/// field is refused no message is whole in that rest.
+pub fn client_pieces_are_one_stream()
+    ensures ops { (calls : List up_pieces.Call) (end : up_fed.Held) → up_pieces.Calls (up_pieces.begun up_phase.Ops) calls end
+        → InRow SpellsRequest (up_pieces.given up_pieces.request_in calls) (up_pieces.used_bytes calls) (up_fed.kept end) }
+    ensures ops_read { (calls : List up_pieces.Call) (end : up_fed.Held) → up_pieces.Calls (up_pieces.begun up_phase.Ops) calls end → end.bad ≡ None
+        → Reads SpellsRequest (up_pieces.used_bytes calls) (up_pieces.given up_pieces.request_in calls) (up_fed.kept end) }
+    ensures urbs { (devid : ℕ) (calls : List up_pieces.Call) (end : up_fed.Held) → up_pieces.Calls (up_pieces.begun (up_phase.Urbs devid)) calls end
+        → InRow (Spells devid) (up_pieces.given up_pieces.message_in calls) (up_pieces.used_bytes calls) (up_fed.kept end) }
+    ensures urbs_read { (devid : ℕ) (calls : List up_pieces.Call) (end : up_fed.Held) → up_pieces.Calls (up_pieces.begun (up_phase.Urbs devid)) calls end
+        → end.bad ≡ None → Reads (Spells devid) (up_pieces.used_bytes calls) (up_pieces.given up_pieces.message_in calls) (up_fed.kept end) }
+{}
+
+/// The same of a device's bytes, where the entry of an answer stands while a part of the answer is held: each
+/// message is one of the phase that the one before it led to, by what was outstanding at its call.
+pub fn device_pieces_are_one_stream()
+    ensures row { (phase : DownPhase) (calls : List down_pieces.Call) (end : down_fed.Held) → down_pieces.Calls (down_pieces.begun phase) calls end
+        → down_pieces.InTurn phase (down_pieces.given calls) (down_pieces.used_bytes calls) (down_fed.kept end) }
+    ensures none_whole { (phase : DownPhase) (entries : List Outstanding) (calls : List down_pieces.Call) (end : down_fed.Held)
+        → down_pieces.Calls (down_pieces.begun phase) calls end → end.bad ≡ None
+        → down_fed.NoneWhole end.phase (down_pieces.last_entries entries calls) (down_fed.kept end) }
 {}
