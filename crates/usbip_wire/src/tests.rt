@@ -262,7 +262,7 @@ fn first_of_two_refused_fields(rt: HostRuntime) -> Result<(), Fail> {
 }
 
 #[test]
-fn data_is_of_the_last_answer(rt: HostRuntime) -> Result<(), Fail> {
+fn data_is_of_the_last_client_message(rt: HostRuntime) -> Result<(), Fail> {
     let mut reader = UpReader::urbs(rt.alloc(), DEVICE)?;
     let nothing: &[u8] = b"";
     assert_eq!(rt; reader.data(), nothing);
@@ -407,6 +407,37 @@ fn refused_fields_of_answers(rt: HostRuntime) -> Result<(), Fail> {
     for (text, refused) in cases {
         refused_down(&rt, DownReader::urbs(rt.alloc())?, &dirs, text, refused);
     }
+    Ok(())
+}
+
+#[test]
+fn data_is_of_the_last_answer(rt: HostRuntime) -> Result<(), Fail> {
+    let mut dirs = Dirs::new();
+    dirs.add_submit(1, Dir::In, 64);
+    let given = RetSubmitHead {
+        seqnum: 1,
+        status: 0,
+        actual: 3,
+    };
+    let mut out = BytesMut::with_capacity(rt.alloc(), 51)?;
+    put_ret_submit(given, b"abc", &mut out);
+    let mut reader = DownReader::urbs(rt.alloc())?;
+    let nothing: &[u8] = b"";
+    assert_eq!(rt; reader.data(), nothing);
+    assert_eq!(rt;
+        reader.feed(out.as_slice(), &dirs).what,
+        Down::RetSubmit(given)
+    );
+    assert_eq!(rt; reader.data(), b"abc".as_slice());
+    assert_eq!(rt; reader.feed(&[], &dirs).what, Down::More);
+    assert_eq!(rt; reader.data(), nothing);
+    assert_eq!(rt;
+        reader.feed(out.as_slice(), &dirs).what,
+        Down::RetSubmit(given)
+    );
+    let step = reader.feed(&[0, 0, 0, 5], &dirs);
+    assert_eq!(rt; step.what, Down::Bad(field(Layer::Urb, Name::Command, 0)));
+    assert_eq!(rt; reader.data(), nothing);
     Ok(())
 }
 
