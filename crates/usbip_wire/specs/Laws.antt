@@ -1,6 +1,7 @@
 -- what holds of spellings
-use Rattle.std.specs.Prelude.{◌≡◌, ◌≢◌, ℕ, List, ◌∷◌, ◌++◌, length}
+use Rattle.std.specs.Prelude.{◌≡◌, ◌≢◌, ◌⊎◌, ℕ, ◌<◌, List, [], ◌∷◌, ◌++◌, length, Contains}
 use Rattle.tmc_base.specs.declared.field.Field.{Field}
+use Rattle.usbip_wire.specs.JudgedFields.{field_size}
 use Rattle.usbip_wire.specs.Stream.{Reads}
 
 -- no spelling begins another, and the bytes determine the message
@@ -26,4 +27,27 @@ pub record RefusedAt {M : Type 0} (Spells : M → List ℕ → Type 0) (rest : L
   pub tail : List ℕ
   pub holds : rest ≡ front ++ (value ++ tail)
   pub placed : length front ≡ f.offset
+  pub whole : length value ≡ field_size f
   pub refused : (m : M) (bytes more : List ℕ) → Spells m bytes → bytes ≢ front ++ (value ++ more)
+
+-- it is the first of these fields that is so
+pub record IsFirstRefused {M : Type 0} (Spells : M → List ℕ → Type 0) (fields : List Field) (rest : List ℕ) (f : Field) : Type 0 where
+  pub listed : Contains fields f
+  pub refused : RefusedAt Spells rest f
+  pub first : (g : Field) → Contains fields g → g.offset < f.offset → RefusedAt Spells rest g → ⊥
+
+-- a message begins with these bytes
+abbrev pub CanGoOn : {M : Type 0} → (M → List ℕ → Type 0) → List ℕ → Type 0
+CanGoOn {M} Spells front = (m : M) × (more : List ℕ) × Spells m (front ++ more)
+
+-- these bytes begin one of these fields at this place, and end before it does
+abbrev pub Begins : List Field → ℕ → List ℕ → Type 0
+Begins fields at part = (f : Field) × Contains fields f × (f.offset ≡ at) × (length part < field_size f)
+
+-- a message begins with the bytes; where they end within one of these fields, with the bytes before it
+pub record GoesOn {M : Type 0} (Spells : M → List ℕ → Type 0) (fields : List Field) (rest : List ℕ) : Type 0 where
+  pub front : List ℕ
+  pub part : List ℕ
+  pub holds : rest ≡ front ++ part
+  pub can : CanGoOn Spells front
+  pub within : (part ≡ []) ⊎ Begins fields (length front) part

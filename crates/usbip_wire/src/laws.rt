@@ -72,6 +72,39 @@ pub fn bad_fields_are_refused()
         → down_fed.BadAt down_phase.Urbs entries rest f → RefusedAt (SpellsAnswer entries) rest f }
 {}
 
+/// Where no message is whole in the bytes and no field is bad, some message goes on from them: no value is missing
+/// in what a reader accepts. Where the bytes end within a judged field, which is not judged yet, it goes on from
+/// those before that field. A devid has four bytes. An answer has to be one to an entry, which its first eight
+/// bytes name. Until they have come, the bytes begin an answer as soon as one more entry is outstanding.
+pub fn good_bytes_go_on()
+    ensures request { (rest : List ℕ) → IsBytes rest → up_fed.NoneWhole up_phase.Ops rest → NoneBad (up_fed.BadAt up_phase.Ops rest)
+        → GoesOn SpellsRequest op_fields rest }
+    ensures urb { (devid : ℕ) (rest : List ℕ) → devid < 2 ^ 32 → IsBytes rest → up_fed.NoneWhole (up_phase.Urbs devid) rest
+        → NoneBad (up_fed.BadAt (up_phase.Urbs devid) rest) → GoesOn (Spells devid) urb_fields rest }
+    ensures part { (devices interfaces : ℕ) (entries : List Outstanding) (rest : List ℕ) → IsBytes rest
+        → down_fed.NoneWhole (down_phase.Ops devices interfaces) entries rest → NoneBad (down_fed.BadAt (down_phase.Ops devices interfaces) entries rest)
+        → GoesOn (SpellsPart devices interfaces) (part_fields devices interfaces) rest }
+    ensures answer { (entries : List Outstanding) (rest : List ℕ) → 8 ≤ length rest → IsBytes rest → down_fed.NoneWhole down_phase.Urbs entries rest
+        → NoneBad (down_fed.BadAt down_phase.Urbs entries rest) → GoesOn (SpellsAnswer entries) answer_fields rest }
+    ensures begun { (entries : List Outstanding) (rest : List ℕ) → length rest < 8 → IsBytes rest → NoneBad (down_fed.BadAt down_phase.Urbs entries rest)
+        → (entry : Outstanding) × GoesOn (SpellsAnswer (entry ∷ entries)) command_field rest }
+{}
+
+/// A field is bad exactly where it is the first of the judged fields that stands whole in the bytes, and that no
+/// spelling beginning with the bytes before it has this value in. The command of an answer is bad exactly where no
+/// answer has it, whatever is outstanding; behind it an answer is judged by the entries.
+pub fn bad_is_the_first_refused()
+    ensures request { (rest : List ℕ) (f : Field) → IsBytes rest → up_fed.BadAt up_phase.Ops rest f ↔ IsFirstRefused SpellsRequest op_fields rest f }
+    ensures urb { (devid : ℕ) (rest : List ℕ) (f : Field) → devid < 2 ^ 32 → IsBytes rest
+        → up_fed.BadAt (up_phase.Urbs devid) rest f ↔ IsFirstRefused (Spells devid) urb_fields rest f }
+    ensures part { (devices interfaces : ℕ) (entries : List Outstanding) (rest : List ℕ) (f : Field) → IsBytes rest
+        → down_fed.BadAt (down_phase.Ops devices interfaces) entries rest f ↔ IsFirstRefused (SpellsPart devices interfaces) (part_fields devices interfaces) rest f }
+    ensures command { (entries : List Outstanding) (rest : List ℕ) → IsBytes rest
+        → down_fed.BadAt down_phase.Urbs entries rest COMMAND ↔ RefusedAt SpellsAnyAnswer rest COMMAND }
+    ensures answer { (entries : List Outstanding) (rest : List ℕ) (f : Field) → IsBytes rest → (down_fed.BadAt down_phase.Urbs entries rest COMMAND → ⊥)
+        → down_fed.BadAt down_phase.Urbs entries rest f ↔ IsFirstRefused (SpellsAnswer entries) answer_fields rest f }
+{}
+
 /// Pieces are one stream: whatever pieces a client's bytes were fed in, the messages that a reader gave, with
 /// their data, are those of the bytes used, in their order, and what it keeps is the rest behind them. Until a
 /// field is refused no message is whole in that rest.
