@@ -388,7 +388,7 @@ reply_sound what bytes (version, r1, l1, a1, e1, (code, r2, l2, a2, e2, (status,
       | inr h ↦ import_sound status what bytes r3 l3 h.0 h.1
     ]
 
-nonzero : (n : ℕ) → eqb (suc n) 0 ≡ false
+pub nonzero : (n : ℕ) → eqb (suc n) 0 ≡ false
 nonzero n = ne_eqb (suc n) 0 (λ e. absurd (omega (arith, e)))
 
 interface_sound : (devices interfaces : ℕ) (what : Down) (bytes : List ℕ) → Spelled interface_form what bytes → SpellsPart devices (suc interfaces) what bytes

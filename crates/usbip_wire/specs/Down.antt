@@ -32,3 +32,7 @@ abbrev pub SpellsAnswer : List Outstanding → Message → List ℕ → Type 0
 SpellsAnswer entries (RetSubmit head transferred) bytes =
     (asked : Asked) × (submit_of (find head.seqnum entries) ≡ Some (asked.dir, asked.size)) × Spells asked (RetSubmit head transferred) bytes
 SpellsAnswer entries (RetUnlink head) bytes = (is_unlink (find head.seqnum entries) ≡ true) × SpellsRetUnlink head bytes
+
+-- these bytes are this answer to a message that may be outstanding
+abbrev pub SpellsAnyAnswer : Message → List ℕ → Type 0
+SpellsAnyAnswer message bytes = (entries : List Outstanding) × SpellsAnswer entries message bytes

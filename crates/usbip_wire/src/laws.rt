@@ -1,18 +1,21 @@
 //! What holds of the spellings. Each function does nothing, and its contract is the law.
 
-ghost use Rattle.std.specs.Prelude.{◌≡◌, ℕ, None, List};
+ghost use Rattle.std.specs.Prelude.{◌≡◌, ◌↔◌, ℕ, ◌<◌, ◌≤◌, ◌^◌, None, List, [], ◌∷◌, length};
 ghost use Rattle.tmc_base.specs.declared.field.Field.{Field};
 ghost use Rattle.usbip_wire.specs.declared.dirs.Outstanding.{Outstanding};
+ghost use Rattle.usbip_wire.specs.declared.fields.TheConstants.{COMMAND};
 ghost use Rattle.usbip_wire.specs.declared.op.TheConstants.{USBIP_VERSION, REQ_DEVLIST, REP_DEVLIST, REQ_IMPORT, REP_IMPORT};
 ghost use Rattle.usbip_wire.specs.declared.urb.TheConstants.{CMD_SUBMIT, CMD_UNLINK, RET_SUBMIT, RET_UNLINK, NOT_ISOCHRONOUS, ENDPOINT_MAX, URB_HEADER};
 ghost use Rattle.usbip_wire.specs.declared.up.UpPhase.TheVariants as up_phase;
 ghost use Rattle.usbip_wire.specs.declared.down.DownPhase.{DownPhase};
 ghost use Rattle.usbip_wire.specs.declared.down.DownPhase.TheVariants as down_phase;
 ghost use Rattle.usbip_wire.specs.DevList.{SpellsPart};
-ghost use Rattle.usbip_wire.specs.Down.{SpellsAnswer};
+ghost use Rattle.usbip_wire.specs.Down.{SpellsAnswer, SpellsAnyAnswer};
 ghost use Rattle.usbip_wire.specs.DownFed as down_fed;
 ghost use Rattle.usbip_wire.specs.DownPieces as down_pieces;
-ghost use Rattle.usbip_wire.specs.Laws.{ArePrefixFree, AreDetermined, AreReadAgain, RefusedAt};
+ghost use Rattle.usbip_wire.specs.Given.{IsBytes};
+ghost use Rattle.usbip_wire.specs.JudgedFields.{op_fields, part_fields, urb_fields, answer_fields};
+ghost use Rattle.usbip_wire.specs.Laws.{ArePrefixFree, AreDetermined, AreReadAgain, RefusedAt, IsFirstRefused, GoesOn};
 ghost use Rattle.usbip_wire.specs.OpRequest.{SpellsRequest};
 ghost use Rattle.usbip_wire.specs.Up.{Spells};
 ghost use Rattle.usbip_wire.specs.Stream.{InRow, Reads};
@@ -77,17 +80,17 @@ pub fn bad_fields_are_refused()
 /// those before that field. A devid has four bytes. An answer has to be one to an entry, which its first eight
 /// bytes name. Until they have come, the bytes begin an answer as soon as one more entry is outstanding.
 pub fn good_bytes_go_on()
-    ensures request { (rest : List ℕ) → IsBytes rest → up_fed.NoneWhole up_phase.Ops rest → NoneBad (up_fed.BadAt up_phase.Ops rest)
+    ensures request { (rest : List ℕ) → IsBytes rest → up_fed.NoneWhole up_phase.Ops rest → ((f : Field) → up_fed.BadAt up_phase.Ops rest f → ⊥)
         → GoesOn SpellsRequest op_fields rest }
     ensures urb { (devid : ℕ) (rest : List ℕ) → devid < 2 ^ 32 → IsBytes rest → up_fed.NoneWhole (up_phase.Urbs devid) rest
-        → NoneBad (up_fed.BadAt (up_phase.Urbs devid) rest) → GoesOn (Spells devid) urb_fields rest }
+        → ((f : Field) → up_fed.BadAt (up_phase.Urbs devid) rest f → ⊥) → GoesOn (Spells devid) urb_fields rest }
     ensures part { (devices interfaces : ℕ) (entries : List Outstanding) (rest : List ℕ) → IsBytes rest
-        → down_fed.NoneWhole (down_phase.Ops devices interfaces) entries rest → NoneBad (down_fed.BadAt (down_phase.Ops devices interfaces) entries rest)
+        → down_fed.NoneWhole (down_phase.Ops devices interfaces) entries rest → ((f : Field) → down_fed.BadAt (down_phase.Ops devices interfaces) entries rest f → ⊥)
         → GoesOn (SpellsPart devices interfaces) (part_fields devices interfaces) rest }
     ensures answer { (entries : List Outstanding) (rest : List ℕ) → 8 ≤ length rest → IsBytes rest → down_fed.NoneWhole down_phase.Urbs entries rest
-        → NoneBad (down_fed.BadAt down_phase.Urbs entries rest) → GoesOn (SpellsAnswer entries) answer_fields rest }
-    ensures begun { (entries : List Outstanding) (rest : List ℕ) → length rest < 8 → IsBytes rest → NoneBad (down_fed.BadAt down_phase.Urbs entries rest)
-        → (entry : Outstanding) × GoesOn (SpellsAnswer (entry ∷ entries)) command_field rest }
+        → ((f : Field) → down_fed.BadAt down_phase.Urbs entries rest f → ⊥) → GoesOn (SpellsAnswer entries) answer_fields rest }
+    ensures begun { (entries : List Outstanding) (rest : List ℕ) → length rest < 8 → IsBytes rest → ((f : Field) → down_fed.BadAt down_phase.Urbs entries rest f → ⊥)
+        → (entry : Outstanding) × GoesOn (SpellsAnswer (entry ∷ entries)) (COMMAND ∷ []) rest }
 {}
 
 /// A field is bad exactly where it is the first of the judged fields that stands whole in the bytes, and that no
