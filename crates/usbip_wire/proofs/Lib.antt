@@ -12,6 +12,7 @@ pub mod DownSpelled
 pub mod DownRead
 pub mod DownFeeding
 pub mod Determined
+pub mod Going
 pub mod Free
 pub mod Places
 pub mod Listed
