@@ -94,7 +94,8 @@ judged_place {M} false fields size field accepts next at rest f n after e below 
       stays = λ more. (n, more, below, refl, rw e bad);
     }
 
-clash : {N : Type 0} (form : Form N) (m : N) (bytes : List ℕ) (f : Field) → Spelled form m bytes → BadAt form bytes f → ⊥
+-- a spelling has no bad field
+pub clash : {N : Type 0} (form : Form N) (m : N) (bytes : List ℕ) (f : Field) → Spelled form m bytes → BadAt form bytes f → ⊥
 clash {N} form m bytes f s b =
     let x : read form (bytes ++ []) ≡ Ok (m, []) = complete form m bytes [] s in
     let y : read form bytes ≡ Ok (m, []) = subst (λ (l : List ℕ). read form l ≡ Ok (m, [])) (append-nil bytes) x in

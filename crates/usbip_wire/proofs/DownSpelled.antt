@@ -32,7 +32,7 @@ use Rattle.usbip_wire.specs.Urb.{fields, halves, returned}
 use Rattle.usbip_wire.proofs.Wide.{each_wide}
 use Rattle.usbip_wire.proofs.UpSpelled.{two_commands, no_packet_count, packet_count_no}
 
-abbrev put : ℕ → List ℕ → List ℕ
+abbrev pub put : ℕ → List ℕ → List ℕ
 put n rest = to_be_bytes w32 n ++ rest
 
 abbrev two : ℕ → List ℕ → List ℕ

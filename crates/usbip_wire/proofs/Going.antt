@@ -36,15 +36,15 @@ some_message {M} (Judged size field accepts next) have c none =
     (r.0, to_be_bytes (width size) v.0 ++ r.1, (v.0, r.1, v.1, v.2, refl, r.2))
 some_message {M} (Block count next) have c none =
     let block : List ℕ = replicate count 0 in
-    let r = some_message (next block) (have - count) (c block (length-replicate count 0)) (omega (arith, none)) in
-    (r.0, block ++ r.1, (block, r.1, length-replicate count 0, refl, r.2))
+    let r = some_message (next block) (have - count) (c block (length-replicate {A = ℕ} count 0)) (omega (arith, none)) in
+    (r.0, block ++ r.1, (block, r.1, length-replicate {A = ℕ} count 0, refl, r.2))
 some_message {M} (Done message) have c none = (message, [], (refl, refl))
 
 zeros : (n i : ℕ) → get_or (replicate n 0) i 0 < 256
 zeros n i =
     elim (cases_lt i n) [
-      | inl lt ↦ rw (get_or-replicate n i 0 0 lt) (lit< tt)
-      | inr le ↦ rw (get_or_past (replicate n 0) i 0 (omega (arith, le, length-replicate n 0))) (lit< tt)
+      | inl lt ↦ rw (get_or-replicate {A = ℕ} n i 0 0 lt) (lit< tt)
+      | inr le ↦ rw (get_or_past {X = ℕ} (replicate n 0) i 0 (omega (arith, le, length-replicate {A = ℕ} n 0))) (lit< tt)
     ]
 
 pub IsBytes-padded : (bytes : List ℕ) (n : ℕ) → IsBytes bytes → IsBytes (bytes ++ replicate n 0)
@@ -59,7 +59,7 @@ abbrev pub padding : ℕ → List ℕ → List ℕ
 padding count bytes = replicate (count - length bytes) 0
 
 pub padded_len : (count : ℕ) (bytes : List ℕ) → length bytes < count → length (bytes ++ padding count bytes) ≡ count
-padded_len count bytes lt = omega (arith, lt, length-append bytes (padding count bytes), length-replicate (count - length bytes) 0)
+padded_len count bytes lt = omega (arith, lt, length-append bytes (padding count bytes), length-replicate {A = ℕ} (count - length bytes) 0)
 
 abbrev pub padded_value : Size → List ℕ → ℕ
 padded_value size bytes = from_be_bytes (width size) (bytes ++ padding (size_of size) bytes)
@@ -114,7 +114,7 @@ onward {M} fields form inner have at size bytes after put len parts s r b q =
       ends = lift fields form inner at size bytes after put q.front q.part len s r b q.ends;
     }
 
-either_is : (b : Bool) → (b ≡ true) ⊎ (b ≡ false)
+pub either_is : (b : Bool) → (b ≡ true) ⊎ (b ≡ false)
 either_is true = inl refl
 either_is false = inr refl
 
@@ -161,17 +161,17 @@ frontier {M} fields (Judged size field accepts next) have at bytes fits c p =
           let below = number_below size bytes fits in
           let parts = number_parts size bytes fits h.1 in
           elim (either_is (accepts v)) [
-            | inl yes ↦
+            | inl good ↦
                 onward fields (Judged size field accepts next) (next v) have at (size_of size) bytes after (to_be_bytes (width size) v) (put_len size v) parts
-                (λ m l t. (v, l, below, yes, refl, t)) (λ n e. rw (h.0, yes) e) (λ f b. (v, after, below, parts, rw yes b))
-                (frontier fields (next v) (have - size_of size) (at + size_of size) after (IsBytes-drop (size_of size) bytes fits) (c.1 v below yes) (p.3 v))
-            | inr no ↦
+                (λ m l t. (v, l, below, good, refl, t)) (λ n e. rw (h.0, good) e) (λ f b. (v, after, below, parts, rw good b))
+                (frontier fields (next v) (have - size_of size) (at + size_of size) after (IsBytes-drop (size_of size) bytes fits) (c.1 v below good) (p.3 v))
+            | inr bad ↦
                 record {
                   front = [];
                   part = bytes;
                   holds = refl;
                   goes = goes;
-                  ends = Bad field (v, after, below, parts, rw no refl) p.0 (omega (arith, p.1));
+                  ends = Bad field (v, after, below, parts, rw bad refl) p.0 (omega (arith, p.1));
                 }
           ]
     ]

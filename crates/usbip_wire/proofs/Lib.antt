@@ -13,6 +13,9 @@ pub mod DownRead
 pub mod DownFeeding
 pub mod Determined
 pub mod Going
+pub mod Good
+pub mod Lasting
+pub mod Begun
 pub mod Free
 pub mod Places
 pub mod Listed
