@@ -16,6 +16,7 @@ pub mod Going
 pub mod Good
 pub mod Lasting
 pub mod Begun
+pub mod FirstRefused
 pub mod Free
 pub mod Places
 pub mod Listed
