@@ -26,7 +26,7 @@ use Rattle.usbip_wire.proofs.Places.{answers_placed}
 use Rattle.usbip_wire.specs.JudgedFields.{field_size, answer_fields}
 use Rattle.usbip_wire.specs.Stream.{NoneWhole}
 
-abbrev is_answer : ℕ → Bool
+abbrev pub is_answer : ℕ → Bool
 is_answer command = eqb command RET_SUBMIT || eqb command RET_UNLINK
 
 -- some answer begins with this command and this number

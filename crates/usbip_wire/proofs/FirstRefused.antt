@@ -63,7 +63,7 @@ goes_not_refused {M} S rest front part more m f parts le s r =
     (ap (λ (l : List ℕ). l ++ more) split ∙ (append_assoc held x more ∙ append_assoc r.front r.value (x ++ more)))
 
 -- bytes that hold a field are as long
-whole_length : {M : Type 0} (S : M → List ℕ → Type 0) (rest : List ℕ) (f : Field) → RefusedAt S rest f → f.offset + field_size f ≤ length rest
+pub whole_length : {M : Type 0} (S : M → List ℕ → Type 0) (rest : List ℕ) (f : Field) → RefusedAt S rest f → f.offset + field_size f ≤ length rest
 whole_length {M} S rest f r =
     let len : length rest ≡ length (r.front ++ (r.value ++ r.tail)) = ap (λ (l : List ℕ). length l) r.holds in
     omega (arith, len, length-append r.front (r.value ++ r.tail), length-append r.value r.tail, r.placed, r.whole)

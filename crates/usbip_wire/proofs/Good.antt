@@ -92,7 +92,7 @@ goes_on {M} {N} fields form S have back c p edge rest enough fits none good =
     let q = frontier fields form have 0 rest fits c p in
     by_ending fields form S have back edge rest q.front q.part enough none good q.holds q.goes q.ends
 
-first_dropped : (g : Field) (fields : List Field) (f : Field) → Among (g ∷ fields) f → (g ≡ f → ⊥) → Contains fields f
+pub first_dropped : (g : Field) (fields : List Field) (f : Field) → Among (g ∷ fields) f → (g ≡ f → ⊥) → Contains fields f
 first_dropped g fields f (inl e) other = absurd (other e)
 first_dropped g fields f (inr h) other = listed fields f h
 

@@ -17,6 +17,7 @@ pub mod Good
 pub mod Lasting
 pub mod Begun
 pub mod FirstRefused
+pub mod Firsts
 pub mod Free
 pub mod Places
 pub mod Listed
