@@ -16,7 +16,7 @@ use Rattle.usbip_wire.specs.Down.{SpellsAnswer}
 use Rattle.usbip_wire.specs.DownForm.{answer_form, ret_submit_form, ret_unlink_form}
 use Rattle.usbip_wire.specs.Form.{Four, Spelled, BadAt}
 use Rattle.usbip_wire.specs.Given.{IsBytes}
-use Rattle.usbip_wire.specs.Laws.{GoesOn}
+use Rattle.usbip_wire.specs.Laws.{CanGoOn, GoesOn}
 use Rattle.usbip_wire.proofs.DownSpelled.{put}
 use Rattle.usbip_wire.proofs.Fronts.{IsBytes-drop, cut, value_of, number_parts, number_below}
 use Rattle.usbip_wire.proofs.Going.{either_is, some_message, padding, padded_value, padded_below, padded_back}
@@ -25,6 +25,7 @@ use Rattle.usbip_wire.proofs.Lasting.{answers_last, ret_submit_last, ret_unlink_
 use Rattle.usbip_wire.proofs.Places.{answers_placed}
 use Rattle.usbip_wire.specs.JudgedFields.{field_size, answer_fields}
 use Rattle.usbip_wire.specs.Stream.{NoneWhole}
+use Rattle.usbip_wire.specs.Urb.{fields}
 
 abbrev pub is_answer : ℕ → Bool
 is_answer command = eqb command RET_SUBMIT || eqb command RET_UNLINK
@@ -42,6 +43,19 @@ pub unlink_answered : (entries : List Outstanding) (seqnum : ℕ) → seqnum < 2
 unlink_answered entries seqnum below there =
     let r = some_message (ret_unlink_form seqnum) 0 (ret_unlink_last seqnum) refl in
     (r.0, r.1, (RET_UNLINK, put seqnum r.1, lit< tt, refl, refl, (seqnum, r.1, below, there, refl, r.2)))
+
+-- the answer to an outstanding message goes on from its command and its number
+pub submit_goes_on : (entries : List Outstanding) (seqnum : ℕ) → seqnum < 2 ^ 32 → is_some (submit_of (find seqnum entries)) ≡ true → CanGoOn (SpellsAnswer entries) (fields (RET_SUBMIT ∷ seqnum ∷ []))
+unfolding fields
+submit_goes_on entries seqnum below there =
+    let r = submit_answered entries seqnum below there in
+    let b = answer_back entries r.0 (put RET_SUBMIT (put seqnum r.1)) r.2 in (b.0, r.1, b.1)
+
+pub unlink_goes_on : (entries : List Outstanding) (seqnum : ℕ) → seqnum < 2 ^ 32 → is_unlink (find seqnum entries) ≡ true → CanGoOn (SpellsAnswer entries) (fields (RET_UNLINK ∷ seqnum ∷ []))
+unfolding fields
+unlink_goes_on entries seqnum below there =
+    let r = unlink_answered entries seqnum below there in
+    let b = answer_back entries r.0 (put RET_UNLINK (put seqnum r.1)) r.2 in (b.0, r.1, b.1)
 
 -- with an entry of this number in front
 submit_added : (entries : List Outstanding) (seqnum : ℕ) → seqnum < 2 ^ 32 → Answered (Submit seqnum In 0 ∷ entries) RET_SUBMIT seqnum

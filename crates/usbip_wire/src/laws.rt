@@ -1,6 +1,6 @@
 //! What holds of the spellings. Each function does nothing, and its contract is the law.
 
-ghost use Rattle.std.specs.Prelude.{◌≡◌, ◌↔◌, ℕ, ◌<◌, ◌≤◌, ◌^◌, None, List, [], ◌∷◌, length};
+ghost use Rattle.std.specs.Prelude.{◌≡◌, ◌↔◌, ℕ, ◌<◌, ◌≤◌, ◌^◌, true, None, is_some, List, [], ◌∷◌, length};
 ghost use Rattle.tmc_base.specs.declared.field.Field.{Field};
 ghost use Rattle.usbip_wire.specs.declared.dirs.Outstanding.{Outstanding};
 ghost use Rattle.usbip_wire.specs.declared.fields.TheConstants.{COMMAND};
@@ -10,17 +10,19 @@ ghost use Rattle.usbip_wire.specs.declared.up.UpPhase.TheVariants as up_phase;
 ghost use Rattle.usbip_wire.specs.declared.down.DownPhase.{DownPhase};
 ghost use Rattle.usbip_wire.specs.declared.down.DownPhase.TheVariants as down_phase;
 ghost use Rattle.usbip_wire.specs.DevList.{SpellsPart};
+ghost use Rattle.usbip_wire.specs.Dirs.{find, submit_of, is_unlink};
 ghost use Rattle.usbip_wire.specs.Down.{SpellsAnswer, SpellsAnyAnswer};
 ghost use Rattle.usbip_wire.specs.DownFed as down_fed;
 ghost use Rattle.usbip_wire.specs.DownPieces as down_pieces;
 ghost use Rattle.usbip_wire.specs.Given.{IsBytes};
 ghost use Rattle.usbip_wire.specs.JudgedFields.{op_fields, part_fields, urb_fields, answer_fields};
-ghost use Rattle.usbip_wire.specs.Laws.{ArePrefixFree, AreDetermined, AreReadAgain, RefusedAt, IsFirstRefused, GoesOn};
+ghost use Rattle.usbip_wire.specs.Laws.{ArePrefixFree, AreDetermined, AreReadAgain, RefusedAt, IsFirstRefused, CanGoOn, GoesOn};
 ghost use Rattle.usbip_wire.specs.OpRequest.{SpellsRequest};
 ghost use Rattle.usbip_wire.specs.Up.{Spells};
 ghost use Rattle.usbip_wire.specs.Stream.{InRow, Reads};
 ghost use Rattle.usbip_wire.specs.UpFed as up_fed;
 ghost use Rattle.usbip_wire.specs.UpPieces as up_pieces;
+ghost use Rattle.usbip_wire.specs.Urb.{fields};
 
 /// The numbers of the protocol: the version, the codes of operations and of URBs, what stands in place of the
 /// number of packets where a transfer is not isochronous, the highest endpoint, and the bytes of an URB's header.
@@ -75,10 +77,11 @@ pub fn bad_fields_are_refused()
         → down_fed.BadAt down_phase.Urbs entries rest f → RefusedAt (SpellsAnswer entries) rest f }
 {}
 
-/// Where no message is whole in the bytes and no field is bad, some message goes on from them: no value is missing
-/// in what a reader accepts. Where the bytes end within a judged field, which is not judged yet, it goes on from
-/// those before that field. A devid has four bytes. An answer has to be one to an entry, which its first eight
-/// bytes name. Until they have come, the bytes begin an answer as soon as one more entry is outstanding.
+/// Bytes that hold no whole message and no bad field go on to a message. A field is judged once it is whole, so
+/// where the bytes end within a judged field it is those before that field that go on. What comes are bytes, each
+/// below 256, and a devid of four bytes, since no spelling has another. An answer is to an entry, and where it has
+/// named one by its first eight bytes it goes on. Each entry has an answer, and until eight bytes are there one
+/// entry more is all that can be missing.
 pub fn good_bytes_go_on()
     ensures request { (rest : List ℕ) → IsBytes rest → up_fed.NoneWhole up_phase.Ops rest → ((f : Field) → up_fed.BadAt up_phase.Ops rest f → ⊥)
         → GoesOn SpellsRequest op_fields rest }
@@ -89,23 +92,28 @@ pub fn good_bytes_go_on()
         → GoesOn (SpellsPart devices interfaces) (part_fields devices interfaces) rest }
     ensures answer { (entries : List Outstanding) (rest : List ℕ) → 8 ≤ length rest → IsBytes rest → down_fed.NoneWhole down_phase.Urbs entries rest
         → ((f : Field) → down_fed.BadAt down_phase.Urbs entries rest f → ⊥) → GoesOn (SpellsAnswer entries) answer_fields rest }
+    ensures submit { (entries : List Outstanding) (seqnum : ℕ) → seqnum < 2 ^ 32 → is_some (submit_of (find seqnum entries)) ≡ true
+        → CanGoOn (SpellsAnswer entries) (fields (RET_SUBMIT ∷ seqnum ∷ [])) }
+    ensures unlink { (entries : List Outstanding) (seqnum : ℕ) → seqnum < 2 ^ 32 → is_unlink (find seqnum entries) ≡ true
+        → CanGoOn (SpellsAnswer entries) (fields (RET_UNLINK ∷ seqnum ∷ [])) }
     ensures begun { (entries : List Outstanding) (rest : List ℕ) → length rest < 8 → IsBytes rest → ((f : Field) → down_fed.BadAt down_phase.Urbs entries rest f → ⊥)
         → (entry : Outstanding) × GoesOn (SpellsAnswer (entry ∷ entries)) (COMMAND ∷ []) rest }
 {}
 
-/// A field is bad exactly where it is the first of the judged fields that stands whole in the bytes, and that no
-/// spelling beginning with the bytes before it has this value in. The command of an answer is bad exactly where no
-/// answer has it, whatever is outstanding; behind it an answer is judged by the entries.
+/// A field is bad exactly where it is the first judged field that the bytes hold whole and that no spelling which
+/// begins with the bytes before it has this value in. What comes are bytes, each below 256, and a devid of four
+/// bytes. The command of an answer is bad exactly where no answer has it, whatever is outstanding; where it is not,
+/// the fields behind it are judged by the entries.
 pub fn bad_is_the_first_refused()
-    ensures request { (rest : List ℕ) (f : Field) → IsBytes rest → up_fed.BadAt up_phase.Ops rest f ↔ IsFirstRefused SpellsRequest op_fields rest f }
+    ensures request { (rest : List ℕ) (f : Field) → IsBytes rest → (up_fed.BadAt up_phase.Ops rest f ↔ IsFirstRefused SpellsRequest op_fields rest f) }
     ensures urb { (devid : ℕ) (rest : List ℕ) (f : Field) → devid < 2 ^ 32 → IsBytes rest
-        → up_fed.BadAt (up_phase.Urbs devid) rest f ↔ IsFirstRefused (Spells devid) urb_fields rest f }
+        → (up_fed.BadAt (up_phase.Urbs devid) rest f ↔ IsFirstRefused (Spells devid) urb_fields rest f) }
     ensures part { (devices interfaces : ℕ) (entries : List Outstanding) (rest : List ℕ) (f : Field) → IsBytes rest
-        → down_fed.BadAt (down_phase.Ops devices interfaces) entries rest f ↔ IsFirstRefused (SpellsPart devices interfaces) (part_fields devices interfaces) rest f }
+        → (down_fed.BadAt (down_phase.Ops devices interfaces) entries rest f ↔ IsFirstRefused (SpellsPart devices interfaces) (part_fields devices interfaces) rest f) }
     ensures command { (entries : List Outstanding) (rest : List ℕ) → IsBytes rest
-        → down_fed.BadAt down_phase.Urbs entries rest COMMAND ↔ RefusedAt SpellsAnyAnswer rest COMMAND }
+        → (down_fed.BadAt down_phase.Urbs entries rest COMMAND ↔ RefusedAt SpellsAnyAnswer rest COMMAND) }
     ensures answer { (entries : List Outstanding) (rest : List ℕ) (f : Field) → IsBytes rest → (down_fed.BadAt down_phase.Urbs entries rest COMMAND → ⊥)
-        → down_fed.BadAt down_phase.Urbs entries rest f ↔ IsFirstRefused (SpellsAnswer entries) answer_fields rest f }
+        → (down_fed.BadAt down_phase.Urbs entries rest f ↔ IsFirstRefused (SpellsAnswer entries) answer_fields rest f) }
 {}
 
 /// Pieces are one stream: whatever pieces a client's bytes were fed in, the messages that a reader gave, with

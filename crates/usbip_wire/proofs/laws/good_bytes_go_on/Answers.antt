@@ -1,6 +1,6 @@
 use Rattle.std.proofs.Common.{arith}
 use Rattle.usbip_wire.proofs.DownSpelled.{ops_sound}
-use Rattle.usbip_wire.proofs.Begun.{begun, answers_go_on}
+use Rattle.usbip_wire.proofs.Begun.{begun, answers_go_on, submit_goes_on, unlink_goes_on}
 use Rattle.usbip_wire.proofs.Good.{goes_on}
 use Rattle.usbip_wire.specs.DevList.{SpellsPart}
 use Rattle.usbip_wire.specs.DownForm.{ops_form}
@@ -22,7 +22,13 @@ pub returns-clause-part : goal.returns-clause-part
 returns-clause-part c = λ devices interfaces entries rest fits none good. goes_on (part_fields devices interfaces) (ops_form devices interfaces) (SpellsPart devices interfaces) 0 (λ what bytes s. (what, ops_sound devices interfaces what bytes s)) (ops_last devices interfaces) (ops_placed devices interfaces) (λ f listed lt. omega arith) rest (omega arith) fits none good
 
 pub returns-clause-answer : goal.returns-clause-answer
-returns-clause-answer c = λ entries rest enough fits none good. answers_go_on entries rest enough fits none good
+returns-clause-answer c = answers_go_on
+
+pub returns-clause-submit : goal.returns-clause-submit
+returns-clause-submit c = submit_goes_on
+
+pub returns-clause-unlink : goal.returns-clause-unlink
+returns-clause-unlink c = unlink_goes_on
 
 pub returns-clause-begun : goal.returns-clause-begun
-returns-clause-begun c = λ entries rest lt fits good. begun entries rest lt fits good
+returns-clause-begun c = begun
