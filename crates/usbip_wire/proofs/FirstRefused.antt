@@ -1,5 +1,5 @@
 -- a bad field is the first that is refused
-use Rattle.std.proofs.Common.{◌≡◌, ℕ, ◌+◌, ◌-◌, ◌<◌, ◌≤◌, List, [], ◌∷◌, ◌++◌, length, take, drop, Ok, Err, refl, sym, ap, subst, ◌∙◌, append_assoc, arith, inl, inr, ◌⊎◌, ◌↔◌, lit<}
+use Rattle.std.proofs.Common.{◌≡◌, ℕ, ◌+◌, ◌-◌, ◌<◌, ◌≤◌, List, [], ◌++◌, length, take, drop, Ok, refl, sym, ap, subst, ◌∙◌, append_assoc, arith, inl, inr, ◌↔◌, lit<}
 use Rattle.std.specs.Prelude.{Contains}
 use Rattle.std.specs.Int.{to_be_bytes}
 use Rattle.std.proofs.lemmas.List.{take_at, take-append-le, take-append-drop, length-append, append-nil}
@@ -14,7 +14,7 @@ use Rattle.usbip_wire.proofs.Determined.{Placed, bad_place, refused_at}
 use Rattle.usbip_wire.proofs.Forms.{complete, bad_refused}
 use Rattle.usbip_wire.proofs.Fronts.{size_of, put_len}
 use Rattle.usbip_wire.proofs.Going.{Completable, frontier, Ending, Whole, Used, Begun, Bad}
-use Rattle.usbip_wire.proofs.Good.{Chain, Before, chain_within, apart, in_list}
+use Rattle.usbip_wire.proofs.Good.{Chain, chain_within, apart, in_list}
 
 -- ---- lengths
 

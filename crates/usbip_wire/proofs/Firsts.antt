@@ -1,6 +1,6 @@
 -- the kinds of messages, and their first refused fields
-use Rattle.std.proofs.Common.{◌≡◌, ℕ, zero, suc, ◌+◌, ◌-◌, ◌^◌, ◌<◌, ◌≤◌, Bool, true, false, cond, eqb, Option, None, List, [], ◌∷◌, ◌++◌, length, drop, refl, sym, subst, arith, inl, inr, ◌⊎◌, ◌↔◌, lit<}
-use Rattle.std.specs.Prelude.{Contains, is_some}
+use Rattle.std.proofs.Common.{◌≡◌, ℕ, zero, suc, ◌+◌, ◌^◌, ◌<◌, ◌≤◌, Bool, true, false, cond, eqb, Option, None, List, [], ◌∷◌, length, drop, refl, sym, subst, arith, inl, inr, ◌↔◌, lit<}
+use Rattle.std.specs.Prelude.{is_some}
 use Rattle.std.specs.Int.{w32, to_be_bytes}
 use Rattle.std.specs.Bool.{MatchBool}
 use Rattle.tmc_base.specs.declared.field.Field.{Field}

@@ -1,5 +1,5 @@
 -- how far some bytes go in a form, and how they can go on
-use Rattle.std.proofs.Common.{◌≡◌, ℕ, ◌+◌, ◌-◌, ◌^◌, ◌<◌, ◌≤◌, Bool, true, false, cond, List, [], ◌∷◌, ◌++◌, length, take, drop, replicate, Err, refl, sym, ap, subst, ◌∙◌, append_assoc, arith, inl, inr, ◌⊎◌, lit<}
+use Rattle.std.proofs.Common.{◌≡◌, ℕ, ◌+◌, ◌-◌, ◌<◌, ◌≤◌, Bool, true, false, List, [], ◌++◌, length, take, drop, replicate, Err, refl, sym, ap, subst, ◌∙◌, append_assoc, arith, inl, inr, ◌⊎◌, lit<}
 use Rattle.std.specs.Prelude.{Contains, get_or}
 use Rattle.std.specs.Int.{to_be_bytes, from_be_bytes}
 use Rattle.std.proofs.lemmas.Bool.{cases_lt}
@@ -110,7 +110,7 @@ onward {M} fields form inner have at size bytes after put len parts s r b q =
       part = q.part;
       holds = parts ∙ (ap (λ (l : List ℕ). put ++ l) q.holds ∙ sym (append_assoc put q.front q.part));
       goes = λ le. let g = q.goes (omega (arith, le, length-append put q.front, len)) in
-      (g.0, g.1, subst (λ (l : List ℕ). Spelled form g.0 l) (sym (append_assoc put q.front g.1)) (s g.0 (q.front ++ g.1) g.2));
+          (g.0, g.1, subst (λ (l : List ℕ). Spelled form g.0 l) (sym (append_assoc put q.front g.1)) (s g.0 (q.front ++ g.1) g.2));
       ends = lift fields form inner at size bytes after put q.front q.part len s r b q.ends;
     }
 

@@ -1,18 +1,15 @@
 -- where no field is bad some message goes on, and a bad field is the first that is refused
-use Rattle.std.proofs.Common.{◌≡◌, ℕ, zero, suc, ◌+◌, ◌<◌, ◌≤◌, List, [], ◌∷◌, ◌++◌, length, take, drop, Ok, Err, refl, sym, ap, subst, ◌∙◌, append_assoc, arith, inl, inr, ◌⊎◌, ◌↔◌}
+use Rattle.std.proofs.Common.{◌≡◌, ℕ, zero, suc, ◌+◌, ◌<◌, ◌≤◌, List, [], ◌∷◌, ◌++◌, length, sym, ap, subst, ◌∙◌, arith, inl, inr, ◌⊎◌}
 use Rattle.std.specs.Prelude.{Contains, get_or}
-use Rattle.std.proofs.lemmas.Bool.{cases_lt}
-use Rattle.std.proofs.lemmas.List.{take_at, take-append-le, take-append-drop, length-append, append-nil}
+use Rattle.std.proofs.lemmas.List.{length-append}
 use Rattle.tmc_base.specs.declared.field.Field.{Field}
-use Rattle.usbip_wire.specs.declared.stop.Stop.TheVariants.{Short, Refused}
-use Rattle.usbip_wire.specs.Form.{Form, Spelled, BadAt, read}
+use Rattle.usbip_wire.specs.Form.{Form, Spelled, BadAt}
 use Rattle.usbip_wire.specs.Given.{IsBytes}
 use Rattle.usbip_wire.specs.JudgedFields.{field_size}
-use Rattle.usbip_wire.specs.Laws.{RefusedAt, IsFirstRefused, GoesOn}
+use Rattle.usbip_wire.specs.Laws.{GoesOn}
 use Rattle.usbip_wire.specs.Stream.{NoneWhole}
-use Rattle.usbip_wire.proofs.Determined.{Placed, clash, refused_at}
-use Rattle.usbip_wire.proofs.Forms.{bad_refused, more_bad}
-use Rattle.usbip_wire.proofs.Going.{Completable, Frontier, frontier, Ending, Whole, Used, Begun, Bad}
+use Rattle.usbip_wire.proofs.Determined.{Placed}
+use Rattle.usbip_wire.proofs.Going.{Completable, frontier, Ending, Whole, Used, Begun, Bad}
 
 -- ---- fields of a list
 
@@ -110,8 +107,8 @@ goes_behind {M} S g fields rest enough q =
         | inr h ↦
             let len : length rest ≡ length (q.front ++ q.part) = ap (λ (l : List ℕ). length l) q.holds in
             let other : g ≡ h.0 → ⊥ = λ e.
-                let least : h.0.offset + field_size h.0 ≤ length rest = subst (λ (z : Field). z.offset + field_size z ≤ length rest) e enough in
-                absurd (omega (arith, least, len, h.2, h.3, length-append q.front q.part)) in
+            let least : h.0.offset + field_size h.0 ≤ length rest = subst (λ (z : Field). z.offset + field_size z ≤ length rest) e enough in
+            absurd (omega (arith, least, len, h.2, h.3, length-append q.front q.part)) in
             inr (h.0, first_dropped g fields h.0 (in_list (g ∷ fields) h.0 h.1) other, h.2, h.3)
       ];
     }

@@ -1,5 +1,5 @@
 -- each form can be completed
-use Rattle.std.proofs.Common.{◌≡◌, ℕ, zero, suc, ◌-◌, ◌^◌, ◌<◌, Bool, true, false, cond, eqb, Option, Some, None, List, [], ◌++◌, length, drop, refl, sym, arith, lit<, eq-eqb, inl, inr}
+use Rattle.std.proofs.Common.{ℕ, zero, suc, ◌^◌, ◌<◌, Bool, true, false, cond, eqb, Option, None, List, drop, refl, arith, lit<, eq-eqb}
 use Rattle.std.specs.Prelude.{is_some}
 use Rattle.std.proofs.lemmas.Bool.{le-leb}
 use Rattle.usbip_wire.specs.declared.dirs.Outstanding.{Outstanding}
@@ -21,7 +21,7 @@ use Rattle.usbip_wire.specs.Dirs.{find, submit_of, is_unlink}
 use Rattle.usbip_wire.specs.Down as downward
 use Rattle.usbip_wire.specs.Down.{SpellsAnswer}
 use Rattle.usbip_wire.specs.DownFed as down_fed
-use Rattle.usbip_wire.specs.DownForm.{answer_form, ops_form, reply_form, record_form, interface_form, ret_submit_form, ret_unlink_form, size_asked}
+use Rattle.usbip_wire.specs.DownForm.{answer_form, ops_form, reply_form, record_form, ret_submit_form, ret_unlink_form, size_asked}
 use Rattle.usbip_wire.specs.Form.{Form, Number, Judged, Block, Done, Four, Spelled}
 use Rattle.usbip_wire.specs.OpRequest.{SpellsRequest}
 use Rattle.usbip_wire.specs.Up as upward

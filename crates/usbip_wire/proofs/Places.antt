@@ -15,7 +15,7 @@ use Rattle.usbip_wire.specs.declared.urb.TheConstants.{CMD_UNLINK, RET_SUBMIT}
 use Rattle.usbip_wire.specs.DevList.{SpellsPart}
 use Rattle.usbip_wire.specs.Dirs.{find, submit_of, is_unlink}
 use Rattle.usbip_wire.specs.Down.{SpellsAnswer}
-use Rattle.usbip_wire.specs.DownForm.{answer_form, ops_form, reply_form, record_form, interface_form, ret_submit_form, ret_unlink_form}
+use Rattle.usbip_wire.specs.DownForm.{answer_form, ops_form, reply_form, record_form, ret_submit_form, ret_unlink_form}
 use Rattle.usbip_wire.specs.Form.{Form, Number, Judged, Block, Done, Four, BadAt}
 use Rattle.usbip_wire.specs.JudgedFields.{op_fields, part_fields, urb_fields, answer_fields}
 use Rattle.usbip_wire.specs.Laws.{RefusedAt}

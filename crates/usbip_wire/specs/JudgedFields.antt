@@ -1,5 +1,5 @@
 -- which fields of a message a reader judges, in their order
-use Rattle.std.specs.Prelude.{ℕ, zero, suc, List, [], ◌∷◌}
+use Rattle.std.specs.Prelude.{ℕ, zero, List, [], ◌∷◌}
 use Rattle.tmc_base.specs.declared.field.Field.{Field}
 use Rattle.tmc_base.specs.declared.field.Layer.{Layer}
 use Rattle.tmc_base.specs.declared.field.Layer.TheVariants.{Op}
