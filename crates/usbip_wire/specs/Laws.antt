@@ -30,7 +30,7 @@ pub record RefusedAt {M : Type 0} (Spells : M → List ℕ → Type 0) (rest : L
   pub whole : length value ≡ field_size f
   pub refused : (m : M) (bytes more : List ℕ) → Spells m bytes → bytes ≢ front ++ (value ++ more)
 
--- it is the first of these fields that is so
+-- of these fields it is the first that is refused
 pub record IsFirstRefused {M : Type 0} (Spells : M → List ℕ → Type 0) (fields : List Field) (rest : List ℕ) (f : Field) : Type 0 where
   pub listed : Contains fields f
   pub refused : RefusedAt Spells rest f
@@ -40,11 +40,11 @@ pub record IsFirstRefused {M : Type 0} (Spells : M → List ℕ → Type 0) (fie
 abbrev pub CanGoOn : {M : Type 0} → (M → List ℕ → Type 0) → List ℕ → Type 0
 CanGoOn {M} Spells front = (m : M) × (more : List ℕ) × Spells m (front ++ more)
 
--- these bytes begin one of these fields at this place, and end before it does
+-- one of these fields begins at this place, and these bytes are too few for it
 abbrev pub Begins : List Field → ℕ → List ℕ → Type 0
 Begins fields at part = (f : Field) × Contains fields f × (f.offset ≡ at) × (length part < field_size f)
 
--- a message begins with the bytes; where they end within one of these fields, with the bytes before it
+-- a message begins with these bytes, or, where they end within one of these fields, with those before that field
 pub record GoesOn {M : Type 0} (Spells : M → List ℕ → Type 0) (fields : List Field) (rest : List ℕ) : Type 0 where
   pub front : List ℕ
   pub part : List ℕ

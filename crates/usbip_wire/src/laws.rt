@@ -78,10 +78,10 @@ pub fn bad_fields_are_refused()
 {}
 
 /// Bytes that hold no whole message and no bad field go on to a message. A field is judged once it is whole, so
-/// where the bytes end within a judged field it is those before that field that go on. What comes are bytes, each
-/// below 256, and a devid of four bytes, since no spelling has another. An answer is to an entry, and where it has
-/// named one by its first eight bytes it goes on. Each entry has an answer, and until eight bytes are there one
-/// entry more is all that can be missing.
+/// where the bytes end within a judged field, those before that field go on. What comes are bytes, each below 256; a
+/// devid has four bytes, and no spelling has another. An answer goes on from its first eight bytes, its command and
+/// its number, since these name its entry. Each entry has an answer to go on to, and until the eight bytes have come
+/// nothing is missing but an entry.
 pub fn good_bytes_go_on()
     ensures request { (rest : List ℕ) → IsBytes rest → up_fed.NoneWhole up_phase.Ops rest → ((f : Field) → up_fed.BadAt up_phase.Ops rest f → ⊥)
         → GoesOn SpellsRequest op_fields rest }
@@ -100,10 +100,10 @@ pub fn good_bytes_go_on()
         → (entry : Outstanding) × GoesOn (SpellsAnswer (entry ∷ entries)) (COMMAND ∷ []) rest }
 {}
 
-/// A field is bad exactly where it is the first judged field that the bytes hold whole and that no spelling which
-/// begins with the bytes before it has this value in. What comes are bytes, each below 256, and a devid of four
-/// bytes. The command of an answer is bad exactly where no answer has it, whatever is outstanding; where it is not,
-/// the fields behind it are judged by the entries.
+/// The bad field is the first refused one: of the judged fields that the bytes hold whole, the first with a value
+/// that no spelling has behind the bytes before it. What comes are bytes, each below 256; a devid has four bytes,
+/// and no spelling has another. The command of an answer is bad where no answer has it, whatever is outstanding.
+/// Where it is not, the fields behind it are judged by the entries.
 pub fn bad_is_the_first_refused()
     ensures request { (rest : List ℕ) (f : Field) → IsBytes rest → (up_fed.BadAt up_phase.Ops rest f ↔ IsFirstRefused SpellsRequest op_fields rest f) }
     ensures urb { (devid : ℕ) (rest : List ℕ) (f : Field) → devid < 2 ^ 32 → IsBytes rest
