@@ -1,0 +1,115 @@
+-- what the laws speak of
+use Rattle.std.specs.Prelude.{◌≡◌, ◌≢◌, ◌⊎◌, ℕ, ◌+◌, Bool, true, false, ◌==◌, ◌||◌, if◌then◌else◌, List, [], ◌∷◌, ◌++◌}
+use Rattle.usbip_wire.specs.declared.dirs.Outstanding.{Outstanding}
+use Rattle.usbip_wire.specs.declared.dirs.Outstanding.TheVariants as outstanding
+use Rattle.usbip_wire.specs.Dirs.{others}
+use Rattle.usbip_wire.specs.Down as down
+use Rattle.usbip_wire.specs.Up as up
+use Rattle.instr_plain.specs.declared.log.LogEntry.{LogEntry}
+use Rattle.instr_plain.specs.declared.log.LogEntry.TheVariants.{Exec, Took, Interrupt, Bare, Trigger, Poll, Clear, Remote}
+use Rattle.tmc_law.specs.State.{Pending}
+use Rattle.tmc_law.specs.Put.{Put, Submitted, Unlinked}
+use Rattle.tmc_law.specs.Run.{Entry, taken, inputs}
+
+-- the number of a message
+abbrev pub number_of : up.Message → ℕ
+number_of (up.Submit head transferred) = head.seqnum
+number_of (up.Unlink head) = head.seqnum
+
+abbrev pub answered_number : Put → ℕ
+answered_number (Submitted asked answer transferred) = answer.seqnum
+answered_number (Unlinked asked answer) = answer.seqnum
+
+-- no submit with this number arrives
+abbrev pub NoneArrives : ℕ → List up.Message → Type 0
+NoneArrives seqnum [] = Unit {0}
+NoneArrives seqnum (up.Submit head transferred ∷ messages) = (head.seqnum ≢ seqnum) × NoneArrives seqnum messages
+NoneArrives seqnum (up.Unlink head ∷ messages) = NoneArrives seqnum messages
+
+-- no submit with this number is answered
+abbrev pub NoneAnswers : ℕ → List Put → Type 0
+NoneAnswers seqnum [] = Unit {0}
+NoneAnswers seqnum (Submitted asked answer transferred ∷ puts) = (answer.seqnum ≢ seqnum) × NoneAnswers seqnum puts
+NoneAnswers seqnum (Unlinked asked answer ∷ puts) = NoneAnswers seqnum puts
+
+-- none of these submits arrives again
+abbrev pub NoneAgain : List Pending → List up.Message → Type 0
+NoneAgain [] messages = Unit {0}
+NoneAgain (submit ∷ submits) messages = NoneArrives submit.head.seqnum messages × NoneAgain submits messages
+
+-- one of these submits has this number
+abbrev pub is_one_of : List Pending → ℕ → Bool
+is_one_of [] seqnum = false
+is_one_of (submit ∷ submits) seqnum = (submit.head.seqnum == seqnum) || is_one_of submits seqnum
+
+-- the numbers of those answers that are to these submits, in the order of the answers
+abbrev pub answers_to : List Pending → List Put → List ℕ
+answers_to submits [] = []
+answers_to submits (Submitted asked answer transferred ∷ puts) =
+    if is_one_of submits answer.seqnum then answer.seqnum ∷ answers_to submits puts else answers_to submits puts
+answers_to submits (Unlinked asked answer ∷ puts) = answers_to submits puts
+
+-- these numbers are those of some of these submits, in their order, and none twice
+abbrev pub AreInOrder : List ℕ → List Pending → Type 0
+AreInOrder [] submits = Unit {0}
+AreInOrder (seqnum ∷ seqnums) submits =
+    (before : List Pending) × (submit : Pending) × (behind : List Pending)
+    × (submits ≡ before ++ submit ∷ behind) × (submit.head.seqnum ≡ seqnum) × AreInOrder seqnums behind
+
+-- an entry behind which other output is unread: a new response, or none
+abbrev pub Renews : LogEntry → Type 0
+Renews (Exec seq message) = Unit {0}
+Renews Clear = Unit {0}
+Renews _ = ⊥
+
+abbrev pub NoneRenews : List LogEntry → Type 0
+NoneRenews [] = Unit {0}
+NoneRenews (entry ∷ entries) = (Renews entry → ⊥) × NoneRenews entries
+
+-- how many bytes were taken of a response
+abbrev pub bytes_taken : List LogEntry → ℕ
+bytes_taken [] = 0
+bytes_taken (Took n ∷ entries) = n + bytes_taken entries
+bytes_taken (_ ∷ entries) = bytes_taken entries
+
+-- the message of an answer
+abbrev pub message_of : Put → down.Message
+message_of (Submitted asked answer transferred) = down.RetSubmit answer transferred
+message_of (Unlinked asked answer) = down.RetUnlink answer
+
+-- what is outstanding when a message was sent
+abbrev pub entry_of : up.Message → Outstanding
+entry_of (up.Submit head transferred) = outstanding.Submit head.seqnum head.dir head.length
+entry_of (up.Unlink head) = outstanding.Unlink head.seqnum
+
+abbrev pub with_messages : List Outstanding → List up.Message → List Outstanding
+with_messages entries [] = entries
+with_messages entries (message ∷ messages) = with_messages (entries ++ entry_of message ∷ []) messages
+
+-- what is outstanding behind answers
+abbrev pub without_answered : List Outstanding → List Put → List Outstanding
+without_answered entries [] = entries
+without_answered entries (put ∷ puts) = without_answered (others (answered_number put) entries) puts
+
+-- the answers have spellings that a reader accepts, each by what is outstanding when it comes
+abbrev pub AreAccepted : List Outstanding → List Put → Type 0
+AreAccepted entries [] = Unit {0}
+AreAccepted entries (put ∷ puts) =
+    ((bytes : List ℕ) × down.SpellsAnswer entries (message_of put) bytes) × AreAccepted (others (answered_number put) entries) puts
+
+-- the same of a run's answers, where what it took in is outstanding until it is answered
+abbrev pub IsAccepted : List Outstanding → List Entry → Type 0
+IsAccepted entries [] = Unit {0}
+IsAccepted entries (entry ∷ run) =
+    AreAccepted (with_messages entries (taken entry.move)) entry.puts
+    × IsAccepted (without_answered (with_messages entries (taken entry.move)) entry.puts) run
+
+-- no message with this number
+abbrev pub Unused : ℕ → List up.Message → Type 0
+Unused seqnum [] = Unit {0}
+Unused seqnum (message ∷ messages) = (number_of message ≢ seqnum) × Unused seqnum messages
+
+-- no two messages have one number
+abbrev pub AreNumbered : List up.Message → Type 0
+AreNumbered [] = Unit {0}
+AreNumbered (message ∷ messages) = Unused (number_of message) messages × AreNumbered messages

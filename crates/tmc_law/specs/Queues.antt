@@ -1,0 +1,49 @@
+-- the queues of the endpoints, and unlinks (USB 2.0, section 5.3.2; Linux kernel documentation, "USB/IP protocol")
+use Rattle.std.specs.Prelude.{◌≡◌, ℕ, true, false, List, [], ◌∷◌, ◌++◌, slice_index}
+use Rattle.usbip_wire.specs.declared.submit.SubmitHead.{SubmitHead}
+use Rattle.usbip_wire.specs.declared.unlink.UnlinkHead.{UnlinkHead}
+use Rattle.usb_setup.specs.declared.setup.Setup.{Setup}
+use Rattle.tmc_wire.specs.declared.class_request.ClassRequest.TheVariants.{ReadStatus}
+use Rattle.tmc_wire.specs.ControlTable.{IsRow}
+use Rattle.tmc_law.specs.Endpoint.{Endpoint, number_of, way_of, ends}
+use Rattle.tmc_law.specs.State.{State, Pending, arrived, queue_of, with_queue, pending, Avoids, is_halted}
+use Rattle.tmc_law.specs.Put.{Put, answer_of, unlink_answer, success, stalled, unlinked}
+use Rattle.tmc_law.specs.Control.{Asks, control_answer}
+use Rattle.tmc_law.specs.Aborts.{STATUS_SUCCESS}
+use Rattle.tmc_law.specs.Status.{status_layout}
+
+-- a device has at most so many pending submits
+abbrev pub pending_most : ℕ
+pending_most = 256
+
+-- the submit's endpoint is there, takes data this way, and is not halted
+pub record IsTaken (s : State) (head : SubmitHead) (endpoint : Endpoint) : Type 0 where
+  pub number : head.ep ≡ number_of endpoint
+  pub way : head.dir ≡ way_of endpoint (slice_index head.setup 0)
+  pub usable : is_halted endpoint s ≡ false
+
+-- A submit arrives: it is the last of its endpoint's queue. One on another endpoint, on a halted endpoint or in the wrong
+-- direction is answered at once.
+pub data Arrives (s : State) (head : SubmitHead) (transferred : List ℕ) (puts : List Put) (t : State) : Type 0 where
+  Queued : (endpoint : Endpoint) → IsTaken s head endpoint → puts ≡ []
+      → t ≡ with_queue endpoint (queue_of endpoint s ++ arrived head transferred ∷ []) s → Arrives s head transferred puts t
+  TurnedAway : ((endpoint : Endpoint) → IsTaken s head endpoint → ⊥) → puts ≡ answer_of head stalled [] ∷ [] → t ≡ s
+      → Arrives s head transferred puts t
+
+-- the submit stands in this queue, between these
+abbrev pub Holds : State → Endpoint → (before : List Pending) → Pending → (behind : List Pending) → Type 0
+Holds s endpoint before submit behind = queue_of endpoint s ≡ before ++ submit ∷ behind
+
+-- An unlink arrives. It hits a pending submit, which leaves its queue with the packets that it had and is never answered.
+-- A status request that was polled is answered first, and so the unlink misses. Any other unlink misses.
+pub data Unlinks (s : State) (head : UnlinkHead) (puts : List Put) (t : State) : Type 0 where
+  Hits : (endpoint : Endpoint) (before : List Pending) (submit : Pending) (behind : List Pending)
+      → Holds s endpoint before submit behind → submit.head.seqnum ≡ head.target → submit.polled ≡ false
+      → puts ≡ unlink_answer head unlinked ∷ [] → t ≡ with_queue endpoint (before ++ behind) s → Unlinks s head puts t
+  Polled : (endpoint : Endpoint) (before : List Pending) (submit : Pending) (behind : List Pending)
+      → (setup : Setup) (tag : ℕ)
+      → Holds s endpoint before submit behind → submit.head.seqnum ≡ head.target → submit.polled ≡ true
+      → Asks submit setup → IsRow ends (ReadStatus tag) setup
+      → puts ≡ control_answer submit setup (status_layout STATUS_SUCCESS tag) ∷ unlink_answer head success ∷ []
+      → t ≡ with_queue endpoint (before ++ behind) s → Unlinks s head puts t
+  Misses : Avoids head.target (pending s) → puts ≡ unlink_answer head success ∷ [] → t ≡ s → Unlinks s head puts t

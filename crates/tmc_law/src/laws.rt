@@ -1,0 +1,60 @@
+//! What holds of all lawful runs. Each function does nothing, and its contract is the law.
+
+ghost use Rattle.std.specs.Prelude.{◌≡◌, ◌↔◌, ℕ, ◌<◌, ◌≤◌, List, [], ◌∷◌, ◌++◌, length};
+ghost use Rattle.tmc_base.specs.declared.run_step.RunStep.{RunStep};
+ghost use Rattle.usbip_wire.specs.declared.unlink.UnlinkHead.{UnlinkHead};
+ghost use Rattle.usbip_wire.specs.Up as up;
+ghost use Rattle.instr_plain.specs.declared.log.LogEntry.{LogEntry};
+ghost use Rattle.instr_plain.specs.declared.log.LogEntry.TheVariants.{Exec};
+ghost use Rattle.instr_plain.specs.Log.{Stands, Response};
+ghost use Rattle.tmc_law.specs.Endpoint.{Endpoint};
+ghost use Rattle.tmc_law.specs.State.{State, start, queue_of};
+ghost use Rattle.tmc_law.specs.Put.{Put, unlink_answer, unlinked};
+ghost use Rattle.tmc_law.specs.Step.{Steps, Comes};
+ghost use Rattle.tmc_law.specs.Run.{Entry, Runs, inputs, outputs};
+ghost use Rattle.tmc_law.specs.Told.{Tells};
+ghost use Rattle.tmc_law.specs.Laws.{NoneArrives, NoneAnswers, NoneAgain, AreInOrder, answers_to, NoneRenews, bytes_taken, IsAccepted, AreNumbered};
+
+/// A run's fronts are runs, and two runs of which the second starts where the first ended join end to end. The
+/// same holds of told runs.
+pub fn runs_join()
+    ensures apart { (a b : List Entry) (s t : State) → Runs s (a ++ b) t → (m : State) × Runs s a m × Runs m b t }
+    ensures together { (a b : List Entry) (s m t : State) → Runs s a m → Runs m b t → Runs s (a ++ b) t }
+    ensures told_apart { (a b : List RunStep) (s t : State) → Tells s (a ++ b) t → (m : State) × Tells s a m × Tells m b t }
+    ensures told_together { (a b : List RunStep) (s m t : State) → Tells s a m → Tells m b t → Tells s (a ++ b) t }
+{}
+
+/// The log only grows, a device's instrument stands for its log, and no later entry changes an earlier response.
+pub fn the_log_grows()
+    ensures grows { (run : List Entry) (s t : State) → Runs s run t → (more : List LogEntry) × (t.log ≡ s.log ++ more) }
+    ensures stands { (run : List Entry) (s : State) → Runs start run s → Stands s.log s.standing }
+    ensures responses { (run : List Entry) (s t : State) (i : ℕ) (response : List ℕ) → Runs s run t → i < length s.log
+        → (Response t.log i response ↔ Response s.log i response) }
+{}
+
+/// What is taken behind an execution, until the next one or a clear, is at most its response.
+pub fn no_more_is_taken_than_there_is()
+    ensures { (run : List Entry) (t : State) (before between behind : List LogEntry) (seq : ℕ) (message response : List ℕ)
+        → Runs start run t → t.log ≡ before ++ Exec seq message ∷ (between ++ behind) → NoneRenews between
+        → Response t.log (length before) response → bytes_taken between ≤ length response }
+{}
+
+/// A submit that an unlink hit is never answered, unless a submit with its number arrives again.
+pub fn a_hit_is_final()
+    ensures { (run more : List Entry) (s m t : State) (head : UnlinkHead) → Runs start run s
+        → Steps s (Comes (up.Unlink head)) (unlink_answer head unlinked ∷ []) m → Runs m more t
+        → NoneArrives head.target (inputs more) → NoneAnswers head.target (outputs more) }
+{}
+
+/// The submits of an endpoint's queue are answered in their order.
+pub fn answers_keep_order()
+    ensures { (run more : List Entry) (s t : State) (endpoint : Endpoint) → Runs start run s → Runs s more t
+        → NoneAgain (queue_of endpoint s) (inputs more)
+        → AreInOrder (answers_to (queue_of endpoint s) (outputs more)) (queue_of endpoint s) }
+{}
+
+/// What a run puts out has spellings that a reader of answers accepts, where what the run took in is outstanding until
+/// it is answered, and no two of its messages have one number.
+pub fn answers_are_accepted()
+    ensures { (run : List Entry) (t : State) → Runs start run t → AreNumbered (inputs run) → IsAccepted [] run }
+{}

@@ -1,0 +1,24 @@
+//! The lawful device: what a USB test instrument may do, and what must follow.
+//!
+//! The definitions in `specs/` are the law: the states of a device, its steps and its runs, by USB 2.0, USBTMC 1.0,
+//! USB488 1.0 and IEEE 488.2. A device is proved against them, and a host is proved over every device that keeps
+//! them. The functions of `laws` do nothing; each contract says what holds of all lawful runs.
+//!
+//! The types here are the data that a device and its users share.
+#![tactic(auto)]
+
+mod dev_event;
+mod input;
+mod laws;
+mod log;
+mod output;
+
+pub use dev_event::DevEvent;
+pub use input::Input;
+pub use instr_plain::{LogEntry, RemoteAct};
+pub use laws::{
+    a_hit_is_final, answers_are_accepted, answers_keep_order, no_more_is_taken_than_there_is,
+    runs_join, the_log_grows,
+};
+pub use log::Log;
+pub use output::Output;
