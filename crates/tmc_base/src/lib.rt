@@ -29,7 +29,7 @@ pub use mem_sink::MemSink;
 pub use mem_source::MemSource;
 pub use memory::Memory;
 pub use octets::Octets;
-pub use reading::{ReadFault, read_up_to};
+pub use reading::{ReadFault, read_all, read_up_to};
 pub use run_step::RunStep;
 pub use sink::{Sink, WriteStep};
 pub use source::{ReadStep, Source};

@@ -48,3 +48,15 @@ pub fn read_up_to<S: Source>(
     }
     Ok(bytes)
 }
+
+/// Reads a source until it ends.
+pub fn read_all<S: Source>(alloc: Global, source: &mut S) -> Result<Vec<u8>, ReadFault>
+    ensures first { IfOk result (λ bytes. GivesFirst bytes.items (S.left source.old) (S.left source.new)) }
+    ensures ended { IfOk result (λ _. HasEnded (S.left source.new)) }
+    ensures ok_counts { IfOk result (λ _. S.faults source.new ≡ S.faults source.old) }
+    ensures failed { result ≡ Err Failed → Rose (S.faults source.old) (S.faults source.new) }
+    ensures memory { result ≡ Err ReadFault.Memory → S.faults source.new ≡ S.faults source.old }
+{
+    // No `Vec` has so many bytes, so the source ends before it has given them.
+    read_up_to(alloc, source, usize::MAX)
+}

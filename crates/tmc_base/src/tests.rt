@@ -46,6 +46,22 @@ fn reads_no_byte_past_the_most(rt: HostRuntime) -> Result<(), Fail> {
 }
 
 #[test]
+fn reads_to_the_end(rt: HostRuntime) -> Result<(), Fail> {
+    for piece in [1, 4_096, 10_000] {
+        let bytes = [b'a'; 10_000].to_vec(rt.alloc())?;
+        let mut source = MemSource::new(bytes, piece, Vec::new(rt.alloc()));
+        let read = read_all(rt.alloc(), &mut source)?;
+        assert_eq!(rt; read.as_slice(), [b'a'; 10_000].as_slice(), "by {piece}");
+        assert_eq!(rt; source.read(&mut [0]), ReadStep::End);
+    }
+    let fails = [2].to_vec(rt.alloc())?;
+    let mut source = MemSource::new(b"abcde".to_vec(rt.alloc())?, 2, fails);
+    let fault = read_all(rt.alloc(), &mut source).err();
+    assert_eq!(rt; fault, Some(ReadFault::Failed));
+    Ok(())
+}
+
+#[test]
 fn writes_all_or_a_front(rt: HostRuntime) -> Result<(), Fail> {
     let mut sink = MemSink::new(rt.alloc(), 9, 2, Vec::new(rt.alloc()))?;
     assert!(rt; write_all(&mut sink, b"abcde"));

@@ -1,0 +1,5 @@
+pub mod Words
+pub mod Script
+pub mod Message
+pub mod Printed
+pub mod Shown

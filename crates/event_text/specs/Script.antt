@@ -1,0 +1,116 @@
+-- what the lines of a script say, and their faults
+use Rattle.std.specs.Prelude.{◌≡◌, ⊤, ℕ, ◌+◌, ◌==◌, ◌&&◌, nat_le, nat_lt, Option, Some, None, is_some, Result, Ok, Err, Bool, true, false, List, [], ◌∷◌, if◌then◌else◌, codes, length}
+use Rattle.std.specs.Str.{bytes_eq}
+use Rattle.tmc_base.specs.declared.limits.TheConstants.{SUBMIT_MAX}
+use Rattle.usbip_wire.specs.declared.dirs.Outstanding.{Outstanding}
+use Rattle.usbip_wire.specs.declared.dirs.Outstanding.TheVariants.{Submit, Unlink}
+use Rattle.usbip_wire.specs.declared.dirs.TheConstants.{DIRS_MAX}
+use Rattle.usbip_wire.specs.declared.urb.Dir.{Dir}
+use Rattle.usbip_wire.specs.declared.urb.Dir.TheVariants.{Out, In}
+use Rattle.usbip_wire.specs.Dirs.{find, number_of as seqnum_of}
+use Rattle.event_text.specs.declared.line_fault.LineWhat.{LineWhat}
+use Rattle.event_text.specs.declared.line_fault.LineWhat.TheVariants.{Unknown, Words, Number, Hex, TooLong, TooMany, Twice}
+use Rattle.event_text.specs.declared.script.Line.{Line}
+use Rattle.event_text.specs.declared.script.Line.TheVariants.{Adds, Bytes}
+use Rattle.event_text.specs.declared.script.Phase.{Phase}
+use Rattle.event_text.specs.declared.script.Phase.TheVariants.{Op, Urb}
+use Rattle.event_text.specs.Words.{words_of, number_of, bytes_of}
+
+-- what is made of a value, where there is one, and else this fault
+abbrev pub need : {A B : Type 0} → LineWhat → Option A → (A → Result B LineWhat) → Result B LineWhat
+need what None make = Err what
+need what (Some x) make = make x
+
+-- the most lines of a script, and the most bytes of a line without its NL
+abbrev pub lines_most : ℕ
+lines_most = 65536
+
+abbrev pub line_most : ℕ
+line_most = 16384
+
+-- the number of a line, counted from 1, and its length are judged before its words
+abbrev pub judged : {A : Type 0} → ℕ → List ℕ → (List (List ℕ) → Result A LineWhat) → Result A LineWhat
+judged number line say =
+    if nat_lt lines_most number then Err TooMany
+    else if nat_lt line_most (length line) then Err TooLong
+    else say (words_of line)
+
+-- ---- the first line
+
+abbrev pub phase_of : List ℕ → Option Phase
+phase_of word = if bytes_eq word (codes "op") then Some Op else if bytes_eq word (codes "urb") then Some Urb else None
+
+-- the words behind `phase`
+abbrev pub phase_said : List (List ℕ) → Result Phase LineWhat
+phase_said (word ∷ []) = need Words (phase_of word) (λ phase. Ok phase)
+phase_said words = Err Words
+
+abbrev pub first_words : List (List ℕ) → Result Phase LineWhat
+first_words [] = Err Unknown
+first_words (head ∷ words) = if bytes_eq head (codes "phase") then phase_said words else Err Unknown
+
+abbrev pub first_said : List ℕ → Result Phase LineWhat
+first_said line = judged 1 line first_words
+
+-- ---- a later line
+
+abbrev pub dir_of : List ℕ → Option Dir
+dir_of word = if bytes_eq word (codes "in") then Some In else if bytes_eq word (codes "out") then Some Out else None
+
+-- a submit's length
+abbrev pub if_short : ℕ → Result ℕ LineWhat
+if_short size = if nat_le size SUBMIT_MAX then Ok size else Err Number
+
+abbrev pub adds_submit : Dir → ℕ → Result ℕ LineWhat → Result Line LineWhat
+adds_submit dir seqnum (Ok size) = Ok (Adds (Submit seqnum dir size))
+adds_submit dir seqnum (Err what) = Err what
+
+-- the words behind `submit`, `unlink` and `bytes`
+abbrev pub submit_said : List (List ℕ) → Result Line LineWhat
+submit_said (number ∷ way ∷ size ∷ []) =
+    need Words (dir_of way) (λ dir.
+    need Number (number_of number) (λ seqnum.
+    adds_submit dir seqnum (need Number (number_of size) if_short)))
+submit_said words = Err Words
+
+abbrev pub unlink_said : List (List ℕ) → Result Line LineWhat
+unlink_said (number ∷ []) = need Number (number_of number) (λ seqnum. Ok (Adds (Unlink seqnum)))
+unlink_said words = Err Words
+
+abbrev pub bytes_said : List (List ℕ) → Result Line LineWhat
+bytes_said (word ∷ []) = need Hex (bytes_of word) (λ piece. Ok (Bytes piece))
+bytes_said words = Err Words
+
+-- only answers have something outstanding
+abbrev pub later_words : Dir → List (List ℕ) → Result Line LineWhat
+later_words way [] = Err Unknown
+later_words Out (head ∷ words) = if bytes_eq head (codes "bytes") then bytes_said words else Err Unknown
+later_words In (head ∷ words) =
+    if bytes_eq head (codes "bytes") then bytes_said words
+    else if bytes_eq head (codes "submit") then submit_said words
+    else if bytes_eq head (codes "unlink") then unlink_said words
+    else Err Unknown
+
+abbrev pub later_said : Dir → ℕ → List ℕ → Result Line LineWhat
+later_said way number line = judged number line (later_words way)
+
+-- these lines, numbered from here on, say this
+abbrev pub Say : Dir → ℕ → List (List ℕ) → List Line → Type 0
+Say way number [] [] = Unit {0}
+Say way number (line ∷ lines) (said ∷ more) = (later_said way number line ≡ Ok said) × Say way (number + 1) lines more
+Say way number lines said = ⊥
+
+-- ---- faults
+
+-- an entry whose number is in the list, or that finds no free place there
+abbrev pub entry_fault : List Outstanding → Outstanding → Option LineWhat
+entry_fault entries entry =
+    if is_some (find (seqnum_of entry) entries) then Some Twice
+    else if nat_lt (length entries) DIRS_MAX then None
+    else Some TooMany
+
+-- the fault of a line that says this, where these are outstanding
+abbrev pub said_fault : List Outstanding → Result Line LineWhat → Option LineWhat
+said_fault entries (Err what) = Some what
+said_fault entries (Ok (Adds entry)) = entry_fault entries entry
+said_fault entries (Ok (Bytes piece)) = None

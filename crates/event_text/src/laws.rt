@@ -1,0 +1,15 @@
+//! What holds of scripts. Each function does nothing, and its contract is the law.
+
+ghost use Rattle.std.specs.Prelude.{◌≡◌, ℕ, List};
+ghost use Rattle.usbip_wire.specs.declared.urb.Dir.{Dir};
+ghost use Rattle.event_text.specs.declared.line_fault.LineWhat.{LineWhat};
+ghost use Rattle.event_text.specs.Shown.{ShownOf, IsRefused};
+
+/// A script is shown or refused and not both, with one text, or at one line for one fault.
+pub fn scripts_are_determined()
+    ensures text { (way : Dir) (source text other : List ℕ) → ShownOf way source text → ShownOf way source other → text ≡ other }
+    ensures line { (way : Dir) (source : List ℕ) (number second : ℕ) (what other : LineWhat)
+        → IsRefused way source number what → IsRefused way source second other → (number ≡ second) × (what ≡ other) }
+    ensures either { (way : Dir) (source text : List ℕ) (number : ℕ) (what : LineWhat)
+        → ShownOf way source text → IsRefused way source number what → ⊥ }
+{}

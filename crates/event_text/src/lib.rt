@@ -1,0 +1,13 @@
+//! The texts of the bench link: scripts, and what is printed of them.
+//!
+//! [`put_shown`] reads the pieces of one direction of a link and prints their messages.
+#![tactic(auto)]
+
+mod laws;
+mod line_fault;
+mod script;
+mod shown;
+
+pub use laws::scripts_are_determined;
+pub use line_fault::{LineFault, LineWhat};
+pub use shown::put_shown;
