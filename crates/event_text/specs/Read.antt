@@ -115,25 +115,32 @@ IsSound reader entries count = IsCounted count (standing_of reader entries) × I
 
 -- ---- one call of a reader
 
+abbrev pub client_gave : ℕ → Up → Step
+client_gave used sent.More = More
+client_gave used (sent.Bad f) = Bad
+client_gave used what = Message used
+
 abbrev pub client_step : UpStep → Step
-client_step fed = client_gave fed.used fed.what where
-  client_gave : ℕ → Up → Step
-  client_gave used sent.More = More
-  client_gave used (sent.Bad f) = Bad
-  client_gave used what = Message used
+client_step fed = client_gave fed.used fed.what
+
+abbrev pub device_gave : ℕ → Down → Step
+device_gave used got.More = More
+device_gave used (got.Bad f) = Bad
+device_gave used what = Message used
 
 abbrev pub device_step : DownStep → Step
-device_step fed = device_gave fed.used fed.what where
-  device_gave : ℕ → Down → Step
-  device_gave used got.More = More
-  device_gave used (got.Bad f) = Bad
-  device_gave used what = Message used
+device_step fed = device_gave fed.used fed.what
 
 -- what is outstanding behind an answer of a reader
 abbrev pub answered : List Outstanding → Down → List Outstanding
 answered entries (got.RetSubmit head) = others head.seqnum entries
 answered entries (got.RetUnlink head) = others head.seqnum entries
 answered entries what = entries
+
+abbrev pub rest_of : Step → ℕ → Option ℕ
+rest_of (Message used) kept = Some 0
+rest_of More kept = Some kept
+rest_of Bad kept = None
 
 abbrev pub fed_with : Standing → List ℕ → Standing
 fed_with old piece = record old { rest = old.rest ++ piece }

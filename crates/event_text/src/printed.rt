@@ -1,10 +1,10 @@
 //! The line of each message, of a bad field, and of a rest.
 
 ghost use Rattle.std.specs.Prelude.{◌≡◌, IfOk, string_bytes, List, ℕ};
-ghost use Rattle.event_text.specs.Printed.{busid_word, device_word, dir_word, request_line, submit_line, unlink_line, count_line, interface_line, device_line, reply_line, ret_submit_line, ret_unlink_line, layer_word, name_word, field_words, bad_line, more_line};
+ghost use Rattle.event_text.specs.Printed.{busid_word, device_word, dir_word, asked_words, request_line, submit_line, unlink_line, count_line, interface_line, device_line, reply_line, ret_submit_line, ret_unlink_line, layer_word, name_word, field_words, bad_line, more_line};
 ghost use Rattle.event_text.specs.Read.{client_text, device_text};
 
-use crate::words::hex_text;
+use crate::words::{hex_text, place_of};
 use std::alloc::Global;
 use tmc_base::{Field, Layer, Memory, Name};
 use usbip_wire::{
@@ -64,7 +64,7 @@ fn bad_line(alloc: Global, field: Field) -> Result<String, Memory>
 fn busid_text(alloc: Global, busid: &[u8; 32]) -> Result<String, Memory>
     ensures { IfOk result (λ text. string_bytes text ≡ busid_word busid.now) }
 {
-    match busid.iter().position(|byte| *byte == 0) {
+    match place_of(busid, 0) {
         Some(end) => hex_text(alloc, &busid[..end]),
         None => hex_text(alloc, busid),
     }
@@ -85,18 +85,25 @@ fn request_line(alloc: Global, request: &OpRequest) -> Result<String, Memory>
 fn submit_line(alloc: Global, head: &SubmitHead, carried: &[u8]) -> Result<String, Memory>
     ensures { IfOk result (λ text. string_bytes text ≡ submit_line head.now carried.now) }
 {
+    let asked = asked_words(alloc, head)?;
+    let setup = hex::encode(alloc, head.setup)?;
+    let carried = hex_text(alloc, carried)?;
+    Ok(format!(in alloc; "{asked} {setup} {carried}\n")?)
+}
+
+/// What a submit asks for.
+fn asked_words(alloc: Global, head: &SubmitHead) -> Result<String, Memory>
+    ensures { IfOk result (λ text. string_bytes text ≡ asked_words head.now) }
+{
     let SubmitHead {
         seqnum,
         dir,
         ep,
         length,
-        setup,
         ..
     } = *head;
     let dir = dir_word(dir);
-    let setup = hex::encode(alloc, setup)?;
-    let carried = hex_text(alloc, carried)?;
-    Ok(format!(in alloc; "submit {seqnum} {dir} {ep} {length} {setup} {carried}\n")?)
+    Ok(format!(in alloc; "submit {seqnum} {dir} {ep} {length}")?)
 }
 
 fn unlink_line(alloc: Global, head: &UnlinkHead) -> Result<String, Memory>

@@ -1,12 +1,12 @@
 //! A stream that is shown, as far as it was read.
 
-ghost use Rattle.std.specs.Prelude.{◌≡◌, ◌++◌, ◌∷◌, [], ℕ, List, None, Some, IfOk, IfErr, OnOk, string_bytes, length};
+ghost use Rattle.std.specs.Prelude.{◌≡◌, ◌+◌, ◌++◌, ◌∷◌, [], ℕ, List, None, Some, IfOk, IfErr, OnOk, string_bytes, length};
 ghost use Rattle.usbip_wire.specs.Dirs.{IsShort};
 ghost use Rattle.usbip_wire.specs.DownFed as down_fed;
 ghost use Rattle.usbip_wire.specs.UpFed as up_fed;
 ghost use Rattle.usbip_wire.specs.declared.down.DownStep.{DownStep};
 ghost use Rattle.usbip_wire.specs.declared.up.UpStep.{UpStep};
-ghost use Rattle.event_text.specs.Read.{Stepped, IsSound, standing_of, client_step, device_step, client_text, device_text, answered};
+ghost use Rattle.event_text.specs.Read.{Stepped, IsSound, IsSettled, IsOurReader, IsCounted, standing_of, rest_of, client_step, device_step, client_text, device_text, answered};
 ghost use Rattle.event_text.specs.declared.script.Line.TheVariants.{Bytes};
 ghost use Rattle.event_text.specs.Script.{entry_fault};
 ghost use Rattle.event_text.specs.Shown.{begun, Prints, ending};
@@ -28,6 +28,21 @@ pub(crate) enum Reader {
     Device(DownReader),
 }
 
+impl Reader {
+    /// The reader of a script's stream.
+    fn new(alloc: Global, way: Dir, phase: Phase) -> Result<Reader, Memory>
+        ensures begun { IfOk result (λ reader. standing_of reader [] ≡ begun way phase) }
+        ensures ours { IfOk result IsOurReader }
+    {
+        Ok(match (way, phase) {
+            (Dir::Out, Phase::Op) => Reader::Client(UpReader::ops(alloc)?),
+            (Dir::Out, Phase::Urb) => Reader::Client(UpReader::urbs(alloc, DEVID)?),
+            (Dir::In, Phase::Op) => Reader::Device(DownReader::ops(alloc)?),
+            (Dir::In, Phase::Urb) => Reader::Device(DownReader::urbs(alloc)?),
+        })
+    }
+}
+
 /// What one call of a reader gave.
 #[derive(Clone, Copy, Debug, PartialEq, Eq)]
 pub(crate) enum Step {
@@ -37,6 +52,19 @@ pub(crate) enum Step {
     More,
     /// A field is refused.
     Bad,
+}
+
+impl Step {
+    /// The number of bytes that are not part of a message yet, where it was this with all that were used.
+    fn rest_of(self, kept: usize) -> Option<usize>
+        ensures { result ≡ rest_of self kept }
+    {
+        match self {
+            Step::Message(_) => Some(0),
+            Step::More => Some(kept),
+            Step::Bad => None,
+        }
+    }
 }
 
 /// A stream with what is outstanding. `rest` is the number of bytes that are not part of a message yet, and
@@ -54,12 +82,7 @@ impl Reading {
         ensures begun { IfOk result (λ reading. standing_of reading.reader reading.dirs ≡ begun way phase) }
         ensures sound { IfOk result (λ reading. IsSound reading.reader reading.dirs reading.rest) }
     {
-        let reader = match (way, phase) {
-            (Dir::Out, Phase::Op) => Reader::Client(UpReader::ops(alloc)?),
-            (Dir::Out, Phase::Urb) => Reader::Client(UpReader::urbs(alloc, DEVID)?),
-            (Dir::In, Phase::Op) => Reader::Device(DownReader::ops(alloc)?),
-            (Dir::In, Phase::Urb) => Reader::Device(DownReader::urbs(alloc)?),
-        };
+        let reader = Reader::new(alloc, way, phase)?;
         Ok(Reading {
             reader,
             dirs: Dirs::new(),
@@ -105,12 +128,10 @@ impl Reading {
             return Ok(());
         }
         let mut left = piece;
-        loop {
-            match self.step(left, text)? {
-                Step::Message(used) => left = &left[used..],
-                Step::More | Step::Bad => return Ok(()),
-            }
+        while let Step::Message(used) = self.step(left, text)? {
+            left = &left[used..];
         }
+        Ok(())
     }
 
     /// Appends what is printed behind the last line.
@@ -133,20 +154,35 @@ impl Reading {
             × Stepped (standing_of self.old.reader self.old.dirs) piece.now step printed (standing_of self.new.reader self.new.dirs)) }
         ensures sound { OnOk result (IsSound self.new.reader self.new.dirs self.new.rest) }
     {
-        let kept = match self.rest {
-            Some(rest) => rest.checked_add(piece.len()).ok_or(Memory)?,
-            None => 0,
-        };
-        let step = match &mut self.reader {
-            Reader::Client(reader) => feed_client(reader, piece, text)?,
-            Reader::Device(reader) => feed_device(reader, &mut self.dirs, piece, text)?,
-        };
-        self.rest = match step {
-            Step::Message(_) => Some(0),
-            Step::More => Some(kept),
-            Step::Bad => None,
-        };
+        let kept = self.kept_with(piece)?;
+        let step = self.feed(piece, text)?;
+        self.rest = step.rest_of(kept);
         Ok(step)
+    }
+
+    /// The number of bytes that are not part of a message yet, with this piece.
+    fn kept_with(&self, piece: &[u8]) -> Result<usize, Memory>
+        requires good { (standing_of self.now.reader self.now.dirs).bad ≡ None }
+        requires counted { IsCounted self.now.rest (standing_of self.now.reader self.now.dirs) }
+        ensures { IfOk result (λ kept. kept ≡ length (standing_of self.now.reader self.now.dirs).rest + length piece.now) }
+    {
+        self.rest
+            .and_then(|rest| rest.checked_add(piece.len()))
+            .ok_or(Memory)
+    }
+
+    fn feed(&mut self, piece: &[u8], text: &mut String) -> Result<Step, Memory>
+        requires good { (standing_of self.old.reader self.old.dirs).bad ≡ None }
+        requires settled { IsSettled (standing_of self.old.reader self.old.dirs) }
+        requires ours { IsOurReader self.old.reader }
+        ensures stepped { IfOk result (λ step. (printed : List ℕ) × (string_bytes text.new ≡ string_bytes text.old ++ printed)
+            × Stepped (standing_of self.old.reader self.old.dirs) piece.now step printed (standing_of self.new.reader self.new.dirs)) }
+        ensures ours { OnOk result (IsOurReader self.new.reader) }
+    {
+        match &mut self.reader {
+            Reader::Client(reader) => feed_client(reader, piece, text),
+            Reader::Device(reader) => feed_device(reader, &mut self.dirs, piece, text),
+        }
     }
 }
 

@@ -1,6 +1,7 @@
 //! Lines, words, numbers and HEX.
 
-ghost use Rattle.std.specs.Prelude.{◌≡◌, ◌<◌, ◌∷◌, length, map, Some, None, IfOk, string_bytes};
+ghost use Rattle.std.specs.Prelude.{◌≡◌, ◌==◌, ◌<◌, ◌∷◌, length, map, Some, None, IfOk, string_bytes};
+ghost use Rattle.std.specs.List.{position};
 ghost use Rattle.std.specs.Str.{bytes_eq};
 ghost use Rattle.event_text.specs.Words.{lines_of, words_of, number_of, hex_word, bytes_of};
 
@@ -8,12 +9,19 @@ use itoa::Buffer;
 use std::alloc::Global;
 use tmc_base::{Memory, Octets};
 
+/// The place of the first byte with this value.
+pub(crate) fn place_of(bytes: &[u8], value: u8) -> Option<usize>
+    ensures { result ≡ position (λ byte. byte == value) bytes.now }
+{
+    bytes.iter().position(|byte| *byte == value)
+}
+
 /// The first line without its NL, and what stands behind the NL.
 pub(crate) fn first_line(source: &[u8]) -> (&[u8], &[u8])
     requires { 0 < length source.now }
     ensures { lines_of source.now ≡ result.0.now ∷ lines_of result.1.now }
 {
-    match source.iter().position(|byte| *byte == b'\n') {
+    match place_of(source, b'\n') {
         Some(at) => (&source[..at], &source[at + 1..]),
         None => (source, &[]),
     }

@@ -1,0 +1,1 @@
+-- an entry more makes no message whole in the rest, and no field bad

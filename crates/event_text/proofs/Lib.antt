@@ -1,0 +1,9 @@
+pub mod Cuts
+pub mod Numbers
+pub mod Long
+pub mod Sound
+pub mod Added
+pub mod Whole
+pub mod FedClient
+pub mod FedDevice
+pub mod Given
