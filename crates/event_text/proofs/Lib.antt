@@ -7,3 +7,4 @@ pub mod Whole
 pub mod FedClient
 pub mod FedDevice
 pub mod Given
+pub mod Progress

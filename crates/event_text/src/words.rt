@@ -19,7 +19,8 @@ pub(crate) fn place_of(bytes: &[u8], value: u8) -> Option<usize>
 /// The first line without its NL, and what stands behind the NL.
 pub(crate) fn first_line(source: &[u8]) -> (&[u8], &[u8])
     requires { 0 < length source.now }
-    ensures { lines_of source.now ≡ result.0.now ∷ lines_of result.1.now }
+    ensures cut { lines_of source.now ≡ result.0.now ∷ lines_of result.1.now }
+    ensures shorter { length result.1.now < length source.now }
 {
     match place_of(source, b'\n') {
         Some(at) => (&source[..at], &source[at + 1..]),

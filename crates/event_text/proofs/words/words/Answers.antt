@@ -1,4 +1,4 @@
-use Rattle.std.proofs.Common.{eqb, rules, tests, IfOk, ◌≡◌, subst, List, ℕ, map}
+use Rattle.std.proofs.Common.{eqb, rules, tests, IfOk, ◌≡◌, subst, map}
 use Rattle.std.proofs.lemmas.Iterator.Consumers.{map_from_collect}
 use Rattle.std.proofs.lemmas.Iterator.Splits.{YieldsList-from_slice_split}
 use Rattle.event_text.specs.Words.{words_of}
