@@ -159,5 +159,5 @@ device_prints reader old entries left piece new text more e good settled s (fed,
   printed,
   subst (λ t. Stepped (standing_of reader entries) piece t (device_text fed.what (data_of new)) (standing_of (Device new) left)) (sym is)
       (subst (λ l. Stepped (standing_of reader entries) piece (device_step fed) (device_text fed.what (data_of new)) (standing_of (Device new) l)) (sym gone)
-          (device_call reader old entries piece fed new e good settled calls)),
+      (device_call reader old entries piece fed new e good settled calls)),
 )
