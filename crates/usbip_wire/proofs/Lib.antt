@@ -14,6 +14,7 @@ pub mod DownFeeding
 pub mod Determined
 pub mod Free
 pub mod Places
+pub mod Alone
 pub mod Listed
 pub mod UpStream
 pub mod DownStream

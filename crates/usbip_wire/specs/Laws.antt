@@ -1,7 +1,7 @@
 -- what holds of spellings
 use Rattle.std.specs.Prelude.{◌≡◌, ◌≢◌, ℕ, List, ◌∷◌, ◌++◌, length}
 use Rattle.tmc_base.specs.declared.field.Field.{Field}
-use Rattle.usbip_wire.specs.Stream.{Reads}
+use Rattle.usbip_wire.specs.Stream.{NoneWhole, Reads}
 
 -- no spelling begins another, and the bytes determine the message
 abbrev pub ArePrefixFree : {M : Type 0} → (M → List ℕ → Type 0) → Type 0
@@ -27,3 +27,7 @@ pub record RefusedAt {M : Type 0} (Spells : M → List ℕ → Type 0) (rest : L
   pub holds : rest ≡ front ++ (value ++ tail)
   pub placed : length front ≡ f.offset
   pub refused : (m : M) (bytes more : List ℕ) → Spells m bytes → bytes ≢ front ++ (value ++ more)
+
+-- bytes with a bad field begin with no spelling, and have no other first bad field
+abbrev pub AreAlone : {M : Type 0} → (M → List ℕ → Type 0) → (List ℕ → Field → Type 0) → Type 0
+AreAlone {M} Spells Bad = (rest : List ℕ) (f : Field) → Bad rest f → NoneWhole Spells rest × ((g : Field) → Bad rest g → f ≡ g)

@@ -12,7 +12,7 @@ ghost use Rattle.usbip_wire.specs.DevList.{SpellsPart};
 ghost use Rattle.usbip_wire.specs.Down.{SpellsAnswer};
 ghost use Rattle.usbip_wire.specs.DownFed as down_fed;
 ghost use Rattle.usbip_wire.specs.DownPieces as down_pieces;
-ghost use Rattle.usbip_wire.specs.Laws.{ArePrefixFree, AreDetermined, AreReadAgain, RefusedAt};
+ghost use Rattle.usbip_wire.specs.Laws.{ArePrefixFree, AreDetermined, AreReadAgain, RefusedAt, AreAlone};
 ghost use Rattle.usbip_wire.specs.OpRequest.{SpellsRequest};
 ghost use Rattle.usbip_wire.specs.Up.{Spells};
 ghost use Rattle.usbip_wire.specs.Stream.{InRow, Reads};
@@ -70,6 +70,15 @@ pub fn bad_fields_are_refused()
         → down_fed.BadAt (down_phase.Ops devices interfaces) entries rest f → RefusedAt (SpellsPart devices interfaces) rest f }
     ensures answer { (entries : List Outstanding) (rest : List ℕ) (f : Field)
         → down_fed.BadAt down_phase.Urbs entries rest f → RefusedAt (SpellsAnswer entries) rest f }
+{}
+
+/// Bytes with a bad field begin with no message, and have no other first bad field.
+pub fn bad_fields_are_alone()
+    ensures request { AreAlone SpellsRequest (up_fed.BadAt up_phase.Ops) }
+    ensures urb { (devid : ℕ) → AreAlone (Spells devid) (up_fed.BadAt (up_phase.Urbs devid)) }
+    ensures part { (devices interfaces : ℕ) (entries : List Outstanding)
+        → AreAlone (SpellsPart devices interfaces) (down_fed.BadAt (down_phase.Ops devices interfaces) entries) }
+    ensures answer { (entries : List Outstanding) → AreAlone (SpellsAnswer entries) (down_fed.BadAt down_phase.Urbs entries) }
 {}
 
 /// Pieces are one stream: whatever pieces a client's bytes were fed in, the messages that a reader gave, with
