@@ -8,3 +8,6 @@ pub mod FedClient
 pub mod FedDevice
 pub mod Given
 pub mod Progress
+pub mod Lawful
+pub mod Determined
+pub mod Refused
