@@ -3,3 +3,4 @@ pub mod Script
 pub mod Message
 pub mod Printed
 pub mod Shown
+pub mod Read

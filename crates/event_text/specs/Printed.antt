@@ -40,15 +40,17 @@ abbrev pub request_line : OpRequest → List ℕ
 request_line request.DevList = codes "devlist\n"
 request_line (request.Import busid) = codes "import " ++ (busid_word busid ++ codes "\n")
 
-abbrev pub submit_line : SubmitHead → List ℕ → List ℕ
-submit_line head transferred =
+-- what a submit asks for
+abbrev pub asked_words : SubmitHead → List ℕ
+asked_words head =
     codes "submit " ++ (decimal head.seqnum
     ++ (codes " " ++ (dir_word head.dir
     ++ (codes " " ++ (decimal head.ep
-    ++ (codes " " ++ (decimal head.length
-    ++ (codes " " ++ (encode_lower head.setup
-    ++ (codes " " ++ (hex_word transferred
-    ++ codes "\n")))))))))))
+    ++ (codes " " ++ decimal head.length))))))
+
+abbrev pub submit_line : SubmitHead → List ℕ → List ℕ
+submit_line head transferred =
+    asked_words head ++ (codes " " ++ (encode_lower head.setup ++ (codes " " ++ (hex_word transferred ++ codes "\n"))))
 
 abbrev pub unlink_line : UnlinkHead → List ℕ
 unlink_line head = codes "unlink " ++ (decimal head.seqnum ++ (codes " " ++ (decimal head.target ++ codes "\n")))

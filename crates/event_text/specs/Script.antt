@@ -58,28 +58,32 @@ abbrev pub dir_of : List ℕ → Option Dir
 dir_of word = if bytes_eq word (codes "in") then Some In else if bytes_eq word (codes "out") then Some Out else None
 
 -- a submit's length
-abbrev pub if_short : ℕ → Result ℕ LineWhat
-if_short size = if nat_le size SUBMIT_MAX then Ok size else Err Number
+abbrev pub if_short : Option ℕ → Option ℕ
+if_short None = None
+if_short (Some size) = if nat_le size SUBMIT_MAX then Some size else None
 
-abbrev pub adds_submit : Dir → ℕ → Result ℕ LineWhat → Result Line LineWhat
-adds_submit dir seqnum (Ok size) = Ok (Adds (Submit seqnum dir size))
-adds_submit dir seqnum (Err what) = Err what
+abbrev pub length_of : List ℕ → Option ℕ
+length_of word = if_short (number_of word)
 
 -- the words behind `submit`, `unlink` and `bytes`
-abbrev pub submit_said : List (List ℕ) → Result Line LineWhat
+abbrev pub submit_said : List (List ℕ) → Result Outstanding LineWhat
 submit_said (number ∷ way ∷ size ∷ []) =
     need Words (dir_of way) (λ dir.
     need Number (number_of number) (λ seqnum.
-    adds_submit dir seqnum (need Number (number_of size) if_short)))
+    need Number (length_of size) (λ size. Ok (Submit seqnum dir size))))
 submit_said words = Err Words
 
-abbrev pub unlink_said : List (List ℕ) → Result Line LineWhat
-unlink_said (number ∷ []) = need Number (number_of number) (λ seqnum. Ok (Adds (Unlink seqnum)))
+abbrev pub unlink_said : List (List ℕ) → Result Outstanding LineWhat
+unlink_said (number ∷ []) = need Number (number_of number) (λ seqnum. Ok (Unlink seqnum))
 unlink_said words = Err Words
 
 abbrev pub bytes_said : List (List ℕ) → Result Line LineWhat
 bytes_said (word ∷ []) = need Hex (bytes_of word) (λ piece. Ok (Bytes piece))
 bytes_said words = Err Words
+
+abbrev pub adds : Result Outstanding LineWhat → Result Line LineWhat
+adds (Ok entry) = Ok (Adds entry)
+adds (Err what) = Err what
 
 -- only answers have something outstanding
 abbrev pub later_words : Dir → List (List ℕ) → Result Line LineWhat
@@ -87,8 +91,8 @@ later_words way [] = Err Unknown
 later_words Out (head ∷ words) = if bytes_eq head (codes "bytes") then bytes_said words else Err Unknown
 later_words In (head ∷ words) =
     if bytes_eq head (codes "bytes") then bytes_said words
-    else if bytes_eq head (codes "submit") then submit_said words
-    else if bytes_eq head (codes "unlink") then unlink_said words
+    else if bytes_eq head (codes "submit") then adds (submit_said words)
+    else if bytes_eq head (codes "unlink") then adds (unlink_said words)
     else Err Unknown
 
 abbrev pub later_said : Dir → ℕ → List ℕ → Result Line LineWhat

@@ -49,6 +49,11 @@ abbrev pub bad_text : Option Field → List ℕ
 bad_text None = []
 bad_text (Some f) = bad_line f
 
+-- behind a bad field nothing is kept
+abbrev pub stopped : Standing → Option Field → Standing
+stopped last None = last
+stopped last (Some f) = record last { rest = []; bad = Some f }
+
 -- a piece completes these messages, each printed as a line, and behind them a bad field is printed
 pub record Takes (old : Standing) (piece text : List ℕ) (new : Standing) : Type 0 where
   pub messages : List Message
@@ -56,7 +61,7 @@ pub record Takes (old : Standing) (piece text : List ℕ) (new : Standing) : Typ
   pub bad : Option Field
   pub row : InTurn (record old { rest = old.rest ++ piece }) messages last
   pub stops : Stops last bad
-  pub marked : new ≡ record last { bad = bad }
+  pub marked : new ≡ stopped last bad
   pub printed : text ≡ flat_map message_line messages ++ bad_text bad
 
 -- nothing is printed behind a bad field

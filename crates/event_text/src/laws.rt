@@ -1,9 +1,14 @@
-//! What holds of scripts. Each function does nothing, and its contract is the law.
+//! What holds of scripts. The function does nothing, and its contract is the law.
 
 ghost use Rattle.std.specs.Prelude.{◌≡◌, ℕ, List};
 ghost use Rattle.usbip_wire.specs.declared.urb.Dir.{Dir};
 ghost use Rattle.event_text.specs.declared.line_fault.LineWhat.{LineWhat};
 ghost use Rattle.event_text.specs.Shown.{ShownOf, IsRefused};
+
+use usbip_wire::{
+    answers_are_determined, bad_fields_are_alone, parts_are_determined, requests_are_determined,
+    urbs_are_determined,
+};
 
 /// A script is shown or refused and not both, with one text, or at one line for one fault.
 pub fn scripts_are_determined()
@@ -12,4 +17,10 @@ pub fn scripts_are_determined()
         → IsRefused way source number what → IsRefused way source second other → (number ≡ second) × (what ≡ other) }
     ensures either { (way : Dir) (source text : List ℕ) (number : ℕ) (what : LineWhat)
         → ShownOf way source text → IsRefused way source number what → ⊥ }
-{}
+{
+    requests_are_determined();
+    urbs_are_determined();
+    parts_are_determined();
+    answers_are_determined();
+    bad_fields_are_alone();
+}

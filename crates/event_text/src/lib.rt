@@ -5,8 +5,14 @@
 
 mod laws;
 mod line_fault;
+mod line_stop;
+mod printed;
+mod reading;
 mod script;
 mod shown;
+#[cfg(test)]
+mod tests;
+mod words;
 
 pub use laws::scripts_are_determined;
 pub use line_fault::{LineFault, LineWhat};

@@ -1,9 +1,15 @@
 //! What is shown of a script.
 
-ghost use Rattle.std.specs.Prelude.{◌≡◌, ◌++◌, ℕ, List, IfOk, IfErr, OnErr};
+ghost use Rattle.std.specs.Prelude.{◌≡◌, ◌++◌, ℕ, List, IfOk, IfErr, OnOk, OnErr, string_bytes};
+ghost use Rattle.event_text.specs.Read.{LinePut, IsSound, standing_of};
 ghost use Rattle.event_text.specs.Shown.{ShownOf, IsFaultOf};
 
-use crate::line_fault::LineFault;
+use crate::line_fault::{LineFault, LineWhat};
+use crate::line_stop::LineStop;
+use crate::reading::Reading;
+use crate::script::{Line, read_first, read_later};
+use crate::words::first_line;
+use std::alloc::Global;
 use usbip_wire::Dir;
 
 /// Appends what is shown of a script: the messages of its pieces, a line each, and then the number of bytes
@@ -14,5 +20,59 @@ pub fn put_shown(way: Dir, source: &[u8], out: &mut Vec<u8>) -> Result<(), LineF
     ensures refused { IfErr result (IsFaultOf way source.now) }
     ensures kept { OnErr result (out.new.items ≡ out.old.items) }
 {
-    Err(LineFault::Memory)
+    let text = text_of(*out.allocator(), way, source)?;
+    out.extend_from_slice(text.as_bytes())
+        .map_err(|_| LineFault::Memory)
+}
+
+/// What is shown of a script.
+fn text_of(alloc: Global, way: Dir, source: &[u8]) -> Result<String, LineFault>
+    ensures shown { IfOk result (λ text. ShownOf way source.now (string_bytes text)) }
+    ensures refused { IfErr result (IsFaultOf way source.now) }
+{
+    if source.is_empty() {
+        return Err(LineFault::At {
+            line: 1,
+            what: LineWhat::Unknown,
+        });
+    }
+    let (first, mut rest) = first_line(source);
+    let phase = match read_first(alloc, first) {
+        Ok(phase) => phase,
+        Err(stop) => return Err(stop.at(1)),
+    };
+    let mut reading = Reading::new(alloc, way, phase)?;
+    let mut text = String::new(alloc);
+    let mut number = 2;
+    'lines: while !rest.is_empty() {
+        let (line, more) = first_line(rest);
+        match put_line(&mut reading, way, number, line, &mut text) {
+            Ok(()) => {}
+            Err(stop) => return Err(stop.at(number)),
+        }
+        rest = more;
+        number += 1;
+    }
+    reading.end(&mut text)?;
+    Ok(text)
+}
+
+/// Reads one line, and appends what it prints.
+fn put_line(
+    reading: &mut Reading,
+    way: Dir,
+    number: u32,
+    line: &[u8],
+    text: &mut String,
+) -> Result<(), LineStop>
+    requires { IsSound reading.old.reader reading.old.dirs reading.old.rest }
+    ensures put { LinePut way number line.now (standing_of reading.old.reader reading.old.dirs) (string_bytes text.old) result
+        (standing_of reading.new.reader reading.new.dirs) (string_bytes text.new) }
+    ensures sound { OnOk result (IsSound reading.new.reader reading.new.dirs reading.new.rest) }
+{
+    match read_later(*text.allocator(), way, number, line)? {
+        Line::Adds(entry) => reading.add(entry)?,
+        Line::Bytes(piece) => reading.give(piece.as_slice(), text)?,
+    }
+    Ok(())
 }

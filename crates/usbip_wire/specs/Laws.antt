@@ -2,7 +2,7 @@
 use Rattle.std.specs.Prelude.{◌≡◌, ◌≢◌, ◌⊎◌, ℕ, ◌<◌, List, [], ◌∷◌, ◌++◌, length, Contains}
 use Rattle.tmc_base.specs.declared.field.Field.{Field}
 use Rattle.usbip_wire.specs.JudgedFields.{field_size}
-use Rattle.usbip_wire.specs.Stream.{Reads}
+use Rattle.usbip_wire.specs.Stream.{NoneWhole, Reads}
 
 -- no spelling begins another, and the bytes determine the message
 abbrev pub ArePrefixFree : {M : Type 0} → (M → List ℕ → Type 0) → Type 0
@@ -51,3 +51,7 @@ pub record GoesOn {M : Type 0} (Spells : M → List ℕ → Type 0) (fields : Li
   pub holds : rest ≡ front ++ part
   pub can : CanGoOn Spells front
   pub within : (part ≡ []) ⊎ Begins fields (length front) part
+
+-- bytes with a bad field begin with no spelling, and have no other first bad field
+abbrev pub AreAlone : {M : Type 0} → (M → List ℕ → Type 0) → (List ℕ → Field → Type 0) → Type 0
+AreAlone {M} Spells Bad = (rest : List ℕ) (f : Field) → Bad rest f → NoneWhole Spells rest × ((g : Field) → Bad rest g → f ≡ g)

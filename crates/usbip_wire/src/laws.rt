@@ -16,7 +16,7 @@ ghost use Rattle.usbip_wire.specs.DownFed as down_fed;
 ghost use Rattle.usbip_wire.specs.DownPieces as down_pieces;
 ghost use Rattle.usbip_wire.specs.Given.{IsBytes};
 ghost use Rattle.usbip_wire.specs.JudgedFields.{op_fields, part_fields, urb_fields, answer_fields};
-ghost use Rattle.usbip_wire.specs.Laws.{ArePrefixFree, AreDetermined, AreReadAgain, RefusedAt, IsFirstRefused, CanGoOn, GoesOn};
+ghost use Rattle.usbip_wire.specs.Laws.{ArePrefixFree, AreDetermined, AreReadAgain, RefusedAt, IsFirstRefused, CanGoOn, GoesOn, AreAlone};
 ghost use Rattle.usbip_wire.specs.OpRequest.{SpellsRequest};
 ghost use Rattle.usbip_wire.specs.Up.{Spells};
 ghost use Rattle.usbip_wire.specs.Stream.{InRow, Reads};
@@ -114,6 +114,15 @@ pub fn bad_is_the_first_refused()
         → (down_fed.BadAt down_phase.Urbs entries rest COMMAND ↔ RefusedAt SpellsAnyAnswer rest COMMAND) }
     ensures answer { (entries : List Outstanding) (rest : List ℕ) (f : Field) → IsBytes rest → (down_fed.BadAt down_phase.Urbs entries rest COMMAND → ⊥)
         → (down_fed.BadAt down_phase.Urbs entries rest f ↔ IsFirstRefused (SpellsAnswer entries) answer_fields rest f) }
+{}
+
+/// Bytes with a bad field begin with no message, and have no other first bad field.
+pub fn bad_fields_are_alone()
+    ensures request { AreAlone SpellsRequest (up_fed.BadAt up_phase.Ops) }
+    ensures urb { (devid : ℕ) → AreAlone (Spells devid) (up_fed.BadAt (up_phase.Urbs devid)) }
+    ensures part { (devices interfaces : ℕ) (entries : List Outstanding)
+        → AreAlone (SpellsPart devices interfaces) (down_fed.BadAt (down_phase.Ops devices interfaces) entries) }
+    ensures answer { (entries : List Outstanding) → AreAlone (SpellsAnswer entries) (down_fed.BadAt down_phase.Urbs entries) }
 {}
 
 /// Pieces are one stream: whatever pieces a client's bytes were fed in, the messages that a reader gave, with

@@ -1,0 +1,13 @@
+pub mod Cuts
+pub mod Numbers
+pub mod Long
+pub mod Sound
+pub mod Added
+pub mod Whole
+pub mod FedClient
+pub mod FedDevice
+pub mod Given
+pub mod Progress
+pub mod Lawful
+pub mod Determined
+pub mod Refused

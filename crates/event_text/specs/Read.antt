@@ -1,0 +1,164 @@
+-- what the functions of the code gave
+use Rattle.std.specs.Prelude.{◌≡◌, ⊤, ℕ, ◌+◌, ◌<◌, ◌≤◌, Option, Some, None, Result, Ok, Err, List, [], ◌++◌, length, take}
+use Rattle.tmc_base.specs.declared.field.Field.{Field}
+use Rattle.usbip_wire.specs.declared.dirs.Outstanding.{Outstanding}
+use Rattle.usbip_wire.specs.declared.down.Down.{Down}
+use Rattle.usbip_wire.specs.declared.down.Down.TheVariants as got
+use Rattle.usbip_wire.specs.declared.down.DownPhase.{DownPhase}
+use Rattle.usbip_wire.specs.declared.down.DownStep.{DownStep}
+use Rattle.usbip_wire.specs.declared.up.UpStep.{UpStep}
+use Rattle.usbip_wire.specs.declared.down.DownPhase.TheVariants as down_phase
+use Rattle.usbip_wire.specs.declared.up.Up.{Up}
+use Rattle.usbip_wire.specs.declared.up.Up.TheVariants as sent
+use Rattle.usbip_wire.specs.declared.up.UpPhase.{UpPhase}
+use Rattle.usbip_wire.specs.declared.up.UpPhase.TheVariants as up_phase
+use Rattle.usbip_wire.specs.declared.urb.Dir.{Dir}
+use Rattle.usbip_wire.specs.Dirs.{IsShort, others}
+use Rattle.usbip_wire.specs.DownFed as down_fed
+use Rattle.usbip_wire.specs.UpFed as up_fed
+use Rattle.event_text.specs.declared.line_fault.LineFault.{LineFault}
+use Rattle.event_text.specs.declared.line_fault.LineFault.TheVariants.{At, Memory as no_memory}
+use Rattle.event_text.specs.declared.line_fault.LineWhat.{LineWhat}
+use Rattle.event_text.specs.declared.line_fault.LineWhat.TheVariants.{TooLong, TooMany}
+use Rattle.event_text.specs.declared.line_stop.LineStop.{LineStop}
+use Rattle.event_text.specs.declared.line_stop.LineStop.TheVariants.{Wrong, Memory}
+use Rattle.event_text.specs.declared.reading.Step.{Step}
+use Rattle.event_text.specs.declared.reading.Step.TheVariants.{Message, More, Bad}
+use Rattle.event_text.specs.declared.reading.Reader.{Reader}
+use Rattle.event_text.specs.declared.reading.Reader.TheVariants.{Client, Device}
+use Rattle.event_text.specs.declared.script.Line.{Line}
+use Rattle.event_text.specs.declared.script.Line.TheVariants.{Adds, Bytes}
+use Rattle.event_text.specs.Message as message
+use Rattle.event_text.specs.Message.{Stream, Requests, Urbs, Parts, Answers, devid}
+use Rattle.event_text.specs.Printed.{message_line, request_line, submit_line, unlink_line, part_line, ret_submit_line, ret_unlink_line, bad_line}
+use Rattle.event_text.specs.Script.{lines_most, line_most, said_fault, later_said, Say}
+use Rattle.event_text.specs.Shown.{Standing, Stops, stopped, taken, Prints, bad_text}
+
+-- the code gave what a line says, or memory was wanting
+abbrev pub IsRead : {A : Type 0} → Result A LineStop → Result A LineWhat → Type 0
+IsRead (Ok x) said = said ≡ Ok x
+IsRead (Err (Wrong what)) said = said ≡ Err what
+IsRead (Err Memory) said = ⊤
+
+-- the place and the length of a line
+abbrev pub IsJudged : ℕ → List ℕ → Result Unit LineWhat → Type 0
+IsJudged number line (Ok done) = (number ≤ lines_most) × (length line ≤ line_most)
+IsJudged number line (Err TooMany) = lines_most < number
+IsJudged number line (Err TooLong) = (number ≤ lines_most) × (line_most < length line)
+IsJudged number line (Err what) = ⊥
+
+abbrev pub IsShortLine : Line → Type 0
+IsShortLine (Adds entry) = IsShort entry
+IsShortLine (Bytes piece) = ⊤
+
+abbrev pub fault_at : ℕ → LineStop → LineFault
+fault_at line (Wrong what) = At line what
+fault_at line Memory = no_memory
+
+-- ---- what is printed of an answer of a reader, with the data that it has
+
+abbrev pub client_text : Up → List ℕ → List ℕ
+client_text (sent.Op request) carried = request_line request
+client_text (sent.Submit head) carried = submit_line head carried
+client_text (sent.Unlink head) carried = unlink_line head
+client_text sent.More carried = []
+client_text (sent.Bad f) carried = bad_line f
+
+abbrev pub device_text : Down → List ℕ → List ℕ
+device_text (got.RetSubmit head) carried = ret_submit_line head carried
+device_text (got.RetUnlink head) carried = ret_unlink_line head
+device_text got.More carried = []
+device_text (got.Bad f) carried = bad_line f
+device_text what carried = part_line what
+
+-- ---- where a reader stands
+
+abbrev pub client_stream : UpPhase → Stream
+client_stream up_phase.Ops = Requests
+client_stream (up_phase.Urbs device) = Urbs
+
+abbrev pub device_stream : DownPhase → Stream
+device_stream (down_phase.Ops devices interfaces) = Parts devices interfaces
+device_stream down_phase.Urbs = Answers
+
+-- behind a bad field nothing is kept
+abbrev pub kept_by : Option Field → List ℕ → List ℕ
+kept_by None rest = rest
+kept_by (Some f) rest = []
+
+abbrev pub standing_of : Reader → List Outstanding → Standing
+standing_of (Client held) entries =
+    record { reading = client_stream held.phase; entries = entries; rest = kept_by held.bad (up_fed.kept held); bad = held.bad }
+standing_of (Device held) entries =
+    record { reading = device_stream held.phase; entries = entries; rest = kept_by held.bad (down_fed.kept held); bad = held.bad }
+
+-- URB messages go to one device
+abbrev pub IsOurs : UpPhase → Type 0
+IsOurs up_phase.Ops = ⊤
+IsOurs (up_phase.Urbs device) = device ≡ devid
+
+abbrev pub IsOurReader : Reader → Type 0
+IsOurReader (Client held) = IsOurs held.phase
+IsOurReader (Device held) = ⊤
+
+-- no message and no bad field is in the rest
+abbrev pub IsSettled : Standing → Type 0
+IsSettled standing = standing.bad ≡ None → Stops standing None
+
+-- the number of bytes of the rest; none behind a bad field
+abbrev pub IsCounted : Option ℕ → Standing → Type 0
+IsCounted (Some count) standing = (standing.bad ≡ None) × (count ≡ length standing.rest)
+IsCounted None standing = standing.bad ≡ None → ⊥
+
+abbrev pub IsSound : Reader → List Outstanding → Option ℕ → Type 0
+IsSound reader entries count = IsCounted count (standing_of reader entries) × IsOurReader reader × IsSettled (standing_of reader entries)
+
+-- ---- one call of a reader
+
+abbrev pub client_gave : ℕ → Up → Step
+client_gave used sent.More = More
+client_gave used (sent.Bad f) = Bad
+client_gave used what = Message used
+
+abbrev pub client_step : UpStep → Step
+client_step fed = client_gave fed.used fed.what
+
+abbrev pub device_gave : ℕ → Down → Step
+device_gave used got.More = More
+device_gave used (got.Bad f) = Bad
+device_gave used what = Message used
+
+abbrev pub device_step : DownStep → Step
+device_step fed = device_gave fed.used fed.what
+
+-- what is outstanding behind an answer of a reader
+abbrev pub answered : List Outstanding → Down → List Outstanding
+answered entries (got.RetSubmit head) = others head.seqnum entries
+answered entries (got.RetUnlink head) = others head.seqnum entries
+answered entries what = entries
+
+abbrev pub rest_of : Step → ℕ → Option ℕ
+rest_of (Message used) kept = Some 0
+rest_of More kept = Some kept
+rest_of Bad kept = None
+
+abbrev pub fed_with : Standing → List ℕ → Standing
+fed_with old piece = record old { rest = old.rest ++ piece }
+
+-- a message was completed by so many bytes and printed; or all bytes were used, or a field was refused
+abbrev pub Stepped : Standing → List ℕ → Step → List ℕ → Standing → Type 0
+Stepped old piece (Message used) text new =
+    (0 < used) × (used ≤ length piece)
+    × ((what : message.Message) × message.Spells old.reading old.entries what (old.rest ++ take used piece) × (text ≡ message_line what) × (new ≡ taken old what []))
+Stepped old piece More text new = Stops (fed_with old piece) None × (text ≡ []) × (new ≡ fed_with old piece)
+Stepped old piece Bad text new = (f : Field) × Stops (fed_with old piece) (Some f) × (text ≡ bad_line f) × (new ≡ stopped (fed_with old piece) (Some f))
+
+-- ---- one line
+
+-- a line was taken, or it is refused, or memory was wanting
+abbrev pub LinePut : Dir → ℕ → List ℕ → Standing → List ℕ → Result Unit LineStop → Standing → List ℕ → Type 0
+LinePut way number line old before (Ok done) new text =
+    (number ≤ lines_most)
+    × ((said : Line) × (later_said way number line ≡ Ok said) × ((printed : List ℕ) × Prints old said printed new × (text ≡ before ++ printed)))
+LinePut way number line old before (Err (Wrong what)) new text = said_fault old.entries (later_said way number line) ≡ Some what
+LinePut way number line old before (Err Memory) new text = ⊤
