@@ -2,8 +2,8 @@
 use Rattle.std.proofs.Common.{◌≡◌, ⊎_elim, ℕ, ◌+◌, ◌≤◌, List, [], ◌∷◌, ◌++◌, length, refl, sym, ap, ◌∙◌, subst, arith, length-append}
 use Rattle.std.specs.Prelude.{Contains}
 use Rattle.std.proofs.lemmas.List.Elements.{Contains-append_right}
-use Rattle.tmc_tool.specs.declared.line.LineWhat.{LineWhat}
-use Rattle.tmc_tool.specs.declared.line.LineWhat.TheVariants.{Words, EmptyMessage, LongMessage, NotYet}
+use Rattle.event_text.specs.declared.line_fault.LineWhat.{LineWhat}
+use Rattle.event_text.specs.declared.line_fault.LineWhat.TheVariants.{Words, EmptyMessage, LongMessage, NotYet}
 use Rattle.tmc_tool.specs.Line.{IsFirstLine, IsQuestion, IsRefused, Responds}
 
 -- the plain instrument gives one answer to a message
@@ -85,3 +85,4 @@ not_refused one bytes message response line NotYet question refused =
     (λ long. omega (arith, question.asked.whole, ap length agree, long))
     other.2)
     r.5
+not_refused one bytes message response line what question refused = absurd refused

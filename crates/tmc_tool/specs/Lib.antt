@@ -1,5 +1,7 @@
+pub mod Command
 pub mod Exchange
 pub mod Report
 pub mod Line
 pub mod Judged
+pub mod Refusal
 pub mod Tool

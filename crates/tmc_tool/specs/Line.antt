@@ -1,11 +1,10 @@
 -- the line that `ask` reads, and whether its message can be asked
-use Rattle.std.specs.Prelude.{◌≡◌, ◌⊎◌, ℕ, ◌<◌, ◌≤◌, List, [], ◌∷◌, ◌++◌, length, codes, Contains}
-use Rattle.std.specs.Fmt.{decimal}
+use Rattle.std.specs.Prelude.{◌≡◌, ◌⊎◌, ℕ, ◌<◌, ◌≤◌, List, [], ◌∷◌, ◌++◌, length, Contains}
 use Rattle.instr_plain.specs.declared.plain.Plain.{Plain}
 use Rattle.instr_plain.specs.Standing.{power_on}
 use Rattle.instr_plain.specs.Exec.{Exec}
-use Rattle.tmc_tool.specs.declared.line.LineWhat.{LineWhat}
-use Rattle.tmc_tool.specs.declared.line.LineWhat.TheVariants.{Words, EmptyMessage, LongMessage, NotYet}
+use Rattle.event_text.specs.declared.line_fault.LineWhat.{LineWhat}
+use Rattle.event_text.specs.declared.line_fault.LineWhat.TheVariants.{Words, EmptyMessage, LongMessage, NotYet}
 use Rattle.tmc_tool.specs.Exchange.{ask_limit}
 
 -- the first line of the bytes without its NL, and what stands behind the NL
@@ -48,7 +47,8 @@ IsNotYet message =
     (transfer_most < length message)
     ⊎ ((response : List ℕ) × Responds message response × ((response ≡ []) ⊎ (ask_limit < length response)))
 
--- the first line of the bytes is refused, by what is wrong with it, or the second for what stands in it
+-- the first line of the bytes is refused, by what is wrong with it, or the second for what stands in it; nothing else is
+-- wrong with them
 abbrev pub IsRefused : List ℕ → (line : ℕ) → LineWhat → Type 0
 IsRefused bytes line EmptyMessage = (line ≡ 1) × ((behind : List ℕ) × IsFirstLine bytes [] behind)
 IsRefused bytes line LongMessage =
@@ -59,13 +59,4 @@ IsRefused bytes line NotYet =
 IsRefused bytes line Words =
     (line ≡ 2)
     × ((message behind response : List ℕ) × IsFirstLine bytes message behind × IsAsked message response × (0 < length behind))
-
--- the names of what is wrong
-abbrev pub name_of : LineWhat → List ℕ
-name_of Words = codes "Words"
-name_of EmptyMessage = codes "EmptyMessage"
-name_of LongMessage = codes "LongMessage"
-name_of NotYet = codes "NotYet"
-
-abbrev pub refusal : ℕ → LineWhat → List ℕ
-refusal line what = codes "refused line " ++ (decimal line ++ (codes " " ++ (name_of what ++ codes "\n")))
+IsRefused bytes line what = ⊥

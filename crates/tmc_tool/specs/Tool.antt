@@ -3,11 +3,16 @@ use Rattle.std.specs.Prelude.{◌≡◌, ◌⊎◌, ℕ, ◌≤◌, List, [], �
 use Rattle.tmc_base.specs.Faults.{Rose}
 use Rattle.tmc_base.specs.Source.{GivesFirst, HasEnded}
 use Rattle.tmc_base.specs.Sink.{PutsFront, put_after}
+use Rattle.event_text.specs.declared.line_fault.LineWhat.{LineWhat}
+use Rattle.event_text.specs.Shown as script
 use Rattle.tmc_tool.specs.declared.status.Status.{Status}
 use Rattle.tmc_tool.specs.declared.status.Status.TheVariants.{Printed, Usage, Refused, SourceFault, SinkFault, NoMemory}
 use Rattle.tmc_tool.specs.Exchange.{Crosses, ask_limit}
-use Rattle.tmc_tool.specs.declared.line.LineWhat.{LineWhat}
-use Rattle.tmc_tool.specs.Line.{IsQuestion, IsRefused, line_most, refusal}
+use Rattle.tmc_tool.specs.declared.command.Command.{Command}
+use Rattle.tmc_tool.specs.declared.command.Command.TheVariants.{Ask, Show}
+use Rattle.tmc_tool.specs.Command.{words_of, IsCommand}
+use Rattle.tmc_tool.specs.Line.{IsQuestion, IsRefused, line_most}
+use Rattle.tmc_tool.specs.Refusal.{refusal}
 use Rattle.tmc_tool.specs.Report.{Told, Asked, Settled, Exec as exec_entry, Took, Reports}
 
 -- the number that a status is to the shell
@@ -18,10 +23,6 @@ code_of Refused = 2
 code_of SourceFault = 3
 code_of SinkFault = 4
 code_of NoMemory = 5
-
--- the words behind the program's name are `ask` alone
-abbrev pub IsAsk : List (List ℕ) → Type 0
-IsAsk words = words ≡ codes "ask" ∷ []
 
 -- what is told of the outside: the bytes left in the source, those put into the sink, and the counts of faults
 pub record Outside : Type 0 where
@@ -34,6 +35,12 @@ pub record Outside : Type 0 where
 pub record ReadsLine (bytes : List ℕ) (before after : Outside) : Type 0 where
   pub first : GivesFirst bytes before.left after.left
   pub enough : HasEnded after.left ⊎ (line_most ≤ length bytes)
+  pub counts : after.read_faults ≡ before.read_faults
+
+-- these bytes were read: all of the source
+pub record ReadsAll (bytes : List ℕ) (before after : Outside) : Type 0 where
+  pub first : GivesFirst bytes before.left after.left
+  pub ended : HasEnded after.left
   pub counts : after.read_faults ≡ before.read_faults
 
 -- nothing was read
@@ -72,14 +79,36 @@ pub record Answers (bytes text : List ℕ) : Type 0 where
   pub crossed : Crosses message response sent taken
   pub reported : Reports (told_of message response sent taken) text
 
+-- the command makes this text of exactly these bytes
+abbrev pub Makes : Command → (bytes text : List ℕ) → Type 0
+Makes Ask bytes text = Answers bytes text
+Makes (Show way) bytes text = script.ShownOf way bytes text
+
+-- the command takes these bytes
+abbrev pub Takes : Command → List ℕ → Type 0
+Takes Ask bytes = (message : List ℕ) × (response : List ℕ) × IsQuestion bytes message response
+Takes (Show way) bytes = (text : List ℕ) × script.ShownOf way bytes text
+
+-- the command refuses these bytes: this line, counted from 1, for what is wrong with it
+abbrev pub Refuses : Command → List ℕ → (line : ℕ) → LineWhat → Type 0
+Refuses Ask bytes line what = IsRefused bytes line what
+Refuses (Show way) bytes line what = script.IsRefused way bytes line what
+
+-- these bytes were read: the first of the source, and enough of them for the command to refuse them
+abbrev pub ReadsEnough : Command → List ℕ → Outside → Outside → Type 0
+ReadsEnough Ask bytes before after = ReadsLine bytes before after
+ReadsEnough (Show way) bytes before after = ReadsAll bytes before after
+
 -- the text that is due with a status, by the words and by what was read
 abbrev pub Due : List (List ℕ) → Outside → Outside → Status → List ℕ → Type 0
 Due words before after Printed text =
-    IsAsk words × ((bytes : List ℕ) × GivesFirst bytes before.left after.left × HasEnded after.left × (after.read_faults ≡ before.read_faults) × Answers bytes text)
-Due words before after Usage text = (IsAsk words → ⊥) × ReadsNothing before after × (text ≡ codes "usage\n")
+    (command : Command) × (words ≡ words_of command)
+    × (bytes : List ℕ) × ReadsAll bytes before after × Makes command bytes text
+Due words before after Usage text = (IsCommand words → ⊥) × ReadsNothing before after × (text ≡ codes "usage\n")
 Due words before after Refused text =
-    IsAsk words
-    × ((bytes : List ℕ) × (line : ℕ) × (what : LineWhat) × ReadsLine bytes before after × IsRefused bytes line what × (text ≡ refusal line what))
+    (command : Command) × (words ≡ words_of command)
+    × (bytes : List ℕ) × (line : ℕ) × (what : LineWhat)
+    × ReadsEnough command bytes before after × Refuses command bytes line what × (text ≡ refusal line what)
 Due words before after SourceFault text = ⊥
 Due words before after SinkFault text = ⊥
 Due words before after NoMemory text = ⊥
@@ -93,11 +122,11 @@ abbrev pub Ends : List (List ℕ) → Status → Outside → Outside → Type 0
 Ends words Printed before after = IsWritten words Printed before after
 Ends words Usage before after = IsWritten words Usage before after
 Ends words Refused before after = IsWritten words Refused before after
-Ends words SourceFault before after = IsAsk words × Rose before.read_faults after.read_faults × PutsNothing before after
+Ends words SourceFault before after = IsCommand words × Rose before.read_faults after.read_faults × PutsNothing before after
 Ends words SinkFault before after =
     Rose before.write_faults after.write_faults
     × ((status : Status) × (text : List ℕ) × Due words before after status text × PutsFront text before.put after.put)
-Ends words NoMemory before after = IsAsk words × (after.read_faults ≡ before.read_faults) × PutsNothing before after
+Ends words NoMemory before after = IsCommand words × (after.read_faults ≡ before.read_faults) × PutsNothing before after
 
 -- a text was written whole and the status is its own, or the sink failed and took a front of it
 abbrev pub Writes : Status → List ℕ → Status → Option (List ℕ) → ℕ → Option (List ℕ) → ℕ → Type 0

@@ -1,14 +1,13 @@
 //! The line that `ask` reads, and whether its message can be asked.
 
 ghost use Rattle.std.specs.Prelude.{◌≡◌, ◌≤◌, MatchResult, IfOk, IfErr, ⊤, length, string_bytes};
-ghost use Rattle.tmc_tool.specs.declared.line.LineFault.TheVariants.{Memory as no_memory};
-ghost use Rattle.tmc_tool.specs.Line.{IsFirstLine, IsAsked, Responds, message_most, name_of, refusal};
+ghost use Rattle.tmc_tool.specs.Line.{IsFirstLine, IsAsked, Responds, message_most};
 ghost use Rattle.tmc_tool.specs.Judged.{IsRefusal};
 
 use crate::exchange::ASK_LIMIT;
+use event_text::{LineFault, LineWhat};
 use instr_plain::Instrument;
 use std::alloc::Global;
-use thiserror::Error;
 use tmc_base::Memory;
 
 /// The longest program message, in bytes.
@@ -19,39 +18,6 @@ const TRANSFER_MOST: usize = 1_024;
 
 /// The most bytes that are read of a line: one more than the longest message and its NL.
 pub(crate) const LINE_MOST: usize = 4_098;
-
-/// What is wrong with a line of the input.
-#[derive(Clone, Copy, Debug, PartialEq, Eq)]
-pub enum LineWhat {
-    /// It has other words than it may.
-    Words,
-    /// Its message has no bytes.
-    EmptyMessage,
-    /// Its message has more than 4,096 bytes.
-    LongMessage,
-    /// Its message does not go in one transfer, or has no response that comes in one read.
-    NotYet,
-}
-
-/// Why the input is refused. Lines are counted from 1.
-#[derive(Clone, Copy, Debug, PartialEq, Eq, Error)]
-pub enum LineFault {
-    #[error("line {line} of the input is refused: {what:?}; correct it there and try again")]
-    At { line: u32, what: LineWhat },
-    #[error("out of memory; free some and try again")]
-    Memory,
-}
-
-impl From<Memory> for LineFault {
-    ghost use Rattle.std.specs.Prelude.{◌≡◌};
-    ghost use Rattle.tmc_tool.specs.declared.line.LineFault.TheVariants.{Memory as no_memory};
-
-    ghost from_gives = { λ _ fault. fault ≡ no_memory };
-
-    fn from(_memory: Memory) -> LineFault {
-        LineFault::Memory
-    }
-}
 
 /// The first line without its NL, and what stands behind the NL.
 pub(crate) fn first_line(bytes: &[u8]) -> (&[u8], &[u8])
@@ -103,23 +69,4 @@ fn respond(alloc: Global, message: &[u8]) -> Result<Vec<u8>, Memory>
     let mut instrument = Instrument::new(alloc)?;
     instrument.execute(message)?;
     Ok(Vec::from_slice(alloc, instrument.response())?)
-}
-
-/// The text of a refusal.
-pub(crate) fn refusal(alloc: Global, line: u32, what: LineWhat) -> Result<String, Memory>
-    ensures { IfOk result (λ text. string_bytes text ≡ refusal line what) }
-{
-    let name = name(what);
-    Ok(format!(in alloc; "refused line {line} {name}\n")?)
-}
-
-fn name(what: LineWhat) -> &'static str
-    ensures { result.now ≡ name_of what }
-{
-    match what {
-        LineWhat::Words => "Words",
-        LineWhat::EmptyMessage => "EmptyMessage",
-        LineWhat::LongMessage => "LongMessage",
-        LineWhat::NotYet => "NotYet",
-    }
 }

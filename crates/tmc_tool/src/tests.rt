@@ -164,33 +164,41 @@ fn holds(text: &[u8], part: &[u8]) -> bool {
 
 #[test]
 fn refuses_what_cannot_be_asked(rt: HostRuntime) -> Result<(), Fail> {
-    for (word, input, want_status, want) in [
-        ("ask", "", 2, "refused line 1 EmptyMessage\n"),
-        ("ask", "\n*IDN?", 2, "refused line 1 EmptyMessage\n"),
-        ("ask", "*CLS", 2, "refused line 1 NotYet\n"),
-        ("ask", "FOO;*OPC?", 2, "refused line 1 NotYet\n"),
-        (
-            "ask",
-            "*CLS\nmore lines behind it",
-            2,
-            "refused line 1 NotYet\n",
-        ),
-        ("ask", "READ? 3994", 2, "refused line 1 NotYet\n"),
-        ("ask", "*IDN?\n\n", 2, "refused line 2 Words\n"),
-        (
-            "ask",
-            "*IDN?\nmore lines behind it",
-            2,
-            "refused line 2 Words\n",
-        ),
-        ("frob", "*IDN?", 1, "usage\n"),
-        ("", "*IDN?", 1, "usage\n"),
-        ("ask ask", "*IDN?", 1, "usage\n"),
-        ("Ask", "*IDN?", 1, "usage\n"),
+    for (input, want) in [
+        ("", "refused line 1 EmptyMessage\n"),
+        ("\n*IDN?", "refused line 1 EmptyMessage\n"),
+        ("*CLS", "refused line 1 NotYet\n"),
+        ("FOO;*OPC?", "refused line 1 NotYet\n"),
+        ("*CLS\nmore lines behind it", "refused line 1 NotYet\n"),
+        ("READ? 3994", "refused line 1 NotYet\n"),
+        ("*IDN?\n\n", "refused line 2 Words\n"),
+        ("*IDN?\nmore lines behind it", "refused line 2 Words\n"),
     ] {
-        let (status, sink) = run(rt.alloc(), word, input.as_bytes(), 1)?;
-        assert_eq!(rt; status, want_status, "{word:?} {input:?}");
-        assert_eq!(rt; sink.bytes(), want.as_bytes(), "{word:?} {input:?}");
+        let (status, sink) = run(rt.alloc(), "ask", input.as_bytes(), 1)?;
+        assert_eq!(rt; status, 2, "{input:?}");
+        assert_eq!(rt; sink.bytes(), want.as_bytes(), "{input:?}");
+    }
+    Ok(())
+}
+
+#[test]
+fn knows_no_other_words(rt: HostRuntime) -> Result<(), Fail> {
+    for words in [
+        "",
+        "frob",
+        "Ask",
+        "ask ask",
+        "ask up",
+        "up",
+        "show",
+        "show sideways",
+        "show up x",
+        "show down up",
+        "up show",
+    ] {
+        let (status, sink) = run(rt.alloc(), words, b"phase op\n", 1)?;
+        assert_eq!(rt; status, 1, "{words:?}");
+        assert_eq!(rt; sink.bytes(), b"usage\n".as_slice(), "{words:?}");
     }
     Ok(())
 }
@@ -242,5 +250,157 @@ fn failed_write_leaves_a_front(rt: HostRuntime) -> Result<(), Fail> {
     let words = words_of(alloc, "ask")?;
     assert_eq!(rt; tool_main(alloc, &words, &mut source, &mut sink), 4);
     assert_eq!(rt; sink.bytes(), b"hub running\nserv".as_slice());
+    Ok(())
+}
+
+/// An import of `1-1`.
+const IMPORT: &str = "\
+phase op
+bytes 0111800300000000312d310000000000000000000000000000000000000000000000000000000000
+";
+
+/// An import of `1-1` that lacks its last byte.
+const CUT_IMPORT: &str = "\
+phase op
+bytes 0111800300000000312d3100000000000000000000000000000000000000000000000000000000
+";
+
+/// The answer to an unlink that found its submit.
+const UNLINKED: &str = "\
+phase urb
+unlink 5
+bytes 0000000400000005000000000000000000000000ffffff98000000000000000000000000000000000000000000000000
+";
+
+/// A number that nobody submitted.
+const WRONG_NUMBER: &str = "\
+phase urb
+submit 1 out 20
+bytes 0000000300000007
+";
+
+/// An answer of 65 bytes to a read of 64.
+const TOO_MUCH: &str = "\
+phase urb
+submit 1 in 64
+bytes 00000003000000010000000000000000000000000000000000000041
+";
+
+/// One more than may be outstanding.
+const SEVENTEEN: &str = "\
+phase urb
+submit 1 out 4
+submit 2 out 4
+submit 3 out 4
+submit 4 out 4
+submit 5 out 4
+submit 6 out 4
+submit 7 out 4
+submit 8 out 4
+submit 9 out 4
+submit 10 out 4
+submit 11 out 4
+submit 12 out 4
+submit 13 out 4
+submit 14 out 4
+submit 15 out 4
+submit 16 out 4
+submit 17 out 4
+";
+
+#[test]
+fn shows_one_direction(rt: HostRuntime) -> Result<(), Fail> {
+    for (words, script, want) in [
+        ("show up", "phase op", "more 0\n"),
+        ("show up", IMPORT, "import 312d31\nmore 0\n"),
+        ("show up", CUT_IMPORT, "more 39\n"),
+        (
+            "show up",
+            "phase urb\nbytes 00000005",
+            "bad urb command 0\n",
+        ),
+        ("show down", UNLINKED, "ret_unlink 5 -104\nmore 0\n"),
+        ("show down", WRONG_NUMBER, "bad urb seqnum 4\n"),
+        ("show down", TOO_MUCH, "bad urb actual_length 24\n"),
+    ] {
+        let (status, sink) = run(rt.alloc(), words, script.as_bytes(), 3)?;
+        assert_eq!(rt; status, 0, "{script:?}");
+        assert_eq!(rt; sink.bytes(), want.as_bytes(), "{script:?}");
+    }
+    Ok(())
+}
+
+#[test]
+fn refuses_a_line_of_a_script(rt: HostRuntime) -> Result<(), Fail> {
+    for (words, script, want) in [
+        ("show up", "", "refused line 1 Unknown\n"),
+        ("show up", "phase bulk\n", "refused line 1 Words\n"),
+        (
+            "show up",
+            "phase op\nphase op\n",
+            "refused line 2 Unknown\n",
+        ),
+        ("show up", "phase op\nbytes 0\n", "refused line 2 Hex\n"),
+        (
+            "show up",
+            "phase urb\nsubmit 1 in 4\n",
+            "refused line 2 Unknown\n",
+        ),
+        (
+            "show down",
+            "phase urb\nsubmit 1 in 70001\n",
+            "refused line 2 Number\n",
+        ),
+        (
+            "show down",
+            "phase urb\nsubmit 1 in 4\nunlink 1\n",
+            "refused line 3 Twice\n",
+        ),
+        ("show down", SEVENTEEN, "refused line 18 TooMany\n"),
+    ] {
+        let (status, sink) = run(rt.alloc(), words, script.as_bytes(), 64)?;
+        assert_eq!(rt; status, 2, "{script:?}");
+        assert_eq!(rt; sink.bytes(), want.as_bytes(), "{script:?}");
+    }
+    Ok(())
+}
+
+#[test]
+fn shows_a_long_script(rt: HostRuntime) -> Result<(), Fail> {
+    let alloc = rt.alloc();
+    let mut script = bytes_of(alloc, "phase op\n")?;
+    let mut want = Vec::new(alloc);
+    for _ in 0..3_000 {
+        script.extend_from_slice(b"bytes 0111800500000000\n")?;
+        want.extend_from_slice(b"devlist\n")?;
+    }
+    want.extend_from_slice(b"more 0\n")?;
+    let (status, sink) = run(alloc, "show up", &script, 4_096)?;
+    assert_eq!(rt; status, 0);
+    assert_eq!(rt; sink.bytes(), want.as_slice());
+    Ok(())
+}
+
+#[test]
+fn failed_read_shows_nothing(rt: HostRuntime) -> Result<(), Fail> {
+    let alloc = rt.alloc();
+    let words = words_of(alloc, "show up")?;
+    let fails = [3].to_vec(alloc)?;
+    let mut source = MemSource::new(bytes_of(alloc, IMPORT)?, 4, fails);
+    let mut sink = MemSink::new(alloc, 4_096, 4_096, Vec::new(alloc))?;
+    assert_eq!(rt; tool_main(alloc, &words, &mut source, &mut sink), 3);
+    assert_eq!(rt; sink.bytes(), b"".as_slice());
+    Ok(())
+}
+
+#[test]
+fn failed_write_shows_a_front(rt: HostRuntime) -> Result<(), Fail> {
+    let alloc = rt.alloc();
+    let words = words_of(alloc, "show up")?;
+    let mut source = MemSource::new(bytes_of(alloc, IMPORT)?, 64, Vec::new(alloc));
+    let fails = [2].to_vec(alloc)?;
+    let mut sink = MemSink::new(alloc, 4_096, 8, fails)?;
+    assert_eq!(rt; tool_main(alloc, &words, &mut source, &mut sink), 4);
+    assert_eq!(rt; sink.bytes(), b"import 3".as_slice());
     Ok(())
 }

@@ -1,19 +1,27 @@
 //! The program without its outside.
 
-ghost use Rattle.std.specs.Prelude.{◌≡◌, ◌⊎◌, ◌↔◌, ◌≤◌, ◌∷◌, [], IsTrue, Some, map, List, ℕ, string_bytes, codes};
+ghost use Rattle.std.specs.Prelude.{◌≡◌, ◌⊎◌, ◌≤◌, Some, map, List, ℕ, string_bytes};
 ghost use Rattle.tmc_base.specs.Faults.{Rose};
-ghost use Rattle.tmc_tool.specs.Line.{IsAsked, IsQuestion, IsRefused};
-ghost use Rattle.tmc_tool.specs.Tool.{code_of, IsAsk, Ends, Writes, PrintsReport, PrintsRefusal};
-ghost use Rattle.tmc_tool.specs.declared.line.LineWhat.{LineWhat};
+ghost use Rattle.usbip_wire.specs.declared.urb.Dir.{Dir};
+ghost use Rattle.event_text.specs.declared.line_fault.LineWhat.{LineWhat};
+ghost use Rattle.tmc_tool.specs.Command.{words_of, IsCommand};
+ghost use Rattle.tmc_tool.specs.Line.{IsAsked};
+ghost use Rattle.tmc_tool.specs.Tool.{code_of, Takes, Refuses, Ends, Writes, PrintsReport, PrintsRefusal};
+ghost use Rattle.tmc_tool.specs.declared.command.Command.{Command};
+ghost use Rattle.tmc_tool.specs.declared.command.Command.TheVariants.{Ask, Show};
 ghost use Rattle.tmc_tool.specs.declared.status.Status.{Status};
 ghost use Rattle.tmc_tool.specs.declared.status.Status.TheVariants.{Printed, Usage, Refused, SourceFault, SinkFault, NoMemory};
 
 use crate::ask::ask;
-use crate::line::{LINE_MOST, LineFault, LineWhat, answer, first_line, refusal};
+use crate::command::{Command, command_of};
+use crate::line::{LINE_MOST, answer, first_line};
+use crate::refusal::refusal;
 use crate::status::Status;
+use event_text::{LineFault, LineWhat, put_shown, scripts_are_determined};
 use instr_plain::one_response;
 use std::alloc::Global;
-use tmc_base::{Memory, ReadFault, Sink, Source, read_up_to, write_all};
+use tmc_base::{Memory, ReadFault, Sink, Source, read_all, read_up_to, write_all};
+use usbip_wire::Dir;
 
 /// Runs the program: `words` are the arguments behind its name, the input comes from `source`, and the
 /// text goes to `sink`. The text is made whole before the first write, and each write offers all that
@@ -21,8 +29,8 @@ use tmc_base::{Memory, ReadFault, Sink, Source, read_up_to, write_all};
 ///
 /// | Status | Comes where | Printed |
 /// |---|---|---|
-/// | 0 | the source was read to its end, and the text was written whole | the report |
-/// | 1 | the words are not `ask` alone | `usage` |
+/// | 0 | the source was read to its end, and the text was written whole | the text |
+/// | 1 | the words name no command | `usage` |
 /// | 2 | a line of the input is refused | `refused line K WHAT` |
 /// | 3 | a read of the source failed | nothing |
 /// | 4 | a write to the sink failed | a front of the text |
@@ -36,24 +44,15 @@ pub fn tool_main<S: Source, K: Sink>(
     ensures ends { (status : Status) × (result ≡ code_of status) × Ends (map string_bytes words.now) status
         (record { left = S.left source.old; read_faults = S.faults source.old; put = K.put sink.old; write_faults = K.faults sink.old })
         (record { left = S.left source.new; read_faults = S.faults source.new; put = K.put sink.new; write_faults = K.faults sink.new }) }
-    ensures usage { (IsAsk (map string_bytes words.now) → ⊥) → (Rose (K.faults sink.old) (K.faults sink.new) → ⊥) → result ≡ code_of Usage }
-    ensures refused { IsAsk (map string_bytes words.now) → (Rose (S.faults source.old) (S.faults source.new) → ⊥) → (Rose (K.faults sink.old) (K.faults sink.new) → ⊥)
-        → (bytes : List ℕ) (line : ℕ) (what : LineWhat) → S.left source.old ≡ Some bytes → IsRefused bytes line what → (result ≡ code_of Refused) ⊎ (result ≡ code_of NoMemory) }
-    ensures printed { IsAsk (map string_bytes words.now) → (Rose (S.faults source.old) (S.faults source.new) → ⊥) → (Rose (K.faults sink.old) (K.faults sink.new) → ⊥)
-        → (bytes message response : List ℕ) → S.left source.old ≡ Some bytes → IsQuestion bytes message response → (result ≡ code_of Printed) ⊎ (result ≡ code_of NoMemory) }
+    ensures usage { (IsCommand (map string_bytes words.now) → ⊥) → (Rose (K.faults sink.old) (K.faults sink.new) → ⊥) → result ≡ code_of Usage }
+    ensures refused { (command : Command) → map string_bytes words.now ≡ words_of command → (Rose (S.faults source.old) (S.faults source.new) → ⊥) → (Rose (K.faults sink.old) (K.faults sink.new) → ⊥)
+        → (bytes : List ℕ) (line : ℕ) (what : LineWhat) → S.left source.old ≡ Some bytes → Refuses command bytes line what → (result ≡ code_of Refused) ⊎ (result ≡ code_of NoMemory) }
+    ensures printed { (command : Command) → map string_bytes words.now ≡ words_of command → (Rose (S.faults source.old) (S.faults source.new) → ⊥) → (Rose (K.faults sink.old) (K.faults sink.new) → ⊥)
+        → (bytes : List ℕ) → S.left source.old ≡ Some bytes → Takes command bytes → (result ≡ code_of Printed) ⊎ (result ≡ code_of NoMemory) }
 {
     one_response();
+    scripts_are_determined();
     run(alloc, words, source, sink).code()
-}
-
-/// Whether the words are `ask` alone.
-fn is_ask(words: &[String]) -> bool
-    ensures { IsTrue result ↔ IsAsk (map string_bytes words.now) }
-{
-    match words {
-        [word] => word.as_str() == "ask",
-        _ => false,
-    }
 }
 
 fn run<S: Source, K: Sink>(alloc: Global, words: &[String], source: &mut S, sink: &mut K) -> Status
@@ -61,15 +60,16 @@ fn run<S: Source, K: Sink>(alloc: Global, words: &[String], source: &mut S, sink
         (record { left = S.left source.old; read_faults = S.faults source.old; put = K.put sink.old; write_faults = K.faults sink.old })
         (record { left = S.left source.new; read_faults = S.faults source.new; put = K.put sink.new; write_faults = K.faults sink.new }) }
 {
-    if !is_ask(words) {
-        return print(sink, b"usage\n", Status::Usage);
+    match command_of(words) {
+        Some(Command::Ask) => run_ask(alloc, source, sink),
+        Some(Command::Show(way)) => run_show(alloc, way, source, sink),
+        None => print(sink, b"usage\n", Status::Usage),
     }
-    run_ask(alloc, source, sink)
 }
 
 /// The command `ask`: one message is read, asked and reported.
 fn run_ask<S: Source, K: Sink>(alloc: Global, source: &mut S, sink: &mut K) -> Status
-    ensures { Ends (codes "ask" ∷ []) result
+    ensures { Ends (words_of Ask) result
         (record { left = S.left source.old; read_faults = S.faults source.old; put = K.put sink.old; write_faults = K.faults sink.old })
         (record { left = S.left source.new; read_faults = S.faults source.new; put = K.put sink.new; write_faults = K.faults sink.new }) }
 {
@@ -81,6 +81,25 @@ fn run_ask<S: Source, K: Sink>(alloc: Global, source: &mut S, sink: &mut K) -> S
     let (message, behind) = first_line(&line);
     match answer(alloc, message, behind) {
         Ok(response) => print_report(alloc, sink, message, &response),
+        Err(LineFault::At { line, what }) => print_refusal(alloc, sink, line, what),
+        Err(LineFault::Memory) => Status::NoMemory,
+    }
+}
+
+/// The commands `show up` and `show down`: a script is read, and what is shown of it is printed.
+fn run_show<S: Source, K: Sink>(alloc: Global, way: Dir, source: &mut S, sink: &mut K) -> Status
+    ensures { Ends (words_of (Show way)) result
+        (record { left = S.left source.old; read_faults = S.faults source.old; put = K.put sink.old; write_faults = K.faults sink.old })
+        (record { left = S.left source.new; read_faults = S.faults source.new; put = K.put sink.new; write_faults = K.faults sink.new }) }
+{
+    let script = match read_all(alloc, source) {
+        Ok(script) => script,
+        Err(ReadFault::Failed) => return Status::SourceFault,
+        Err(ReadFault::Memory) => return Status::NoMemory,
+    };
+    let mut text = Vec::new(alloc);
+    match put_shown(way, &script, &mut text) {
+        Ok(()) => print(sink, &text, Status::Printed),
         Err(LineFault::At { line, what }) => print_refusal(alloc, sink, line, what),
         Err(LineFault::Memory) => Status::NoMemory,
     }

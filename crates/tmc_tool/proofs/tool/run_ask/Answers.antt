@@ -2,7 +2,7 @@ use Rattle.std.proofs.Common.{sym, subst}
 use Rattle.tmc_tool.specs.Line.{IsFirstLine, IsAsked}
 use Rattle.tmc_tool.specs.Judged.{IsWrong, IsRefusal}
 use Rattle.tmc_tool.specs.Tool.{Outside}
-use Rattle.tmc_tool.proofs.Ending.{Reads, report_ends, refusal_ends}
+use Rattle.tmc_tool.proofs.AskEnding.{Reads, report_ends, refusal_ends}
 use Rattle.tmc_tool.proofs.tool.run_ask.Goals as goal
 
 pub returns-in-Ok-answer : goal.returns-in-Ok-answer

@@ -1,0 +1,92 @@
+-- which status comes of which words and which bytes
+use Rattle.std.proofs.Common.{◌≡◌, ◌⊎◌, inl, inr, ⊎_elim, ℕ, ◌≤◌, List, ◌++◌, length, refl, sym, ap, ◌∙◌, subst, arith, length-append, append-nil, Option, Some}
+use Rattle.tmc_base.specs.Faults.{Rose}
+use Rattle.tmc_base.specs.Source.{GivesFirst, HasEnded}
+use Rattle.usbip_wire.specs.declared.urb.Dir.{Dir}
+use Rattle.event_text.specs.declared.line_fault.LineWhat.{LineWhat}
+use Rattle.event_text.specs.Shown as script
+use Rattle.tmc_tool.specs.declared.status.Status.{Status}
+use Rattle.tmc_tool.specs.declared.status.Status.TheVariants.{Printed, Usage, Refused, SourceFault, SinkFault, NoMemory}
+use Rattle.tmc_tool.specs.declared.command.Command.{Command}
+use Rattle.tmc_tool.specs.declared.command.Command.TheVariants.{Ask, Show}
+use Rattle.tmc_tool.specs.Command.{words_of, IsCommand}
+use Rattle.tmc_tool.specs.Tool.{code_of, Outside, ReadsEnough, Makes, Takes, Refuses, Ends}
+use Rattle.tmc_tool.proofs.FirstLine.{OneAnswer, not_refused, line_size}
+use Rattle.tmc_tool.proofs.Words.{same_command}
+
+-- the plain instrument gives one answer to a message, and a script is not both shown and refused
+pub record Laws : Type 0 where
+  pub one : OneAnswer
+  pub either : (way : Dir) (source text : List ℕ) (number : ℕ) (what : LineWhat) → script.ShownOf way source text → script.IsRefused way source number what → ⊥
+
+-- bytes are not both taken and refused
+not_both : Laws → (command : Command) (bytes : List ℕ) (line : ℕ) (what : LineWhat) → Takes command bytes → Refuses command bytes line what → ⊥
+not_both laws Ask bytes line what takes refused = not_refused laws.one bytes takes.0 takes.1 line what takes.2 refused
+not_both laws (Show way) bytes line what takes refused = laws.either way bytes takes.0 line what takes.1 refused
+
+-- bytes of which a text is made are taken
+takes_made : (command : Command) (bytes text : List ℕ) → Makes command bytes text → Takes command bytes
+takes_made Ask bytes text made = (made.message, made.response, made.question)
+takes_made (Show way) bytes text made = (text, made)
+
+-- a source that tells what it had, and was read to its end, gave all of it
+all_read : (bytes first : List ℕ) (before after : Option (List ℕ)) → before ≡ Some bytes → GivesFirst first before after → HasEnded after → bytes ≡ first
+all_read bytes first before after told gives ended =
+    let parts : GivesFirst first (Some bytes) after = subst (λ o. GivesFirst first o after) told gives in
+    let gone : HasEnded (Some parts.0) = subst HasEnded parts.2 ended in
+    parts.1 ∙ (ap (λ xs. first ++ xs) gone ∙ append-nil first)
+
+not_shorter : (bytes first : List ℕ) (before after : Option (List ℕ)) → before ≡ Some bytes → GivesFirst first before after → length first ≤ length bytes
+not_shorter bytes first before after told gives =
+    let parts : GivesFirst first (Some bytes) after = subst (λ o. GivesFirst first o after) told gives in
+    omega (arith, ap length parts.1, length-append first parts.0)
+
+-- where enough was read to refuse bytes that are taken, it was all of them
+enough_read : (command : Command) (bytes first : List ℕ) (before after : Outside) → before.left ≡ Some bytes → ReadsEnough command first before after
+    → Takes command bytes → bytes ≡ first
+enough_read Ask bytes first before after told reads takes =
+    ⊎_elim
+    (λ ended. all_read bytes first before.left after.left told reads.first ended)
+    (λ long. absurd (omega (arith, long, not_shorter bytes first before.left after.left told reads.first, line_size bytes takes.0 takes.2.line, takes.2.asked.short)))
+    reads.enough
+enough_read (Show way) bytes first before after told reads takes = all_read bytes first before.left after.left told reads.first reads.ended
+
+pub ends_usage : (words : List (List ℕ)) (status : Status) (before after : Outside) → Ends words status before after
+    → (IsCommand words → ⊥) → (Rose before.write_faults after.write_faults → ⊥) → code_of status ≡ 1
+ends_usage words Printed before after e others calm = absurd (others (e.1.0, e.1.1))
+ends_usage words Usage before after e others calm = refl
+ends_usage words Refused before after e others calm = absurd (others (e.1.0, e.1.1))
+ends_usage words SourceFault before after e others calm = absurd (others e.0)
+ends_usage words SinkFault before after e others calm = absurd (calm e.0)
+ends_usage words NoMemory before after e others calm = absurd (others e.0)
+
+pub ends_refused : Laws → (words : List (List ℕ)) (command : Command) (status : Status) (before after : Outside) (bytes : List ℕ) (line : ℕ) (what : LineWhat)
+    → Ends words status before after → words ≡ words_of command → before.left ≡ Some bytes → Refuses command bytes line what
+    → (Rose before.read_faults after.read_faults → ⊥) → (Rose before.write_faults after.write_faults → ⊥) → (code_of status ≡ 2) ⊎ (code_of status ≡ 5)
+ends_refused laws words command Printed before after bytes line what e named told refused calm_source calm_sink =
+    let due = e.1 in
+    let same : due.0 ≡ command = same_command due.0 command (sym due.1 ∙ named) in
+    let whole : bytes ≡ due.2 = all_read bytes due.2 before.left after.left told due.3.first due.3.ended in
+    let made : Makes command due.2 e.0 = subst (λ c. Makes c due.2 e.0) same due.4 in
+    absurd (not_both laws command due.2 line what (takes_made command due.2 e.0 made) (subst (λ bs. Refuses command bs line what) whole refused))
+ends_refused laws words command Usage before after bytes line what e named told refused calm_source calm_sink = absurd (e.1.0 (command, named))
+ends_refused laws words command Refused before after bytes line what e named told refused calm_source calm_sink = inl refl
+ends_refused laws words command SourceFault before after bytes line what e named told refused calm_source calm_sink = absurd (calm_source e.1)
+ends_refused laws words command SinkFault before after bytes line what e named told refused calm_source calm_sink = absurd (calm_sink e.0)
+ends_refused laws words command NoMemory before after bytes line what e named told refused calm_source calm_sink = inr refl
+
+pub ends_printed : Laws → (words : List (List ℕ)) (command : Command) (status : Status) (before after : Outside) (bytes : List ℕ)
+    → Ends words status before after → words ≡ words_of command → before.left ≡ Some bytes → Takes command bytes
+    → (Rose before.read_faults after.read_faults → ⊥) → (Rose before.write_faults after.write_faults → ⊥) → (code_of status ≡ 0) ⊎ (code_of status ≡ 5)
+ends_printed laws words command Printed before after bytes e named told takes calm_source calm_sink = inl refl
+ends_printed laws words command Usage before after bytes e named told takes calm_source calm_sink = absurd (e.1.0 (command, named))
+ends_printed laws words command Refused before after bytes e named told takes calm_source calm_sink =
+    let due = e.1 in
+    let same : due.0 ≡ command = same_command due.0 command (sym due.1 ∙ named) in
+    let reads : ReadsEnough command due.2 before after = subst (λ c. ReadsEnough c due.2 before after) same due.5 in
+    let whole : bytes ≡ due.2 = enough_read command bytes due.2 before after told reads takes in
+    let refused : Refuses command due.2 due.3 due.4 = subst (λ c. Refuses c due.2 due.3 due.4) same due.6 in
+    absurd (not_both laws command bytes due.3 due.4 takes (subst (λ bs. Refuses command bs due.3 due.4) (sym whole) refused))
+ends_printed laws words command SourceFault before after bytes e named told takes calm_source calm_sink = absurd (calm_source e.1)
+ends_printed laws words command SinkFault before after bytes e named told takes calm_source calm_sink = absurd (calm_sink e.0)
+ends_printed laws words command NoMemory before after bytes e named told takes calm_source calm_sink = inr refl

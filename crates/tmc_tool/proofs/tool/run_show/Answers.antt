@@ -1,0 +1,38 @@
+use Rattle.std.proofs.Common.{◌≡◌, ◌++◌, rules, refl, sym, ap, ◌∙◌, subst}
+use Rattle.event_text.specs.Shown.{ShownOf, IsRefused, IsFaultOf}
+use Rattle.tmc_tool.specs.declared.command.Command.TheVariants.{Show}
+use Rattle.tmc_tool.specs.Tool.{Outside, ReadsAll}
+use Rattle.tmc_tool.proofs.Ending.{made_ends, refused_ends}
+use Rattle.tmc_tool.proofs.tool.run_show.Goals as goal
+
+pub returns-in-Err-Failed : goal.returns-in-Err-Failed
+returns-in-Err-Failed g c = ((Show c.args.way, refl), search rules, record { put = refl; counts = refl })
+
+pub returns-in-Err-Memory : goal.returns-in-Err-Memory
+returns-in-Err-Memory g c = ((Show c.args.way, refl), search rules, record { put = refl; counts = refl })
+
+pub returns : goal.returns
+returns g c = ((Show c.args.way, refl), c.in-Ok.ensures.ok_counts, record { put = refl; counts = refl })
+
+pub returns-in-Ok-put_shown : goal.returns-in-Ok-put_shown
+returns-in-Ok-put_shown g c =
+    let before : Outside = record { left = g.S.Source.left c.args.source.now; read_faults = g.S.Source.faults c.args.source.now; put = g.K.Sink.put c.args.sink.now; write_faults = g.K.Sink.faults c.args.sink.now } in
+    let after : Outside = record { left = g.S.Source.left c.read_all.new.source; read_faults = g.S.Source.faults c.read_all.new.source; put = g.K.Sink.put c.print.new.sink; write_faults = g.K.Sink.faults c.print.new.sink } in
+    let reads : ReadsAll c.in-Ok.script.items before after = record { first = c.in-Ok.ensures.first; ended = c.in-Ok.ensures.ended; counts = c.in-Ok.ensures.ok_counts } in
+    let shown = c.in-Ok-put_shown.ensures.shown in
+    let printed : c.deref-in-Ok-put_shown.result.now ≡ shown.0 =
+    c.deref-in-Ok-put_shown.ensures.value ∙ (shown.2 ∙ ap (λ xs. xs ++ shown.0) c.new-text.ensures.items) in
+    let of_script : ShownOf c.args.way c.in-Ok.script.items shown.0 = subst (λ source. ShownOf c.args.way source shown.0) c.deref.ensures.value shown.1 in
+    let made : ShownOf c.args.way c.in-Ok.script.items c.deref-in-Ok-put_shown.result.now = subst (λ text. ShownOf c.args.way c.in-Ok.script.items text) (sym printed) of_script in
+    made_ends (Show c.args.way) before after _ _ _ reads made c.print.ensures
+
+pub returns-in-Err-At : goal.returns-in-Err-At
+returns-in-Err-At g c =
+    let before : Outside = record { left = g.S.Source.left c.args.source.now; read_faults = g.S.Source.faults c.args.source.now; put = g.K.Sink.put c.args.sink.now; write_faults = g.K.Sink.faults c.args.sink.now } in
+    let after : Outside = record { left = g.S.Source.left c.read_all.new.source; read_faults = g.S.Source.faults c.read_all.new.source; put = g.K.Sink.put c.print_refusal.new.sink; write_faults = g.K.Sink.faults c.print_refusal.new.sink } in
+    let reads : ReadsAll c.in-Ok.script.items before after = record { first = c.in-Ok.ensures.first; ended = c.in-Ok.ensures.ended; counts = c.in-Ok.ensures.ok_counts } in
+    let fault : IsRefused c.args.way c.deref.result.now c.in-Err-At.line c.in-Err-At.what =
+    subst (λ fault. IsFaultOf c.args.way c.deref.result.now fault) c.in-Err-At.field-0-is c.in-Err-At.ensures.refused in
+    let refused : IsRefused c.args.way c.in-Ok.script.items c.in-Err-At.line c.in-Err-At.what =
+    subst (λ source. IsRefused c.args.way source c.in-Err-At.line c.in-Err-At.what) c.deref.ensures.value fault in
+    refused_ends (Show c.args.way) before after _ c.in-Err-At.line c.in-Err-At.what _ reads reads.counts refused (rw (c.in-Err-At.line-is, c.in-Err-At.what-is) at c.print_refusal.ensures)
