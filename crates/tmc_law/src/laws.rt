@@ -15,6 +15,8 @@ ghost use Rattle.tmc_law.specs.Run.{Entry, Runs, inputs, outputs};
 ghost use Rattle.tmc_law.specs.Told.{Tells};
 ghost use Rattle.tmc_law.specs.Laws.{NoneArrives, NoneAnswers, NoneAgain, AreInOrder, answers_to, NoneRenews, bytes_taken, IsAccepted, AreNumbered};
 
+use instr_plain::keeps_responses;
+
 /// A run's fronts are runs, and two runs of which the second starts where the first ended join end to end. The
 /// same holds of told runs.
 pub fn runs_join()
@@ -30,7 +32,9 @@ pub fn the_log_grows()
     ensures stands { (run : List Entry) (s : State) → Runs start run s → Stands s.log s.standing }
     ensures responses { (run : List Entry) (s t : State) (i : ℕ) (response : List ℕ) → Runs s run t → i < length s.log
         → (Response t.log i response ↔ Response s.log i response) }
-{}
+{
+    keeps_responses();
+}
 
 /// What is taken behind an execution, until the next one or a clear, is at most its response.
 pub fn no_more_is_taken_than_there_is()
