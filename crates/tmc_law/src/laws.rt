@@ -15,7 +15,7 @@ ghost use Rattle.tmc_law.specs.Run.{Entry, Runs, inputs, outputs};
 ghost use Rattle.tmc_law.specs.Told.{Tells};
 ghost use Rattle.tmc_law.specs.Laws.{NoneArrives, NoneAnswers, NoneAgain, AreInOrder, answers_to, NoneRenews, bytes_taken, IsAccepted, AreNumbered};
 
-use instr_plain::keeps_responses;
+use instr_plain::{keeps_responses, one_response};
 
 /// A run's fronts are runs, and two runs of which the second starts where the first ended join end to end. The
 /// same holds of told runs.
@@ -41,7 +41,9 @@ pub fn no_more_is_taken_than_there_is()
     ensures { (run : List Entry) (t : State) (before between behind : List LogEntry) (seq : ℕ) (message response : List ℕ)
         → Runs start run t → t.log ≡ before ++ Exec seq message ∷ (between ++ behind) → NoneRenews between
         → Response t.log (length before) response → bytes_taken between ≤ length response }
-{}
+{
+    one_response();
+}
 
 /// A submit that an unlink hit is never answered, unless a submit with its number arrives again.
 pub fn a_hit_is_final()
