@@ -18,7 +18,7 @@ pub use input::Input;
 pub use instr_plain::{LogEntry, RemoteAct};
 pub use laws::{
     a_hit_is_final, answers_are_accepted, answers_keep_order, no_more_is_taken_than_there_is,
-    runs_join, the_log_grows,
+    runs_join, the_log_grows, told_runs_are_lawful,
 };
 pub use log::Log;
 pub use output::Output;
