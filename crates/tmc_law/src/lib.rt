@@ -12,6 +12,8 @@ mod input;
 mod laws;
 mod log;
 mod output;
+#[cfg(test)]
+mod tests;
 
 pub use dev_event::DevEvent;
 pub use input::Input;

@@ -1,7 +1,7 @@
-use Rattle.std.proofs.Common.{◌≡◌, ℕ, ◌≤◌, List, ◌∷◌, ◌++◌, length, ap, ◌∙◌, sym, subst, arith}
+use Rattle.std.proofs.Common.{List, ◌∷◌, ◌++◌, length, ap, ◌∙◌, sym, subst, arith}
 use Rattle.instr_plain.specs.declared.log.LogEntry.{LogEntry}
 use Rattle.instr_plain.specs.declared.log.LogEntry.TheVariants.{Exec}
-use Rattle.instr_plain.specs.Standing.{Standing, at_power_on}
+use Rattle.instr_plain.specs.Standing.{at_power_on}
 use Rattle.instr_plain.specs.Log.{Response}
 use Rattle.tmc_law.specs.State.{start}
 use Rattle.tmc_law.proofs.Grown.{Within, follows}

@@ -1,5 +1,5 @@
-use Rattle.std.proofs.Common.{List, ◌++◌, ap, sym, subst}
-use Rattle.std.specs.Prelude.{◌↔◌, ℕ}
+use Rattle.std.proofs.Common.{List, sym, subst}
+use Rattle.std.specs.Prelude.{◌↔◌}
 use Rattle.instr_plain.specs.declared.log.LogEntry.{LogEntry}
 use Rattle.instr_plain.specs.Standing.{at_power_on}
 use Rattle.instr_plain.specs.Log.{Response, Stands}
