@@ -1,5 +1,5 @@
 -- entries in a row from one standing to another, of which none takes more than is unread
-use Rattle.std.proofs.Common.{◌≡◌, ℕ, ◌≤◌, List, [], ◌∷◌, ◌++◌, length, refl, sym, ◌∙◌, ap, subst, append_assoc, append-nil}
+use Rattle.std.proofs.Common.{◌≡◌, ◌≤◌, List, [], ◌∷◌, ◌++◌, length, refl, sym, ◌∙◌, ap, subst, append_assoc, append-nil}
 use Rattle.instr_plain.specs.declared.log.LogEntry.{LogEntry}
 use Rattle.instr_plain.specs.declared.log.LogEntry.TheVariants.{Took}
 use Rattle.instr_plain.specs.Standing.{Standing}

@@ -1,5 +1,5 @@
 -- runs join end to end, and come apart
-use Rattle.std.proofs.Common.{◌≡◌, List, [], ◌∷◌, ◌++◌, refl, sym, subst}
+use Rattle.std.proofs.Common.{List, [], ◌∷◌, ◌++◌, refl, subst}
 use Rattle.tmc_base.specs.declared.run_step.RunStep.{RunStep}
 use Rattle.tmc_law.specs.State.{State}
 use Rattle.tmc_law.specs.Run.{Entry, Runs}

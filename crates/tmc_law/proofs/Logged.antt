@@ -1,5 +1,5 @@
 -- what each move logs
-use Rattle.std.proofs.Common.{◌≡◌, ℕ, ◌≤◌, min, true, false, List, [], ◌∷◌, ◌++◌, length, refl, sym, ap, arith}
+use Rattle.std.proofs.Common.{◌≡◌, ℕ, true, false, List, [], ◌∷◌, ap, arith}
 use Rattle.tmc_wire.specs.declared.class_request.ClassRequest.{ClassRequest}
 use Rattle.tmc_wire.specs.declared.class_request.ClassRequest.TheVariants as request
 use Rattle.usbip_wire.specs.declared.submit.SubmitHead.{SubmitHead}
@@ -9,10 +9,9 @@ use Rattle.instr_plain.specs.declared.remote.RemoteAct.{RemoteAct}
 use Rattle.instr_plain.specs.declared.remote.RemoteAct.TheVariants as act
 use Rattle.instr_plain.specs.declared.log.LogEntry.TheVariants as entry
 use Rattle.tmc_law.specs.Endpoint.{Endpoint, Control, BulkOut, BulkIn, InterruptIn}
-use Rattle.tmc_law.specs.State.{State, Pending, Running, Nothing, AbortsOut, AbortsIn, Clears, Transfer, Idle, Owed, with_queue}
+use Rattle.tmc_law.specs.State.{State, Pending, Running, Nothing, AbortsOut, AbortsIn, Clears, Transfer, Owed, with_queue}
 use Rattle.tmc_law.specs.Put.{Put}
-use Rattle.tmc_law.specs.Logging.{Logs}
-use Rattle.tmc_law.specs.Halts.{halts, HaltsItself, DoesHalt, Unplugs}
+use Rattle.tmc_law.specs.Halts.{halts, HaltsItself, DoesHalt}
 use Rattle.tmc_law.specs.Queues.{Arrives, Queued, TurnedAway, Unlinks, Hits, Polled, Misses}
 use Rattle.tmc_law.specs.BulkOut.{Takes, TakesEffect, Interrupts, Executes, DoesExecute}
 use Rattle.tmc_law.specs.BulkOut as out
@@ -25,7 +24,7 @@ use Rattle.tmc_law.specs.Aborts as abort
 use Rattle.tmc_law.specs.Status.{Polls, DoesPoll, ReadsStatus, Notifies}
 use Rattle.tmc_law.specs.Status as status
 use Rattle.tmc_law.specs.Class.{Operates, DoesOperate, Serves, Answers, ByClass, ByStandard, Unknown, Postpones, DoesPostpone, PollsFirst, DoesPollFirst}
-use Rattle.tmc_law.specs.Step.{Move, Comes, Refuses, Take, Exec, Begin, Fill, Answer, Pend, Poll, Notify, Halt, Unplug, Leads, Steps}
+use Rattle.tmc_law.specs.Step.{Move, Comes, Refuses, Take, Exec, Begin, Fill, Answer, Pend, Poll, Notify, Halt, Unplug, Leads}
 use Rattle.tmc_law.specs.Run.{Entry, Runs}
 use Rattle.tmc_law.proofs.Grown.{Grown, still, logged, like, twice}
 
