@@ -1,0 +1,3 @@
+pub mod AnswerBytes
+pub mod Outstanding
+pub mod Owing
