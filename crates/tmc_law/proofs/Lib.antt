@@ -1,3 +1,5 @@
 pub mod AnswerBytes
 pub mod Outstanding
 pub mod Owing
+pub mod Answering
+pub mod AnswerPlaces
