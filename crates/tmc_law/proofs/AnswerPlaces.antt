@@ -34,7 +34,7 @@ placed BulkIn queue s = append_assoc s.control s.bulk_out (queue ++ s.interrupt_
 placed InterruptIn queue s =
     rw (append-nil queue) (append_assoc (s.control ++ s.bulk_out) s.bulk_in queue ∙ append_assoc s.control s.bulk_out (s.bulk_in ++ queue))
 
-placed_now : (endpoint : Endpoint) (s : State) → pending s ≡ in_front endpoint s ++ (queue_of endpoint s ++ in_back endpoint s)
+pub placed_now : (endpoint : Endpoint) (s : State) → pending s ≡ in_front endpoint s ++ (queue_of endpoint s ++ in_back endpoint s)
 placed_now Control s = sym (placed Control s.control s)
 placed_now BulkOut s = sym (placed BulkOut s.bulk_out s)
 placed_now BulkIn s = sym (placed BulkIn s.bulk_in s)

@@ -3,3 +3,4 @@ pub mod Outstanding
 pub mod Owing
 pub mod Answering
 pub mod AnswerPlaces
+pub mod AnswerArrivals

@@ -29,7 +29,7 @@ pub avoids_without : (n : ℕ) (front : List Pending) (submit : Pending) (back :
 avoids_without n [] submit back avoids = avoids.1
 avoids_without n (first ∷ front) submit back avoids = (avoids.0, avoids_without n front submit back avoids.1)
 
-avoids_at : (n : ℕ) (front : List Pending) (submit : Pending) (back : List Pending) → Avoids n (front ++ submit ∷ back)
+pub avoids_at : (n : ℕ) (front : List Pending) (submit : Pending) (back : List Pending) → Avoids n (front ++ submit ∷ back)
     → submit.head.seqnum ≢ n
 avoids_at n [] submit back avoids = avoids.0
 avoids_at n (first ∷ front) submit back avoids = avoids_at n front submit back avoids.1
