@@ -4,3 +4,4 @@ pub mod Owing
 pub mod Answering
 pub mod AnswerPlaces
 pub mod AnswerArrivals
+pub mod AnswerBulk
