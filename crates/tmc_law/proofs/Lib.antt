@@ -5,3 +5,4 @@ pub mod Answering
 pub mod AnswerPlaces
 pub mod AnswerArrivals
 pub mod AnswerBulk
+pub mod AnswerControl
