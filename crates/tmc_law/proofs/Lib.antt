@@ -6,3 +6,4 @@ pub mod AnswerPlaces
 pub mod AnswerArrivals
 pub mod AnswerBulk
 pub mod AnswerControl
+pub mod Accepting
