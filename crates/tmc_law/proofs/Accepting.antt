@@ -1,6 +1,5 @@
 -- the answers of steps and runs are accepted
-use Rattle.std.proofs.Common.{◌≡◌, ℕ, ◌<◌, ◌≤◌, ◌^◌, List, [], ◌∷◌, ◌++◌, length, refl, sym, subst, ap, arith}
-use Rattle.usbip_wire.specs.declared.submit.SubmitHead.{SubmitHead}
+use Rattle.std.proofs.Common.{◌≡◌, ℕ, ◌≤◌, List, [], ◌∷◌, ◌++◌, length, refl, ap, arith}
 use Rattle.usbip_wire.specs.declared.urb.Dir.{Dir}
 use Rattle.usbip_wire.specs.declared.urb.Dir.TheVariants.{Out, In}
 use Rattle.usbip_wire.specs.declared.dirs.Outstanding.{Outstanding}
@@ -8,13 +7,13 @@ use Rattle.usbip_wire.specs.Submit.{Carries}
 use Rattle.usbip_wire.specs.Up as up
 use Rattle.tmc_law.specs.State.{State, start, pending}
 use Rattle.tmc_law.specs.Put.{Put}
-use Rattle.tmc_law.specs.Step.{Move, Comes, Refuses, Take, Exec, Begin, Fill, Answer, Pend, Poll, Notify, Halt, Unplug, Leads, Steps}
+use Rattle.tmc_law.specs.Step.{Move, Comes, Refuses, Take, Exec, Begin, Fill, Answer, Pend, Poll, Notify, Halt, Unplug, Leads}
 use Rattle.tmc_law.specs.Run.{Entry, Runs, taken, inputs}
 use Rattle.tmc_law.specs.Laws.{with_messages, without_answered, AreNumbered, IsAccepted}
 use Rattle.tmc_law.proofs.Outstanding.{AreFresh, next_new, IsLater, later_taken, fresh_answered}
 use Rattle.tmc_law.proofs.AnswerPlaces.{TiesAt, LastsAt, lasts_at, none_lasts, ties_at}
 use Rattle.tmc_law.proofs.AnswerArrivals.{arrives_last, unlinks_last}
-use Rattle.tmc_law.proofs.AnswerBulk.{Same, same_ties, takes_last, executes_same, begins_same, fills_last, notifies_last, halts_itself_last, unplugs_last}
+use Rattle.tmc_law.proofs.AnswerBulk.{same_ties, takes_last, executes_same, begins_same, fills_last, notifies_last, halts_itself_last, unplugs_last}
 use Rattle.tmc_law.proofs.AnswerControl.{answers_last, postpones_last, polls_first_ties}
 
 carried_fits : (dir : Dir) (size : ℕ) (transferred : List ℕ) → Carries dir size transferred → length transferred ≤ size
@@ -60,7 +59,7 @@ runs_accepted (entry ∷ run) entries s t ties later (mid, steps, runs) =
     let all : List Outstanding = with_messages entries (taken entry.move) in (
       last.accepted,
       runs_accepted run (without_answered all entry.puts) mid t last.ties
-        (record { fresh = fresh_answered entry.puts all (inputs run) then.fresh; numbered = then.numbered }) runs,
+          (record { fresh = fresh_answered entry.puts all (inputs run) then.fresh; numbered = then.numbered }) runs,
     )
 
 pub accepted : (run : List Entry) (t : State) → Runs start run t → AreNumbered (inputs run) → IsAccepted [] run

@@ -1,22 +1,21 @@
 -- the bulk endpoints, Interrupt-IN, halts and unplugging
-use Rattle.std.proofs.Common.{◌≡◌, ℕ, ◌+◌, ◌-◌, ◌*◌, ◌<◌, ◌≤◌, inl, inr, List, [], ◌∷◌, ◌++◌, length, take, drop, refl, sym, ap, subst, ◌∙◌, arith, length-append, length-take, length-drop}
-use Rattle.std.specs.Prelude.{◌⊎◌, ℤ, Bool}
+use Rattle.std.proofs.Common.{◌≡◌, ℕ, ◌+◌, ◌-◌, ◌*◌, ◌≤◌, inl, inr, List, [], ◌∷◌, ◌++◌, length, take, drop, refl, sym, ap, subst, ◌∙◌, arith, length-append, length-take, length-drop}
 use Rattle.std.proofs.lemmas.List.{append-nil}
 use Rattle.usbip_wire.specs.declared.submit.SubmitHead.{SubmitHead}
 use Rattle.usbip_wire.specs.declared.dirs.Outstanding.{Outstanding}
 use Rattle.instr_plain.specs.declared.log.LogEntry.{LogEntry}
-use Rattle.tmc_law.specs.Endpoint.{Endpoint, Control, BulkOut, BulkIn, InterruptIn, packet_size}
+use Rattle.tmc_law.specs.Endpoint.{Endpoint, BulkOut, BulkIn, InterruptIn, packet_size}
 use Rattle.tmc_law.specs.State.{State, Pending, Transfer, Piece, Packet, StatusPacket, ServicePacket, queue_of, with_queue, pending, room}
 use Rattle.tmc_law.specs.Put.{Put, answer_of, ended, success, unplugged}
 use Rattle.tmc_law.specs.Logging.{Logs}
-use Rattle.tmc_law.specs.Halts.{halts, halt_answers, all_ended, HaltsItself, DoesHalt, Unplugs, unplug_answers}
+use Rattle.tmc_law.specs.Halts.{all_ended, HaltsItself, DoesHalt, Unplugs, unplug_answers}
 use Rattle.tmc_law.specs.BulkOut.{Moves, DoesMove, Interrupts, Dropped, NothingUnread, LaterPart, TakesEffect, Part, Last, Requests, RequestsNothing, Triggers, Takes, Empty, Spoiled, Inside, SubmitEnds, TransferEnds, Executes, DoesExecute}
 use Rattle.tmc_law.specs.BulkIn as bulk_in
 use Rattle.tmc_law.specs.Status.{packet_bytes, notified, Notifies, Gives, NoRoom}
-use Rattle.tmc_law.proofs.AnswerBytes.{IsStatus, success_is, unplugged_is}
+use Rattle.tmc_law.proofs.AnswerBytes.{success_is, unplugged_is}
 use Rattle.tmc_law.proofs.Owing.{AreOwed}
 use Rattle.tmc_law.proofs.Answering.{Settles, settles_append, queue_settles}
-use Rattle.tmc_law.proofs.AnswerPlaces.{AreWhole, Ties, TiesAt, Lasts, LastsAt, lasts, lasts_at, none_lasts, is_owed_first, first_lasts, owed_changed, halts_last}
+use Rattle.tmc_law.proofs.AnswerPlaces.{AreWhole, TiesAt, LastsAt, lasts, lasts_at, none_lasts, is_owed_first, first_lasts, owed_changed, halts_last}
 
 -- ---- states with the same pending submits
 
@@ -53,14 +52,14 @@ pub owed_later : (entries : List Outstanding) (endpoint : Endpoint) (s : State) 
     → queue_of endpoint s ≡ submit ∷ behind → Follows submit later → TiesAt entries s → AreOwed entries (pending (with_queue endpoint (later ∷ behind) s))
 owed_later entries endpoint s submit later behind is follows ties =
     subst (λ (p : Pending). AreOwed entries (pending (with_queue endpoint (p ∷ behind) s))) (later_is submit later follows.head)
-      (owed_changed entries endpoint s submit behind later.moved later.left later.polled is follows.fits ties.owed)
+    (owed_changed entries endpoint s submit behind later.moved later.left later.polled is follows.fits ties.owed)
 
 pub later_lasts : (entries : List Outstanding) (endpoint : Endpoint) (s : State) (submit later : Pending) (behind : List Pending)
     → queue_of endpoint s ≡ submit ∷ behind → Follows submit later → TiesAt entries s
     → LastsAt entries (ended success later ∷ []) (with_queue endpoint behind s)
 later_lasts entries endpoint s submit later behind is follows ties =
     subst (λ (h : SubmitHead). LastsAt entries (answer_of h success later.moved ∷ []) (with_queue endpoint behind s)) (sym follows.head)
-      (first_lasts entries endpoint s submit behind success later.moved is success_is follows.fits ties)
+    (first_lasts entries endpoint s submit behind success later.moved is success_is follows.fits ties)
 
 -- it is answered as it is
 pub ended_lasts : (entries : List Outstanding) (endpoint : Endpoint) (s : State) (submit : Pending) (behind : List Pending)
@@ -102,9 +101,9 @@ moves_on : (count : ℕ) (submit : Pending) (transfer : Transfer) (later : Pendi
 moves_on count submit transfer later grown fits (DoesMove l g) =
     let k : ℕ = count * packet_size in
     let whole : length (submit.moved ++ take k submit.left) + length (drop k submit.left) ≤ submit.head.length =
-      moved_fits submit.moved submit.left k submit.head.length fits in
+    moved_fits submit.moved submit.left k submit.head.length fits in
     subst (λ (p : Pending). MovesOn submit p) (sym l)
-      (record { follows = record { head = refl; fits = omega (arith, whole) }; whole = whole })
+    (record { follows = record { head = refl; fits = omega (arith, whole) }; whole = whole })
 
 whole_now : (s : State) (submit : Pending) (behind : List Pending) → s.bulk_out ≡ submit ∷ behind → AreWhole s.bulk_out → AreWhole (submit ∷ behind)
 whole_now s submit behind is whole = subst (λ (l : List Pending). AreWhole l) is whole
@@ -119,14 +118,14 @@ takes_last entries s count puts t ties (Inside submit later behind transfer grow
     let whole = whole_now s submit behind is ties.whole in
     let on = moves_on count submit transfer later grown whole.0 moves in
     lasts_at entries puts [] t _ a i
-      (none_lasts entries _ _ (record { owed = owed_later entries BulkOut s submit later behind is on.follows ties; whole = (on.whole, whole.1) }))
+    (none_lasts entries _ _ (record { owed = owed_later entries BulkOut s submit later behind is on.follows ties; whole = (on.whole, whole.1) }))
 takes_last entries s count puts t ties (SubmitEnds submit later behind transfer grown is some all fine belongs moves wanting a i) =
     let on = moves_on count submit transfer later grown (whole_now s submit behind is ties.whole).0 moves in
     lasts_at entries puts _ t _ a i (later_lasts entries BulkOut s submit later behind is on.follows ties)
 takes_last entries s count puts t ties (TransferEnds submit later behind transfer grown is some all fine belongs moves done effect a) =
     let on = moves_on count submit transfer later grown (whole_now s submit behind is ties.whole).0 moves in
     lasts_at entries puts _ t t a refl
-      (same_lasts entries (ended success later ∷ []) _ t (effect_same _ grown _ t effect) (later_lasts entries BulkOut s submit later behind is on.follows ties))
+    (same_lasts entries (ended success later ∷ []) _ t (effect_same _ grown _ t effect) (later_lasts entries BulkOut s submit later behind is on.follows ties))
 
 pub executes_same : (s t : State) → Executes s t → Same s t
 executes_same s t (DoesExecute seq message waiting logs) =
@@ -161,7 +160,7 @@ fills_last entries s count puts t ties (bulk_in.Ends submit behind given is runn
 fills_last entries s count puts t ties (bulk_in.Inside submit behind piece is side none from within fits a i) =
     let follows = filled_follows entries s submit behind (count * packet_size) piece is (omega (arith, fits)) ties in
     lasts_at entries puts [] t _ a i
-      (none_lasts entries _ _ (record { owed = owed_later entries BulkIn s submit _ behind is follows ties; whole = ties.whole }))
+    (none_lasts entries _ _ (record { owed = owed_later entries BulkIn s submit _ behind is follows ties; whole = ties.whole }))
 fills_last entries s count puts t ties (bulk_in.Full submit behind piece is side none from within fits a i) =
     let follows = filled_follows entries s submit behind (count * packet_size) piece is (omega (arith, fits)) ties in
     lasts_at entries puts _ t _ a i (later_lasts entries BulkIn s submit _ behind is follows ties)
@@ -172,7 +171,7 @@ fills_last entries s count puts t ties (bulk_in.Overflows submit behind piece fu
     let follows = filled_follows entries s submit behind (full * packet_size) piece is (leaves_room full submit leaves) ties in
     let mid : State = record s { bulk_in = bulk_in.filled (full * packet_size) piece submit ∷ behind } in
     lasts_at entries puts _ t _ a i
-      (halts_last entries BulkIn mid (record { owed = owed_later entries BulkIn s submit _ behind is follows ties; whole = ties.whole }))
+    (halts_last entries BulkIn mid (record { owed = owed_later entries BulkIn s submit _ behind is follows ties; whole = ties.whole }))
 
 -- ---- Interrupt-IN
 
@@ -198,14 +197,14 @@ unplugged_settles : (entries : List Outstanding) (control out into notify : List
     → Settles entries (all_ended unplugged control ++ (all_ended unplugged out ++ (all_ended unplugged into ++ all_ended unplugged notify))) []
 unplugged_settles entries control out into notify owed =
     settles_append entries (all_ended unplugged control) _ (out ++ (into ++ notify)) []
-      (queue_settles entries [] control (out ++ (into ++ notify)) unplugged unplugged_is owed)
-      (λ e1 owed1. settles_append e1 (all_ended unplugged out) _ (into ++ notify) []
-        (queue_settles e1 [] out (into ++ notify) unplugged unplugged_is owed1)
-        (λ e2 owed2. settles_append e2 (all_ended unplugged into) _ notify []
-          (queue_settles e2 [] into notify unplugged unplugged_is owed2)
-          (λ e3 owed3. queue_settles e3 [] notify [] unplugged unplugged_is (subst (λ (l : List Pending). AreOwed e3 l) (sym (append-nil notify)) owed3))))
+    (queue_settles entries [] control (out ++ (into ++ notify)) unplugged unplugged_is owed)
+    (λ e1 owed1. settles_append e1 (all_ended unplugged out) _ (into ++ notify) []
+    (queue_settles e1 [] out (into ++ notify) unplugged unplugged_is owed1)
+    (λ e2 owed2. settles_append e2 (all_ended unplugged into) _ notify []
+    (queue_settles e2 [] into notify unplugged unplugged_is owed2)
+    (λ e3 owed3. queue_settles e3 [] notify [] unplugged unplugged_is (subst (λ (l : List Pending). AreOwed e3 l) (sym (append-nil notify)) owed3))))
 
 pub unplugs_last : (entries : List Outstanding) (s : State) (puts : List Put) (t : State) → TiesAt entries s → Unplugs s puts t → LastsAt entries puts t
 unplugs_last entries s puts t ties unplugs =
     lasts_at entries puts _ t _ unplugs.answered unplugs.is
-      (lasts entries (unplug_answers s) [] [] (unplugged_settles entries s.control s.bulk_out s.bulk_in s.interrupt_in ties.owed) tt)
+    (lasts entries (unplug_answers s) [] [] (unplugged_settles entries s.control s.bulk_out s.bulk_in s.interrupt_in ties.owed) tt)

@@ -1,5 +1,5 @@
 -- the spelling of one answer
-use Rattle.std.proofs.Common.{◌≡◌, ℕ, zero, suc, ◌<◌, ◌≤◌, ◌^◌, List, [], ◌∷◌, length, take, refl, inl, lit<, arith, length-take}
+use Rattle.std.proofs.Common.{ℕ, zero, suc, ◌<◌, ◌≤◌, ◌^◌, List, [], ◌∷◌, length, refl, inl, lit<, arith, length-take}
 use Rattle.std.specs.Prelude.{ℤ, min}
 use Rattle.std.specs.Int.{w32, cast_unsigned}
 use Rattle.usbip_wire.specs.declared.submit.SubmitHead.{SubmitHead}

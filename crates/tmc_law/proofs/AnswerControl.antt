@@ -1,13 +1,13 @@
 -- the control endpoint: requests that are served
-use Rattle.std.proofs.Common.{◌≡◌, ℕ, ◌≤◌, Bool, true, false, List, [], ◌∷◌, ◌++◌, length, refl, sym, subst, arith}
+use Rattle.std.proofs.Common.{◌≡◌, ℕ, Bool, true, false, List, [], ◌∷◌, ◌++◌, refl, sym, subst, arith}
 use Rattle.usb_setup.specs.declared.setup.Setup.{Setup}
 use Rattle.tmc_wire.specs.declared.class_request.ClassRequest.{ClassRequest}
 use Rattle.tmc_wire.specs.declared.class_request.ClassRequest.TheVariants.{AbortOut, CheckOut, AbortIn, CheckIn, Clear, CheckClear, Capabilities, Pulse, ReadStatus, Ren, GoLocal, Lockout}
 use Rattle.instr_plain.specs.declared.remote.RemoteAct.{RemoteAct}
 use Rattle.usbip_wire.specs.declared.dirs.Outstanding.{Outstanding}
 use Rattle.tmc_law.specs.Endpoint.{Endpoint, Control, BulkOut, BulkIn, InterruptIn}
-use Rattle.tmc_law.specs.State.{State, Pending, Running, Nothing, AbortsOut, AbortsIn, Clears, queue_of, with_queue, with_halt, pending}
-use Rattle.tmc_law.specs.Put.{Put, answer_of, success, stalled}
+use Rattle.tmc_law.specs.State.{State, Pending, Running, Nothing, AbortsOut, AbortsIn, Clears, with_queue, with_halt, pending}
+use Rattle.tmc_law.specs.Put.{Put, success, stalled}
 use Rattle.tmc_law.specs.Control.{sent_back, control_answer}
 use Rattle.tmc_law.specs.Standard.{Standard, GetDeviceStatus, GetInterfaceStatus, GetEndpointStatus, ClearHalt, GetDeviceDescriptor, GetConfigurationDescriptor, GetString, GetConfiguration, SetConfiguration, GetInterface, SetInterface, standard_layout, standard_effect}
 use Rattle.tmc_law.specs.Halts.{halts, halt_answers}
@@ -16,8 +16,8 @@ use Rattle.tmc_law.specs.Aborts.{Served, checked_out, checked_in, checked_clear,
 use Rattle.tmc_law.specs.Status.{Polls, DoesPoll, ReadsStatus, BadTag, PolledBefore, Busy, PolledNow}
 use Rattle.tmc_law.specs.Class.{Operates, DoesOperate, Serves, Answers, ByClass, ByStandard, Unknown, Postpones, DoesPostpone, PollsFirst, DoesPollFirst}
 use Rattle.tmc_law.proofs.AnswerBytes.{success_is, stalled_is, sent_back_fits}
-use Rattle.tmc_law.proofs.Answering.{Settles, part_settles}
-use Rattle.tmc_law.proofs.AnswerPlaces.{in_front, in_back, owed_in, settles_out, Ties, TiesAt, Lasts, LastsAt, lasts, lasts_at, lasts_append, none_lasts, is_owed_first, first_lasts, owed_changed, halts_last, ties_at}
+use Rattle.tmc_law.proofs.Answering.{part_settles}
+use Rattle.tmc_law.proofs.AnswerPlaces.{in_front, in_back, owed_in, settles_out, TiesAt, LastsAt, lasts, lasts_at, lasts_append, none_lasts, is_owed_first, first_lasts, owed_changed, halts_last}
 use Rattle.tmc_law.proofs.AnswerBulk.{Same, same_ties, same_lasts, logs_same}
 
 -- what a request serves
@@ -69,16 +69,16 @@ checked_clear_lasts entries Clears s ties = stays entries s ties
 part_lasts : (entries : List Outstanding) (s : State) → TiesAt entries s → LastsAt entries (part_answer s.bulk_in) (with_queue BulkIn (without_part s.bulk_in) s)
 part_lasts entries s ties =
     lasts entries (part_answer s.bulk_in) (pending (with_queue BulkIn (without_part s.bulk_in) s)) s.bulk_out
-      (settles_out entries (part_answer s.bulk_in) BulkIn (without_part s.bulk_in) s
-        (part_settles entries (in_front BulkIn s) s.bulk_in (in_back BulkIn s) (owed_in entries BulkIn s ties.owed)))
-      ties.whole
+    (settles_out entries (part_answer s.bulk_in) BulkIn (without_part s.bulk_in) s
+    (part_settles entries (in_front BulkIn s) s.bulk_in (in_back BulkIn s) (owed_in entries BulkIn s ties.owed)))
+    ties.whole
 
 clears_last : (entries : List Outstanding) (s : State) (served : Served) → TiesAt entries s → abort.ClearsAll s served → ServedLasts entries served
 clears_last entries s served ties (abort.DoesClear t logs is) =
     let mid : State = with_queue BulkIn (without_part s.bulk_in) s in
     let cleared : LastsAt entries (part_answer s.bulk_in ++ halt_answers BulkOut s) (halts BulkOut mid) =
-      lasts_append entries (part_answer s.bulk_in) (halt_answers BulkOut s) (pending mid) mid.bulk_out (pending (halts BulkOut mid)) (halts BulkOut mid).bulk_out
-        (part_lasts entries s ties) (λ later now. halts_last later BulkOut mid now) in
+    lasts_append entries (part_answer s.bulk_in) (halt_answers BulkOut s) (pending mid) mid.bulk_out (pending (halts BulkOut mid)) (halts BulkOut mid).bulk_out
+    (part_lasts entries s ties) (λ later now. halts_last later BulkOut mid now) in
     served_by entries served _ is (same_lasts entries _ (abort.cleared s) t (logs_same _ _ t logs) cleared)
 
 -- ---- the status byte
@@ -142,19 +142,19 @@ control_lasts : (entries : List Outstanding) (s : State) (submit : Pending) (beh
     → s.control ≡ submit ∷ behind → TiesAt entries s → LastsAt entries (control_answer submit setup layout ∷ []) (with_queue Control behind s)
 control_lasts entries s submit behind setup layout is ties =
     first_lasts entries Control s submit behind success (sent_back submit.head.dir _ layout) is success_is
-      (sent_back_fits submit.head.dir submit.head.length setup.length layout) ties
+    (sent_back_fits submit.head.dir submit.head.length setup.length layout) ties
 
 pub answers_last : (entries : List Outstanding) (s : State) (puts : List Put) (t : State) → TiesAt entries s → Answers s puts t → LastsAt entries puts t
 answers_last entries s puts t ties (ByClass submit behind setup request served is asks row serves a i) =
     let mid : State = record s { control = behind } in
     lasts_at entries puts (control_answer submit setup served.layout ∷ [] ++ served.behind) t served.state a i
-      (lasts_append entries (control_answer submit setup served.layout ∷ []) served.behind (pending mid) mid.bulk_out (pending served.state) served.state.bulk_out
-        (control_lasts entries s submit behind setup served.layout is ties)
-        (λ later now. serves_last request later submit mid served now serves))
+    (lasts_append entries (control_answer submit setup served.layout ∷ []) served.behind (pending mid) mid.bulk_out (pending served.state) served.state.bulk_out
+    (control_lasts entries s submit behind setup served.layout is ties)
+    (λ later now. serves_last request later submit mid served now serves))
 answers_last entries s puts t ties (ByStandard submit behind setup request is asks row a i) =
     let mid : State = record s { control = behind } in
     lasts_at entries puts _ t _ a i
-      (same_lasts entries _ mid (standard_effect request mid) (effect_same request mid) (control_lasts entries s submit behind setup (standard_layout request s) is ties))
+    (same_lasts entries _ mid (standard_effect request mid) (effect_same request mid) (control_lasts entries s submit behind setup (standard_layout request s) is ties))
 answers_last entries s puts t ties (Unknown submit behind setup is asks unknown a i) =
     lasts_at entries puts _ t _ a i (first_lasts entries Control s submit behind stalled [] is stalled_is (omega arith) ties)
 

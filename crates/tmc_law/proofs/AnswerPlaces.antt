@@ -1,16 +1,15 @@
 -- a queue among the pending submits of a state, and what is tied to what is outstanding
-use Rattle.std.proofs.Common.{◌≡◌, ℕ, ◌+◌, ◌≤◌, List, [], ◌∷◌, ◌++◌, length, true, refl, sym, subst, ◌∙◌, append_assoc}
+use Rattle.std.proofs.Common.{◌≡◌, ℕ, ◌+◌, ◌≤◌, List, [], ◌∷◌, ◌++◌, length, refl, sym, subst, ◌∙◌, append_assoc}
 use Rattle.std.specs.Prelude.{ℤ, Bool}
 use Rattle.std.proofs.lemmas.List.{append-nil}
 use Rattle.usbip_wire.specs.declared.dirs.Outstanding.{Outstanding}
-use Rattle.usbip_wire.specs.declared.unlink.UnlinkHead.{UnlinkHead}
 use Rattle.tmc_law.specs.Endpoint.{Endpoint, Control, BulkOut, BulkIn, InterruptIn}
-use Rattle.tmc_law.specs.State.{State, Pending, queue_of, with_queue, with_halt, pending, Avoids}
-use Rattle.tmc_law.specs.Put.{Put, answer_of, ended, stalled}
+use Rattle.tmc_law.specs.State.{State, Pending, queue_of, with_queue, pending}
+use Rattle.tmc_law.specs.Put.{Put, answer_of, stalled}
 use Rattle.tmc_law.specs.Halts.{halts, halt_answers}
 use Rattle.tmc_law.specs.Laws.{AreAccepted, without_answered}
 use Rattle.tmc_law.proofs.AnswerBytes.{IsStatus, stalled_is}
-use Rattle.tmc_law.proofs.Owing.{IsOwed, AreOwed, owed_at, owed_without, owed_replaced, owed_with}
+use Rattle.tmc_law.proofs.Owing.{IsOwed, AreOwed, owed_at, owed_replaced}
 use Rattle.tmc_law.proofs.Answering.{Settles, one_settles, queue_settles, settles_append}
 
 -- the pending submits of the endpoints before this one, and of those behind it
@@ -85,7 +84,7 @@ whole_without (first ∷ before) submit behind whole = (whole.0, whole_without b
 
 -- ---- a state and what is outstanding
 
--- of these pending submits, the second ones of Bulk-OUT
+-- the answers to these pending submits are owed, and those of Bulk-OUT among them are whole
 pub record Ties (entries : List Outstanding) (submits out : List Pending) : Type 0 where
   pub owed : AreOwed entries submits
   pub whole : AreWhole out
@@ -93,6 +92,7 @@ pub record Ties (entries : List Outstanding) (submits out : List Pending) : Type
 abbrev pub TiesAt : List Outstanding → State → Type 0
 TiesAt entries s = Ties entries (pending s) s.bulk_out
 
+-- the answers are accepted, and the same holds behind them
 pub record Lasts (entries : List Outstanding) (puts : List Put) (submits out : List Pending) : Type 0 where
   pub accepted : AreAccepted entries puts
   pub ties : Ties (without_answered entries puts) submits out
@@ -117,9 +117,9 @@ pub lasts_append : (entries : List Outstanding) (puts more : List Put) (submits 
 lasts_append entries puts more submits out rest last few then =
     let next = then (without_answered entries puts) few.ties in
     lasts entries (puts ++ more) rest last
-      (settles_append entries puts more submits rest (settled entries puts submits out few)
-        (λ later owed. settled later more rest last (then later (record { owed = owed; whole = few.ties.whole }))))
-      next.ties.whole
+    (settles_append entries puts more submits rest (settled entries puts submits out few)
+    (λ later owed. settled later more rest last (then later (record { owed = owed; whole = few.ties.whole }))))
+    next.ties.whole
 
 pub lasts_at : (entries : List Outstanding) (puts is : List Put) (t u : State) → puts ≡ is → t ≡ u → LastsAt entries is u → LastsAt entries puts t
 lasts_at entries puts is t u e f last =
@@ -148,10 +148,10 @@ pub first_lasts : (entries : List Outstanding) (endpoint : Endpoint) (s : State)
     → LastsAt entries (answer_of submit.head status moved ∷ []) (with_queue endpoint behind s)
 first_lasts entries endpoint s submit behind status moved is code fits ties =
     lasts entries (answer_of submit.head status moved ∷ []) (pending (with_queue endpoint behind s)) (with_queue endpoint behind s).bulk_out
-      (settles_out entries (answer_of submit.head status moved ∷ []) endpoint behind s
-        (one_settles entries (in_front endpoint s) submit (behind ++ in_back endpoint s) status moved code fits
-          (owed_here entries endpoint s (submit ∷ behind) is ties.owed)))
-      (whole_behind endpoint s submit behind is ties.whole)
+    (settles_out entries (answer_of submit.head status moved ∷ []) endpoint behind s
+    (one_settles entries (in_front endpoint s) submit (behind ++ in_back endpoint s) status moved code fits
+    (owed_here entries endpoint s (submit ∷ behind) is ties.owed)))
+    (whole_behind endpoint s submit behind is ties.whole)
 
 -- another with its head stands in its place
 pub owed_changed : (entries : List Outstanding) (endpoint : Endpoint) (s : State) (submit : Pending) (behind : List Pending)
@@ -159,8 +159,8 @@ pub owed_changed : (entries : List Outstanding) (endpoint : Endpoint) (s : State
     → AreOwed entries (pending (with_queue endpoint ((record { head = submit.head; left = left; moved = moved; polled = polled }) ∷ behind) s))
 owed_changed entries endpoint s submit behind moved left polled is fits owed =
     owed_out entries endpoint ((record { head = submit.head; left = left; moved = moved; polled = polled }) ∷ behind) s
-      (owed_replaced entries (in_front endpoint s) submit moved left polled (behind ++ in_back endpoint s) fits
-        (owed_here entries endpoint s (submit ∷ behind) is owed))
+    (owed_replaced entries (in_front endpoint s) submit moved left polled (behind ++ in_back endpoint s) fits
+    (owed_here entries endpoint s (submit ∷ behind) is owed))
 
 -- ---- an endpoint halts
 
@@ -180,8 +180,8 @@ pub halts_last : (entries : List Outstanding) (endpoint : Endpoint) (s : State) 
     → LastsAt entries (halt_answers endpoint s) (halts endpoint s)
 halts_last entries endpoint s ties =
     lasts entries (halt_answers endpoint s) (pending (halts endpoint s)) (halts endpoint s).bulk_out
-      (subst (λ (l : List Pending). Settles entries (halt_answers endpoint s) l) (sym (halted_pending endpoint s))
-        (settles_out entries (halt_answers endpoint s) endpoint [] s
-          (queue_settles entries (in_front endpoint s) (queue_of endpoint s) (in_back endpoint s) stalled stalled_is
-            (owed_in entries endpoint s ties.owed))))
-      (halted_whole endpoint s ties.whole)
+    (subst (λ (l : List Pending). Settles entries (halt_answers endpoint s) l) (sym (halted_pending endpoint s))
+    (settles_out entries (halt_answers endpoint s) endpoint [] s
+    (queue_settles entries (in_front endpoint s) (queue_of endpoint s) (in_back endpoint s) stalled stalled_is
+    (owed_in entries endpoint s ties.owed))))
+    (halted_whole endpoint s ties.whole)

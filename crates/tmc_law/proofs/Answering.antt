@@ -1,13 +1,12 @@
 -- answers to pending submits, accepted one behind the other
-use Rattle.std.proofs.Common.{◌≡◌, ℕ, ◌<◌, ◌≤◌, ◌^◌, List, [], ◌∷◌, ◌++◌, length, true, Option, Some, refl, sym, ap, subst, arith}
-use Rattle.std.specs.Prelude.{◌≢◌, ℤ, map}
+use Rattle.std.proofs.Common.{◌≡◌, ℕ, ◌<◌, ◌≤◌, ◌^◌, List, [], ◌∷◌, ◌++◌, length, Option, Some, refl, ap, arith}
+use Rattle.std.specs.Prelude.{ℤ, map}
 use Rattle.usbip_wire.specs.declared.unlink.UnlinkHead.{UnlinkHead}
-use Rattle.usbip_wire.specs.declared.urb.Dir.{Dir}
 use Rattle.usbip_wire.specs.declared.dirs.Outstanding.{Outstanding}
 use Rattle.usbip_wire.specs.declared.dirs.Outstanding.TheVariants as outstanding
-use Rattle.usbip_wire.specs.Dirs.{find, others, submit_of, is_unlink}
+use Rattle.usbip_wire.specs.Dirs.{find, submit_of, is_unlink}
 use Rattle.usbip_wire.specs.Down as down
-use Rattle.usbip_wire.specs.RetSubmit.{ret_submit_bytes, unused, Asked}
+use Rattle.usbip_wire.specs.RetSubmit.{ret_submit_bytes, unused}
 use Rattle.usbip_wire.specs.RetUnlink.{ret_unlink_bytes, unused as unused_unlink}
 use Rattle.tmc_law.specs.State.{Pending, Avoids}
 use Rattle.tmc_law.specs.Put.{Put, answer_of, ended, unlink_answer, returned, success}
@@ -15,7 +14,7 @@ use Rattle.tmc_law.specs.Halts.{all_ended}
 use Rattle.tmc_law.specs.Aborts.{part_answer, without_part}
 use Rattle.tmc_law.specs.Laws.{AreAccepted, message_of, without_answered}
 use Rattle.tmc_law.proofs.AnswerBytes.{IsStatus, success_is, head_of, submit_spelled, unlink_spelled}
-use Rattle.tmc_law.proofs.Owing.{asked_by, IsOwed, AreOwed, owed_at, owed_answered, owed_others}
+use Rattle.tmc_law.proofs.Owing.{IsOwed, AreOwed, owed_at, owed_answered, owed_others}
 
 -- the answers are accepted, and behind them the answers to these submits are owed
 pub record Settles (entries : List Outstanding) (puts : List Put) (submits : List Pending) : Type 0 where
@@ -88,16 +87,16 @@ others_settle : (entries : List Outstanding) (front queue back : List Pending) (
 others_settle entries front [] back status is owed = none_settles entries (front ++ back) owed
 others_settle entries front (submit ∷ queue) back status is owed =
     settles_append entries (answer_of submit.head status [] ∷ []) (map (λ submit. answer_of submit.head status []) queue) (front ++ (queue ++ back)) (front ++ back)
-      (one_settles entries front submit (queue ++ back) status [] is (omega arith) owed)
-      (λ later rest. others_settle later front queue back status is rest)
+    (one_settles entries front submit (queue ++ back) status [] is (omega arith) owed)
+    (λ later rest. others_settle later front queue back status is rest)
 
 pub queue_settles : (entries : List Outstanding) (front queue back : List Pending) (status : ℤ) → IsStatus status
     → AreOwed entries (front ++ (queue ++ back)) → Settles entries (all_ended status queue) (front ++ back)
 queue_settles entries front [] back status is owed = none_settles entries (front ++ back) owed
 queue_settles entries front (submit ∷ queue) back status is owed =
     settles_append entries (ended status submit ∷ []) (map (λ submit. answer_of submit.head status []) queue) (front ++ (queue ++ back)) (front ++ back)
-      (one_settles entries front submit (queue ++ back) status submit.moved is (owed_at entries front submit (queue ++ back) owed).fits owed)
-      (λ later rest. others_settle later front queue back status is rest)
+    (one_settles entries front submit (queue ++ back) status submit.moved is (owed_at entries front submit (queue ++ back) owed).fits owed)
+    (λ later rest. others_settle later front queue back status is rest)
 
 -- a part-filled submit, where the first of a queue is one
 part_settles_at : (entries : List Outstanding) (front : List Pending) (moved : List ℕ) (first : Pending) (queue back : List Pending)

@@ -1,5 +1,5 @@
 -- pending submits whose answers are owed: each is outstanding, and no two have one number
-use Rattle.std.proofs.Common.{◌≡◌, ℕ, ◌<◌, ◌≤◌, ◌^◌, List, [], ◌∷◌, ◌++◌, length, Option, Some, None, refl, sym, ap, subst, ◌∙◌, arith}
+use Rattle.std.proofs.Common.{◌≡◌, ℕ, ◌<◌, ◌≤◌, ◌^◌, List, [], ◌∷◌, ◌++◌, length, Some, None, sym, subst, ◌∙◌}
 use Rattle.std.specs.Prelude.{◌≢◌, Bool}
 use Rattle.usbip_wire.specs.declared.submit.SubmitHead.{SubmitHead}
 use Rattle.usbip_wire.specs.declared.dirs.Outstanding.{Outstanding}
@@ -73,9 +73,9 @@ pub owed_apart : (n : ℕ) (entries : List Outstanding) (submits : List Pending)
 owed_apart n entries [] none owed = tt
 owed_apart n entries (submit ∷ submits) none owed =
     let differs : submit.head.seqnum ≢ n = λ e.
-      let found : find n entries ≡ Some (asked_by submit.head) = subst (λ k. find k entries ≡ Some (asked_by submit.head)) e owed.0.found in
-      let missing : find n entries ≡ None = find_none n entries none in
-      cc in
+    let found : find n entries ≡ Some (asked_by submit.head) = subst (λ k. find k entries ≡ Some (asked_by submit.head)) e owed.0.found in
+    let missing : find n entries ≡ None = find_none n entries none in
+    cc in
     (differs, owed_apart n entries submits none owed.2)
 
 -- ---- submits that come and go
@@ -121,5 +121,5 @@ pub owed_replaced : (entries : List Outstanding) (front : List Pending) (submit 
 owed_replaced entries front submit moved left polled back fits owed =
     let one = owed_at entries front submit back owed in
     owed_with entries front (record { head = submit.head; left = left; moved = moved; polled = polled }) back
-      (record { found = one.found; wide = one.wide; sized = one.sized; fits = fits })
-      (avoids_rest entries front submit back owed) (owed_without entries front submit back owed)
+    (record { found = one.found; wide = one.wide; sized = one.sized; fits = fits })
+    (avoids_rest entries front submit back owed) (owed_without entries front submit back owed)
