@@ -4,3 +4,12 @@ pub mod Logged
 pub mod Spared
 pub mod Rows
 pub mod Telling
+pub mod AnswerBytes
+pub mod Outstanding
+pub mod Owing
+pub mod Answering
+pub mod AnswerPlaces
+pub mod AnswerArrivals
+pub mod AnswerBulk
+pub mod AnswerControl
+pub mod Accepting
