@@ -1,0 +1,6 @@
+pub mod Queued
+pub mod Acts
+pub mod ActsOf
+pub mod Counted
+pub mod Sound
+pub mod Hit
