@@ -4,3 +4,5 @@ pub mod ActsOf
 pub mod Counted
 pub mod Sound
 pub mod Hit
+pub mod Sublists
+pub mod Order

@@ -74,11 +74,11 @@ fit_more e (first ∷ submits) last h fits = (h.0, fit_more e submits last h.1 f
 -- ---- acts
 
 -- what holds of a queue, also without one of its submits, and with its first one changed
-record Stays (P : Endpoint → List Pending → Type 0) : Type 0 where
+pub record Stays (P : Endpoint → List Pending → Type 0) : Type 0 where
   pub without : (e : Endpoint) (before : List Pending) (submit : Pending) (behind : List Pending) → P e (before ++ submit ∷ behind) → P e (before ++ behind)
   pub later : (e : Endpoint) (submit later : Pending) (behind : List Pending) → IsLater e submit later → P e (submit ∷ behind) → P e (later ∷ behind)
 
-acts_keep : (P : Endpoint → List Pending → Type 0) → Stays P → (t s : State) (puts : List Put) → Acts t s puts → Each P s → Each P t
+pub acts_keep : (P : Endpoint → List Pending → Type 0) → Stays P → (t s : State) (puts : List Put) → Acts t s puts → Each P s → Each P t
 acts_keep P stays t s puts (Done _ same) h = each_same P s t same h
 acts_keep P stays t s _ (Replies _ puts e submit behind status moved queue ok within rest) h =
     acts_keep P stays t (with_queue e behind s) puts rest
