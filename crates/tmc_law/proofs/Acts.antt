@@ -1,5 +1,5 @@
 -- what a step does to the queues, one submit at a time
-use Rattle.std.proofs.Common.{◌≡◌, ◌∙◌, ◌≤◌, ℕ, ℤ, List, [], ◌∷◌, ◌++◌, map, length, refl, ap, sym, subst, append-nil, arith}
+use Rattle.std.proofs.Common.{◌≡◌, ◌∙◌, ◌≤◌, ℕ, ℤ, List, [], ◌∷◌, ◌++◌, map, length, ap, sym, subst, append-nil, arith}
 use Rattle.usbip_wire.specs.declared.urb.Dir.{Dir}
 use Rattle.usbip_wire.specs.declared.urb.Dir.TheVariants.{Out, In}
 use Rattle.usbip_wire.specs.declared.unlink.UnlinkHead.{UnlinkHead}

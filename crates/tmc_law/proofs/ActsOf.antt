@@ -1,7 +1,5 @@
 -- each step but the arrival of a submit is such acts
-use Rattle.std.proofs.Common.{◌≡◌, ◌∙◌, ◌≢◌, ◌+◌, ◌*◌, ◌-◌, ◌<◌, ◌≤◌, ℕ, Bool, true, false, List, [], ◌∷◌, ◌++◌, length, take, drop, min, inl, inr, refl, ap, sym, subst, append-nil, append_assoc, length-append, length-take, length-drop, take-append-drop, arith}
-use Rattle.std.specs.Prelude.{slice_index}
-use Rattle.usbip_wire.specs.declared.submit.SubmitHead.{SubmitHead}
+use Rattle.std.proofs.Common.{◌≡◌, ◌∙◌, ◌+◌, ◌*◌, ◌≤◌, ℕ, true, false, List, [], ◌∷◌, ◌++◌, length, take, drop, min, inl, inr, refl, ap, sym, subst, length-append, length-take, take-append-drop, arith}
 use Rattle.usbip_wire.specs.declared.unlink.UnlinkHead.{UnlinkHead}
 use Rattle.usbip_wire.specs.declared.urb.Dir.{Dir}
 use Rattle.usbip_wire.specs.declared.urb.Dir.TheVariants.{Out, In}
@@ -9,23 +7,23 @@ use Rattle.usb_setup.specs.declared.setup.Setup.{Setup}
 use Rattle.tmc_wire.specs.declared.class_request.ClassRequest.{ClassRequest}
 use Rattle.tmc_wire.specs.declared.class_request.ClassRequest.TheVariants.{AbortOut, CheckOut, AbortIn, CheckIn, Clear, CheckClear, Capabilities, Pulse, ReadStatus, Ren, GoLocal, Lockout}
 use Rattle.instr_plain.specs.declared.log.LogEntry.{LogEntry}
-use Rattle.tmc_law.specs.Endpoint.{Endpoint, Control, BulkOut, BulkIn, InterruptIn, way_of, packet_size}
+use Rattle.tmc_law.specs.Endpoint.{Endpoint, Control, BulkOut, BulkIn, InterruptIn, packet_size}
 use Rattle.tmc_law.specs.State.{State, Pending, Transfer, Piece, Running, Nothing, AbortsOut, AbortsIn, Clears, Packet, StatusPacket, ServicePacket, room, queue_of, with_queue}
-use Rattle.tmc_law.specs.Put.{Put, ended, success, stalled, unlinked}
+use Rattle.tmc_law.specs.Put.{Put, success, stalled, unlinked}
 use Rattle.tmc_law.specs.Logging.{Logs}
 use Rattle.tmc_law.specs.Control.{control_answer, sent_back}
 use Rattle.tmc_law.specs.Queues.{Unlinks, Hits, Polled, Misses}
 use Rattle.tmc_law.specs.Halts.{halts, halt_answers, HaltsItself, DoesHalt, Unplugs}
 use Rattle.tmc_law.specs.BulkOut as out
 use Rattle.tmc_law.specs.BulkIn as «in»
-use Rattle.tmc_law.specs.Standard.{Standard, GetDeviceStatus, GetInterfaceStatus, GetEndpointStatus, ClearHalt, GetDeviceDescriptor, GetConfigurationDescriptor, GetString, GetConfiguration, SetConfiguration, GetInterface, SetInterface, standard_effect}
+use Rattle.tmc_law.specs.Standard.{Standard, ClearHalt, SetConfiguration, SetInterface, standard_effect}
 use Rattle.tmc_law.specs.Aborts as aborts
 use Rattle.tmc_law.specs.Aborts.{Served}
 use Rattle.tmc_law.specs.Status as status
 use Rattle.tmc_law.specs.Class as class
 use Rattle.usbip_wire.specs.Up as up
 use Rattle.tmc_law.specs.Step.{Move, Comes, Refuses, Take, Exec, Begin, Fill, Answer, Pend, Poll, Notify, Halt, Unplug, Leads}
-use Rattle.tmc_law.proofs.Queued.{SameQueues, same_refl, same_as, Unpolled, FirstPolled, NonePolled, Sized, FitsAt, Each, queue-with, with-own, with-twice}
+use Rattle.tmc_law.proofs.Queued.{SameQueues, same_refl, is_same, FirstPolled, NonePolled, Sized, FitsAt, Each}
 use Rattle.tmc_law.proofs.Acts.{Acts, Done, Replies, Leaves, Changes, Says, Succeeds, Stalls, IsGone, IsTakenBack, IsLater, within, silent, all_end, all_end_here, ends, ends_later}
 
 -- what is logged changes no queue
@@ -36,9 +34,6 @@ logs_same entry w s t same logs = record {
   bulk_in = ap (λ (x : State). x.bulk_in) logs.is ∙ same.bulk_in;
   interrupt_in = ap (λ (x : State). x.interrupt_in) logs.is ∙ same.interrupt_in;
 }
-
-is_same : (w s t : State) → t ≡ s → SameQueues w s → SameQueues w t
-is_same w s t is same = same_as w t s is same
 
 halts_same : (e : Endpoint) (s : State) → SameQueues (with_queue e [] s) (halts e s)
 halts_same Control s = same_refl _
@@ -120,13 +115,13 @@ fits_filled : (submit : Pending) (n : ℕ) (piece : Piece) → n ≤ room submit
 fits_filled submit n piece free h =
     let before : (length submit.moved ≤ submit.head.length) × (submit.left ≡ []) = subst (λ (d : Dir). Sized d submit) h.way h.sized in
     record {
-  number = h.number;
-  way = h.way;
-  sized = subst (λ (d : Dir). Sized d («in».filled n piece submit)) (sym h.way) (filled_short submit n piece.left before.0 free, before.1);
-  transferred = h.transferred;
-  bytes = h.bytes;
-  spelled = h.spelled;
-}
+      number = h.number;
+      way = h.way;
+      sized = subst (λ (d : Dir). Sized d («in».filled n piece submit)) (sym h.way) (filled_short submit n piece.left before.0 free, before.1);
+      transferred = h.transferred;
+      bytes = h.bytes;
+      spelled = h.spelled;
+    }
 
 filled_later : (submit : Pending) (n : ℕ) (piece : Piece) → n ≤ room submit → IsLater BulkIn submit («in».filled n piece submit)
 filled_later submit n piece free = record { head = refl; polled = λ h. h; fits = fits_filled submit n piece free }
@@ -304,13 +299,13 @@ fits_notified : (packet : Packet) (submit : Pending) → 2 ≤ submit.head.lengt
 fits_notified packet submit long h =
     let before : (length submit.moved ≤ submit.head.length) × (submit.left ≡ []) = subst (λ (d : Dir). Sized d submit) h.way h.sized in
     record {
-  number = h.number;
-  way = h.way;
-  sized = subst (λ (d : Dir). Sized d (status.notified packet submit)) (sym h.way) (rw (packet_long packet) long, before.1);
-  transferred = h.transferred;
-  bytes = h.bytes;
-  spelled = h.spelled;
-}
+      number = h.number;
+      way = h.way;
+      sized = subst (λ (d : Dir). Sized d (status.notified packet submit)) (sym h.way) (rw (packet_long packet) long, before.1);
+      transferred = h.transferred;
+      bytes = h.bytes;
+      spelled = h.spelled;
+    }
 
 notifies : (s : State) (puts : List Put) (t : State) → status.Notifies s puts t → Acts t s puts
 notifies s puts t (status.Gives submit behind packet packets queue there long put is) =

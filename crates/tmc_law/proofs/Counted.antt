@@ -1,13 +1,12 @@
 -- a number is answered no oftener than it is pending
-use Rattle.std.proofs.Common.{◌≡◌, ◌∙◌, ◌≢◌, ℕ, ◌+◌, ◌≤◌, Bool, true, false, cond, eqb, List, [], ◌∷◌, ◌++◌, refl, ap, sym, subst, arith}
-use Rattle.std.proofs.lemmas.Bool.{eq-eqb, ne_eqb}
+use Rattle.std.proofs.Common.{◌≡◌, ℕ, ◌+◌, ◌≤◌, cond, eqb, List, [], ◌∷◌, ◌++◌, ap, arith}
+use Rattle.std.proofs.lemmas.Bool.{eq-eqb}
 use Rattle.usbip_wire.specs.declared.submit.SubmitHead.{SubmitHead}
-use Rattle.tmc_law.specs.Endpoint.{Endpoint}
-use Rattle.tmc_law.specs.State.{State, Pending, arrived, queue_of, with_queue, pending, Avoids}
+use Rattle.tmc_law.specs.State.{State, Pending, arrived, queue_of, with_queue}
 use Rattle.tmc_law.specs.Put.{Put, Submitted, Unlinked}
 use Rattle.tmc_law.specs.Queues.{Arrives, Queued, TurnedAway}
 use Rattle.tmc_law.specs.Laws.{NoneAnswers}
-use Rattle.tmc_law.proofs.Queued.{times, here, times-append, times_own, here-with, here_same, not_here}
+use Rattle.tmc_law.proofs.Queued.{times, here, times-append, here-with, here_same}
 use Rattle.tmc_law.proofs.Acts.{Acts, Done, Replies, Leaves, Changes, Says}
 
 -- how often it is answered

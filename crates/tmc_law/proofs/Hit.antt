@@ -1,11 +1,9 @@
 -- a submit that was hit is never answered
-use Rattle.std.proofs.Common.{◌≡◌, ◌∙◌, ◌≢◌, ℕ, ◌+◌, ◌≤◌, Bool, true, false, cond, eqb, ℤ, List, [], ◌∷◌, ◌++◌, refl, ap, sym, subst, arith}
-use Rattle.std.proofs.lemmas.Bool.{eqb-true, ne_eqb}
-use Rattle.usbip_wire.specs.declared.submit.SubmitHead.{SubmitHead}
+use Rattle.std.proofs.Common.{◌≡◌, ◌∙◌, ℕ, ◌+◌, ◌≤◌, Bool, false, cond, eqb, ℤ, List, [], ◌∷◌, ◌++◌, refl, ap, sym, subst, arith}
+use Rattle.std.proofs.lemmas.Bool.{ne_eqb}
 use Rattle.usbip_wire.specs.declared.unlink.UnlinkHead.{UnlinkHead}
 use Rattle.usbip_wire.specs.Up as up
-use Rattle.tmc_law.specs.Endpoint.{Endpoint}
-use Rattle.tmc_law.specs.State.{State, Pending, start, queue_of, with_queue, pending, Avoids}
+use Rattle.tmc_law.specs.State.{State, Pending, start, pending, Avoids}
 use Rattle.tmc_law.specs.Put.{Put, Submitted, Unlinked, unlink_answer, success, unlinked}
 use Rattle.tmc_law.specs.Queues.{Unlinks, Hits, Polled, Misses}
 use Rattle.tmc_law.specs.Step.{Move, Comes, Steps}

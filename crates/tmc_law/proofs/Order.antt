@@ -1,20 +1,20 @@
 -- the answers to the submits of a queue come in its order
 use Rattle.std.proofs.Common.{◌≡◌, ◌∙◌, ◌≢◌, ◌⊎◌, inl, inr, ℕ, ◌+◌, ◌≤◌, Bool, true, false, cond, eqb, ◌||◌, List, [], ◌∷◌, ◌++◌, refl, ap, sym, subst, append_assoc, append-nil, arith}
-use Rattle.std.proofs.lemmas.Bool.{eqb-true, ne_eqb}
+use Rattle.std.proofs.lemmas.Bool.{ne_eqb}
 use Rattle.usbip_wire.specs.declared.submit.SubmitHead.{SubmitHead}
 use Rattle.usbip_wire.specs.Up as up
 use Rattle.tmc_law.specs.Endpoint.{Endpoint, Control, BulkOut, BulkIn, InterruptIn}
 use Rattle.tmc_law.specs.State.{State, Pending, start, arrived, queue_of, with_queue}
 use Rattle.tmc_law.specs.Put.{Put, Submitted, Unlinked}
 use Rattle.tmc_law.specs.Queues.{Arrives, Queued, TurnedAway}
-use Rattle.tmc_law.specs.Step.{Move, Comes, Steps}
+use Rattle.tmc_law.specs.Step.{Move}
 use Rattle.tmc_law.specs.Run.{Entry, Runs, taken, inputs, outputs}
-use Rattle.tmc_law.specs.Laws.{NoneArrives, NoneAgain, is_one_of, answers_to, AreInOrder}
+use Rattle.tmc_law.specs.Laws.{NoneAgain, is_one_of, answers_to, AreInOrder}
 use Rattle.tmc_law.proofs.Queued.{times, here, times_own, Each, each-with, same_queue, queue-with, IsSound}
-use Rattle.tmc_law.proofs.Acts.{Acts, Done, Replies, Leaves, Changes, Says, IsLater}
+use Rattle.tmc_law.proofs.Acts.{Acts, Done, Replies, Leaves, Changes, Says}
 use Rattle.tmc_law.proofs.Sound.{Does, Arriving, Acting, Stays, acts_keep, does, sound, sound_step}
 use Rattle.tmc_law.proofs.Hit.{none_arrives-front, none_arrives-behind}
-use Rattle.tmc_law.proofs.Sublists.{Sub, sub_nil, sub_more, sub_refl, sub_front, sub_trans}
+use Rattle.tmc_law.proofs.Sublists.{Sub, sub_more, sub_refl, sub_front, sub_trans}
 
 -- ---- those of a queue's numbers that are among these submits
 
@@ -116,9 +116,9 @@ acts_front : (submits : List Pending) (e : Endpoint) (t s : State) (puts : List 
 acts_front submits e t s puts (Done _ same) away = rw (same_queue e s t same) (sub_refl (mine submits (queue_of e s)))
 acts_front submits e t s _ (Replies _ puts d submit behind status moved queue ok within rest) away =
     by (acts_front submits e t (with_queue d behind s) puts rest
-      (each-with (λ c q. c ≢ e → mine submits q ≡ []) d behind s away
-      ((away_stays submits e).without d [] submit behind (subst (λ (q : List Pending). d ≢ e → mine submits q ≡ []) queue (away d)))))
-      (which d e)
+    (each-with (λ c q. c ≢ e → mine submits q ≡ []) d behind s away
+    ((away_stays submits e).without d [] submit behind (subst (λ (q : List Pending). d ≢ e → mine submits q ≡ []) queue (away d)))))
+    (which d e)
   where
     by : Fronts submits e puts (with_queue d behind s) t → (d ≡ e) ⊎ Apart d e
         → Sub (cond (is_one_of submits submit.head.seqnum) (submit.head.seqnum ∷ answers_to submits puts) (answers_to submits puts) ++ mine submits (queue_of e t)) (mine submits (queue_of e s))
@@ -133,9 +133,9 @@ acts_front submits e t s _ (Replies _ puts d submit behind status moved queue ok
         (subst (λ (q : List Pending). Sub (answers_to submits puts ++ mine submits (queue_of e t)) (mine submits q)) (apart.queue behind s) h)
 acts_front submits e t s puts (Leaves _ _ d before submit behind queue rest) away =
     by (acts_front submits e t (with_queue d (before ++ behind) s) puts rest
-      (each-with (λ c q. c ≢ e → mine submits q ≡ []) d (before ++ behind) s away
-      ((away_stays submits e).without d before submit behind (subst (λ (q : List Pending). d ≢ e → mine submits q ≡ []) queue (away d)))))
-      (which d e)
+    (each-with (λ c q. c ≢ e → mine submits q ≡ []) d (before ++ behind) s away
+    ((away_stays submits e).without d before submit behind (subst (λ (q : List Pending). d ≢ e → mine submits q ≡ []) queue (away d)))))
+    (which d e)
   where
     by : Fronts submits e puts (with_queue d (before ++ behind) s) t → (d ≡ e) ⊎ Apart d e → Fronts submits e puts s t
     by h (inl same) =
@@ -147,9 +147,9 @@ acts_front submits e t s puts (Leaves _ _ d before submit behind queue rest) awa
         subst (λ (q : List Pending). Sub (answers_to submits puts ++ mine submits (queue_of e t)) (mine submits q)) (apart.queue (before ++ behind) s) h
 acts_front submits e t s puts (Changes _ _ d submit later behind queue changed rest) away =
     by (acts_front submits e t (with_queue d (later ∷ behind) s) puts rest
-      (each-with (λ c q. c ≢ e → mine submits q ≡ []) d (later ∷ behind) s away
-      ((away_stays submits e).later d submit later behind changed (subst (λ (q : List Pending). d ≢ e → mine submits q ≡ []) queue (away d)))))
-      (which d e)
+    (each-with (λ c q. c ≢ e → mine submits q ≡ []) d (later ∷ behind) s away
+    ((away_stays submits e).later d submit later behind changed (subst (λ (q : List Pending). d ≢ e → mine submits q ≡ []) queue (away d)))))
+    (which d e)
   where
     by : Fronts submits e puts (with_queue d (later ∷ behind) s) t → (d ≡ e) ⊎ Apart d e → Fronts submits e puts s t
     by h (inl same) =

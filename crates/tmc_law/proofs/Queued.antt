@@ -1,6 +1,6 @@
 -- the queues of a state, and what stands in them
-use Rattle.std.proofs.Common.{◌≡◌, ◌∙◌, ◌≢◌, ℕ, ◌+◌, ◌≤◌, Bool, true, false, cond, eqb, List, [], ◌∷◌, ◌++◌, length, refl, ap, sym, subst, arith}
-use Rattle.std.proofs.lemmas.Bool.{eqb-true, eqb-false, eq-eqb, ne_eqb}
+use Rattle.std.proofs.Common.{◌≡◌, ◌∙◌, ◌≢◌, ℕ, ◌+◌, ◌≤◌, false, cond, eqb, List, [], ◌∷◌, ◌++◌, length, refl, sym, subst, arith}
+use Rattle.std.proofs.lemmas.Bool.{eq-eqb, ne_eqb}
 use Rattle.std.specs.Prelude.{slice_index}
 use Rattle.usbip_wire.specs.declared.urb.Dir.{Dir}
 use Rattle.usbip_wire.specs.declared.urb.Dir.TheVariants.{Out, In}
@@ -122,8 +122,8 @@ here_same n s t h = rw (h.control, h.bulk_out, h.bulk_in, h.interrupt_in) refl
 pub same_refl : (s : State) → SameQueues s s
 same_refl s = record { control = refl; bulk_out = refl; bulk_in = refl; interrupt_in = refl }
 
-pub same_as : (s t u : State) → t ≡ u → SameQueues s u → SameQueues s t
-same_as s t u is same = subst (λ (x : State). SameQueues s x) (sym is) same
+pub is_same : (w s t : State) → t ≡ s → SameQueues w s → SameQueues w t
+is_same w s t is same = subst (λ (x : State). SameQueues w x) (sym is) same
 
 -- ---- the status byte is polled for the first control submit alone
 

@@ -1,5 +1,5 @@
 -- the invariant of a lawful device holds of all reachable states
-use Rattle.std.proofs.Common.{◌≡◌, ◌∙◌, ◌≢◌, ◌⊎◌, inl, inr, ℕ, ◌+◌, ◌≤◌, Bool, true, false, cond, eqb, List, [], ◌∷◌, ◌++◌, length, refl, ap, sym, subst, arith}
+use Rattle.std.proofs.Common.{◌≡◌, ℕ, ◌+◌, ◌≤◌, Bool, true, false, cond, eqb, List, [], ◌∷◌, ◌++◌, refl, sym, subst, arith}
 use Rattle.std.proofs.lemmas.Bool.{eqb-true}
 use Rattle.usbip_wire.specs.declared.submit.SubmitHead.{SubmitHead}
 use Rattle.usbip_wire.specs.declared.urb.Dir.{Dir}
@@ -16,7 +16,7 @@ use Rattle.tmc_law.proofs.Queued.{here, not_here, Each, each-with, each_same, Un
 pub use Rattle.tmc_law.proofs.Queued.{IsSound}
 use Rattle.tmc_law.proofs.Acts.{Acts, Done, Replies, Leaves, Changes, Says, IsLater}
 use Rattle.tmc_law.proofs.ActsOf.{IsArrival, acts}
-use Rattle.tmc_law.proofs.Counted.{answered, acts_count, arrival_count}
+use Rattle.tmc_law.proofs.Counted.{acts_count, arrival_count}
 
 pub sound_start : IsSound start
 sound_start = record { distinct = λ n. omega arith; polled = all_start; fits = all_fit }
@@ -127,10 +127,10 @@ arrives_sound : (s t : State) (head : SubmitHead) (transferred bytes : List ℕ)
 arrives_sound s t head transferred bytes puts spells free (TurnedAway none put is) sound = subst (λ (x : State). IsSound x) (sym is) sound
 arrives_sound s t head transferred bytes puts spells free (Queued e is_taken put is) sound = record {
   distinct = λ n. omega (
-      arith,
-      arrival_count n s t head transferred puts (Queued e is_taken put is),
-      one_less head.seqnum n (here n s) (λ same. subst (λ (k : ℕ). here k s ≡ 0) same (not_here head.seqnum s free)) (sound.distinct n),
-    );
+    arith,
+    arrival_count n s t head transferred puts (Queued e is_taken put is),
+    one_less head.seqnum n (here n s) (λ same. subst (λ (k : ℕ). here k s ≡ 0) same (not_here head.seqnum s free)) (sound.distinct n),
+  );
   polled = subst (λ (x : State). Each FirstPolled x) (sym is)
       (each-with FirstPolled e (queue_of e s ++ arrived head transferred ∷ []) s sound.polled (first_more e (queue_of e s) (arrived head transferred) (sound.polled e) refl));
   fits = subst (λ (x : State). Each AllFit x) (sym is)

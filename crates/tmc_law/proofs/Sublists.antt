@@ -1,5 +1,5 @@
 -- some numbers of a list, in its order
-use Rattle.std.proofs.Common.{◌≡◌, ◌∙◌, ◌⊎◌, inl, inr, ℕ, List, [], ◌∷◌, ◌++◌, refl, sym, subst}
+use Rattle.std.proofs.Common.{◌≡◌, ◌⊎◌, inl, inr, ℕ, List, [], ◌∷◌, ◌++◌, refl, subst}
 
 -- the first list is some of the second, in its order
 abbrev pub Sub : List ℕ → List ℕ → Type 0
