@@ -13,3 +13,11 @@ pub mod AnswerArrivals
 pub mod AnswerBulk
 pub mod AnswerControl
 pub mod Accepting
+pub mod Queued
+pub mod Acts
+pub mod ActsOf
+pub mod Counted
+pub mod Sound
+pub mod Hit
+pub mod Sublists
+pub mod Order
