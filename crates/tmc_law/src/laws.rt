@@ -3,17 +3,23 @@
 ghost use Rattle.std.specs.Prelude.{◌≡◌, ◌↔◌, ℕ, ◌<◌, ◌≤◌, List, [], ◌∷◌, ◌++◌, length};
 ghost use Rattle.tmc_base.specs.declared.run_step.RunStep.{RunStep};
 ghost use Rattle.usbip_wire.specs.declared.unlink.UnlinkHead.{UnlinkHead};
+ghost use Rattle.tmc_base.specs.Told as told;
+ghost use Rattle.tmc_base.specs.Told.{in_bytes, out_bytes};
 ghost use Rattle.usbip_wire.specs.Up as up;
+ghost use Rattle.usbip_wire.specs.Stream.{Reads};
 ghost use Rattle.instr_plain.specs.declared.log.LogEntry.{LogEntry};
 ghost use Rattle.instr_plain.specs.declared.log.LogEntry.TheVariants.{Exec};
 ghost use Rattle.instr_plain.specs.Log.{Stands, Response};
 ghost use Rattle.tmc_law.specs.Endpoint.{Endpoint};
 ghost use Rattle.tmc_law.specs.State.{State, start, queue_of};
 ghost use Rattle.tmc_law.specs.Put.{Put, unlink_answer, unlinked};
-ghost use Rattle.tmc_law.specs.Step.{Steps, Comes};
-ghost use Rattle.tmc_law.specs.Run.{Entry, Runs, inputs, outputs};
-ghost use Rattle.tmc_law.specs.Told.{Tells};
+ghost use Rattle.tmc_law.specs.Step.{Steps, Comes, Spells};
+ghost use Rattle.tmc_law.specs.Run.{Entry, Runs, inputs, outputs, SpellsPut, IsFront, Fits};
+ghost use Rattle.tmc_law.specs.Told.{Tells, SpellAll};
 ghost use Rattle.tmc_law.specs.Laws.{NoneArrives, NoneAnswers, NoneAgain, AreInOrder, answers_to, NoneRenews, bytes_taken, IsAccepted, AreNumbered};
+
+use instr_plain::{keeps_responses, one_response};
+use usbip_wire::urbs_are_determined;
 
 /// A run's fronts are runs, and two runs of which the second starts where the first ended join end to end. The
 /// same holds of told runs.
@@ -24,20 +30,44 @@ pub fn runs_join()
     ensures told_together { (a b : List RunStep) (s m t : State) → Tells s a m → Tells m b t → Tells s (a ++ b) t }
 {}
 
+/// Told steps are a run's, whose messages are spelled by the bytes that they took in and put out, and each run whose
+/// messages are spelled so is told by some steps. The bytes that were sent say which messages a run took in, and a run
+/// fits what its steps fit.
+pub fn told_runs_are_lawful()
+    ensures runs { (steps : List RunStep) (s t : State) → Tells s steps t
+        → (run : List Entry) × Runs s run t × SpellAll Spells (inputs run) (in_bytes steps) × SpellAll SpellsPut (outputs run) (out_bytes steps) }
+    ensures tells { (run : List Entry) (s t : State) (took put : List ℕ) → Runs s run t
+        → SpellAll Spells (inputs run) took → SpellAll SpellsPut (outputs run) put
+        → (steps : List RunStep) × Tells s steps t × (in_bytes steps ≡ took) × (out_bytes steps ≡ put) }
+    ensures took { (run : List Entry) (bytes more rest : List ℕ) (messages : List up.Message)
+        → SpellAll Spells (inputs run) bytes → Reads Spells (bytes ++ more) messages rest → IsFront (inputs run) messages }
+    ensures fits { (run : List Entry) (steps : List RunStep) (sent received rest : List ℕ) (messages : List up.Message)
+        → SpellAll Spells (inputs run) (in_bytes steps) → SpellAll SpellsPut (outputs run) (out_bytes steps)
+        → told.Fits sent received steps → Reads Spells sent messages rest → Fits run sent received }
+    ensures fits_told { (run : List Entry) (s t : State) (sent received : List ℕ) → Runs s run t → Fits run sent received
+        → (steps : List RunStep) × Tells s steps t × told.Fits sent received steps }
+{
+    urbs_are_determined();
+}
+
 /// The log only grows, a device's instrument stands for its log, and no later entry changes an earlier response.
 pub fn the_log_grows()
     ensures grows { (run : List Entry) (s t : State) → Runs s run t → (more : List LogEntry) × (t.log ≡ s.log ++ more) }
     ensures stands { (run : List Entry) (s : State) → Runs start run s → Stands s.log s.standing }
     ensures responses { (run : List Entry) (s t : State) (i : ℕ) (response : List ℕ) → Runs s run t → i < length s.log
         → (Response t.log i response ↔ Response s.log i response) }
-{}
+{
+    keeps_responses();
+}
 
 /// What is taken behind an execution, until the next one or a clear, is at most its response.
 pub fn no_more_is_taken_than_there_is()
     ensures { (run : List Entry) (t : State) (before between behind : List LogEntry) (seq : ℕ) (message response : List ℕ)
         → Runs start run t → t.log ≡ before ++ Exec seq message ∷ (between ++ behind) → NoneRenews between
         → Response t.log (length before) response → bytes_taken between ≤ length response }
-{}
+{
+    one_response();
+}
 
 /// A submit that an unlink hit is never answered, unless a submit with its number arrives again.
 pub fn a_hit_is_final()

@@ -12,13 +12,15 @@ mod input;
 mod laws;
 mod log;
 mod output;
+#[cfg(test)]
+mod tests;
 
 pub use dev_event::DevEvent;
 pub use input::Input;
 pub use instr_plain::{LogEntry, RemoteAct};
 pub use laws::{
     a_hit_is_final, answers_are_accepted, answers_keep_order, no_more_is_taken_than_there_is,
-    runs_join, the_log_grows,
+    runs_join, the_log_grows, told_runs_are_lawful,
 };
 pub use log::Log;
 pub use output::Output;

@@ -1,0 +1,14 @@
+use Rattle.tmc_law.proofs.Joined.{apart, together, told_apart, told_together}
+use Rattle.tmc_law.proofs.laws.runs_join.Goals as goal
+
+pub returns-clause-apart : goal.returns-clause-apart
+returns-clause-apart c = apart
+
+pub returns-clause-together : goal.returns-clause-together
+returns-clause-together c = together
+
+pub returns-clause-told_apart : goal.returns-clause-told_apart
+returns-clause-told_apart c = told_apart
+
+pub returns-clause-told_together : goal.returns-clause-told_together
+returns-clause-told_together c = told_together
