@@ -11,3 +11,4 @@ pub mod Progress
 pub mod Lawful
 pub mod Determined
 pub mod Refused
+pub mod Answered
