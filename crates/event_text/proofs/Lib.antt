@@ -12,3 +12,4 @@ pub mod Lawful
 pub mod Determined
 pub mod Refused
 pub mod Answered
+pub mod Plain
