@@ -1,8 +1,8 @@
 -- a text is cut at its first NL, and a bus id at its first zero
-use Rattle.std.proofs.Common.{⊎_elim, suc, ◌-◌, ◌≡◌, ℕ, ◌+◌, ◌<◌, ◌≤◌, Bool, true, false, cond, eqb, ltb, Option, Some, None, List, [], ◌∷◌, ◌++◌, length, take, drop, refl, sym, ap, ◌∙◌, subst, arith}
+use Rattle.std.proofs.Common.{⊎_elim, suc, ◌-◌, ◌≡◌, ℕ, ◌+◌, ◌<◌, ◌≤◌, Bool, true, false, eqb, Some, None, List, [], ◌∷◌, length, take, drop, refl, sym, ap, ◌∙◌, subst, arith}
 use Rattle.std.proofs.lemmas.Bool.{cases_lt, cond_below, cond_above}
 use Rattle.std.proofs.lemmas.List.{take_all, take_rest}
-use Rattle.std.specs.List.{position_or_len, position, before_first, after_first, onto_first}
+use Rattle.std.specs.List.{position_or_len, position, before_first, onto_first}
 use Rattle.event_text.specs.Words.{lines_of}
 
 abbrev at_nl : List ℕ → ℕ

@@ -1,5 +1,5 @@
 -- a call of a reader of a client's messages is a step
-use Rattle.std.proofs.Common.{◌≡◌, ℕ, ◌≤◌, true, false, Option, Some, None, List, [], ◌++◌, length, take, drop, refl, sym, ap, subst, ◌∙◌}
+use Rattle.std.proofs.Common.{◌≡◌, ℕ, true, false, Some, None, List, [], ◌++◌, take, drop, refl, sym, ap, subst}
 use Rattle.tmc_base.specs.declared.field.Field.{Field}
 use Rattle.usbip_wire.specs.declared.dirs.Outstanding.{Outstanding}
 use Rattle.usbip_wire.specs.declared.up.Up.{Up}
@@ -11,7 +11,6 @@ use Rattle.usbip_wire.specs.declared.urb.TheConstants.{URB_HEADER}
 use Rattle.usbip_wire.specs.OpRequest.{SpellsRequest}
 use Rattle.usbip_wire.specs.Stream as stream
 use Rattle.usbip_wire.specs.Up as upward
-use Rattle.usbip_wire.specs.UpFed as up_fed
 use Rattle.usbip_wire.specs.UpFed.{Held, Fed, Answers, kept, data_of}
 use Rattle.event_text.specs.declared.reading.Reader.TheVariants.{Client}
 use Rattle.event_text.specs.declared.reading.Reader.{Reader}
@@ -20,7 +19,7 @@ use Rattle.event_text.specs.declared.reading.Step.TheVariants as step
 use Rattle.event_text.specs.Message as message
 use Rattle.event_text.specs.Message.{Message, Request, FromClient, Part, Answer, Spells, NoneWhole, devid}
 use Rattle.event_text.specs.Read.{Stepped, IsOurs, IsOurReader, IsSettled, standing_of, client_stream, client_gave, client_step, client_text, fed_with}
-use Rattle.event_text.specs.Shown.{Standing, Stops, taken, stopped}
+use Rattle.event_text.specs.Shown.{Standing, Stops, stopped}
 use Rattle.event_text.proofs.Whole.{whole_stepped}
 
 none_requests : (entries : List Outstanding) (rest : List ℕ) → stream.NoneWhole SpellsRequest rest → NoneWhole message.Requests entries rest

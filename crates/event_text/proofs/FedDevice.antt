@@ -1,5 +1,5 @@
 -- a call of a reader of a device's messages is a step
-use Rattle.std.proofs.Common.{◌≡◌, ℕ, ◌≤◌, true, false, Option, Some, None, List, [], ◌++◌, length, take, drop, refl, sym, ap, subst, ◌∙◌}
+use Rattle.std.proofs.Common.{◌≡◌, ℕ, ◌≤◌, true, false, Some, None, List, [], ◌++◌, length, take, drop, refl, sym, ap, subst, ◌∙◌}
 use Rattle.tmc_base.specs.declared.field.Field.{Field}
 use Rattle.usbip_wire.specs.declared.dirs.Outstanding.{Outstanding}
 use Rattle.usbip_wire.specs.declared.down.Down.{Down}
@@ -12,7 +12,6 @@ use Rattle.usbip_wire.specs.DevList.{SpellsPart}
 use Rattle.usbip_wire.specs.Down as downward
 use Rattle.usbip_wire.specs.DownFed as down_fed
 use Rattle.usbip_wire.specs.DownFed.{Held, Fed, Answers, kept, data_of}
-use Rattle.usbip_wire.specs.DownForm.{after}
 use Rattle.usbip_wire.specs.Stream as stream
 use Rattle.event_text.specs.declared.reading.Reader.{Reader}
 use Rattle.event_text.specs.declared.reading.Reader.TheVariants.{Device}

@@ -11,3 +11,5 @@ pub mod Progress
 pub mod Lawful
 pub mod Determined
 pub mod Refused
+pub mod Answered
+pub mod Plain

@@ -1,5 +1,5 @@
 -- no message is empty, and no field is bad in nothing
-use Rattle.std.proofs.Common.{◌≡◌, ℕ, ◌<◌, Bool, true, false, cond, eqb, Option, Some, None, List, [], ◌∷◌, ◌++◌, length, refl, sym, ap, subst, ◌∙◌, length-append, arith}
+use Rattle.std.proofs.Common.{◌≡◌, ℕ, ◌<◌, Bool, true, false, cond, eqb, Some, None, List, [], ◌∷◌, ◌++◌, length, refl, ap, length-append, arith}
 use Rattle.std.specs.Int.{to_be_bytes}
 use Rattle.tmc_base.specs.declared.field.Field.{Field}
 use Rattle.usbip_wire.specs.declared.dirs.Outstanding.{Outstanding}
@@ -10,7 +10,7 @@ use Rattle.usbip_wire.specs.declared.op_request.OpRequest.TheVariants.{DevList, 
 use Rattle.usbip_wire.specs.Device.{record_bytes}
 use Rattle.usbip_wire.specs.DevList.{SpellsPart}
 use Rattle.usbip_wire.specs.Down as downward
-use Rattle.usbip_wire.specs.DownForm.{answer_form, ops_form, reply_form, record_form, interface_form}
+use Rattle.usbip_wire.specs.DownForm.{answer_form, ops_form, record_form}
 use Rattle.usbip_wire.specs.Form.{Form, Number, Judged, Block, Done, Size, Two, Four, width, BadAt}
 use Rattle.usbip_wire.specs.Op.{op_header}
 use Rattle.usbip_wire.specs.OpRequest.{request_bytes}

@@ -1,16 +1,14 @@
 -- a script as far as it was read
-use Rattle.std.proofs.Common.{◌≡◌, ℕ, suc, ◌+◌, ◌≤◌, Option, Some, None, Result, Ok, Err, List, [], ◌∷◌, ◌++◌, length, refl, sym, ap, subst, ◌∙◌, append-nil, append_assoc, length-append, inl, inr, arith}
-use Rattle.std.specs.Prelude.{◌⊎◌}
+use Rattle.std.proofs.Common.{◌≡◌, ℕ, ◌+◌, Ok, Err, List, [], ◌∷◌, ◌++◌, length, refl, sym, ap, subst, ◌∙◌, append-nil, append_assoc, length-append, inl, inr, arith}
 use Rattle.usbip_wire.specs.declared.urb.Dir.{Dir}
-use Rattle.event_text.specs.declared.line_fault.LineWhat.{LineWhat}
 use Rattle.event_text.specs.declared.line_fault.LineWhat.TheVariants.{Unknown}
 use Rattle.event_text.specs.declared.line_stop.LineStop.{LineStop}
 use Rattle.event_text.specs.declared.line_stop.LineStop.TheVariants.{Wrong, Memory}
 use Rattle.event_text.specs.declared.script.Line.{Line}
 use Rattle.event_text.specs.declared.script.Phase.{Phase}
 use Rattle.event_text.specs.Read.{IsRead, LinePut, fault_at}
-use Rattle.event_text.specs.Script.{first_said, later_said, Say, said_fault, lines_most}
-use Rattle.event_text.specs.Shown.{Standing, begun, Prints, PrintAll, ending, Shown, ShownOf, IsScript, IsFirstFault, IsLaterFault, IsRefused, IsFaultOf}
+use Rattle.event_text.specs.Script.{first_said, later_said, Say}
+use Rattle.event_text.specs.Shown.{Standing, begun, Prints, PrintAll, ending, ShownOf, IsRefused, IsFaultOf}
 use Rattle.event_text.specs.Words.{lines_of}
 
 -- the lines before the rest are read, and this text is printed of them

@@ -1,5 +1,5 @@
 -- a script is shown or refused, and refused for one fault of one line
-use Rattle.std.proofs.Common.{⊎_elim, ◌≡◌, ℕ, suc, ◌+◌, Option, Some, None, Result, Ok, Err, List, [], ◌∷◌, ◌++◌, length, refl, sym, ap, subst, ◌∙◌, arith}
+use Rattle.std.proofs.Common.{⊎_elim, ◌≡◌, ℕ, ◌+◌, Some, None, Result, Ok, Err, List, [], ◌∷◌, ◌++◌, length, refl, sym, ap, subst, ◌∙◌, arith}
 use Rattle.usbip_wire.specs.declared.urb.Dir.{Dir}
 use Rattle.event_text.specs.declared.line_fault.LineWhat.{LineWhat}
 use Rattle.event_text.specs.declared.script.Line.{Line}
@@ -179,10 +179,10 @@ later_one laws way source number second what other a b =
     let phases : a.phase ≡ b.phase = ok_phase b.first a.phase b.phase (subst (λ z. first_said z ≡ Ok a.phase) firsts a.named) b.named in
     let moved : PrintAll (begun way b.phase) a.lines a.body a.last = subst (λ z. PrintAll (begun way z) a.lines a.body a.last) phases a.prints in
     let one =
-        one_refused laws way (begun way b.phase) 2 a.before a.lines a.body a.last a.line a.others what b.before b.lines b.body b.last b.line b.others other
-        (tail_one a.first b.first (a.before ++ a.line ∷ a.others) (b.before ++ b.line ∷ b.others) e)
-        a.said moved (placed way number (2 + length a.before) a.line a.last what a.place a.refused)
-        b.said b.prints (placed way second (2 + length b.before) b.line b.last other b.place b.refused) in
+    one_refused laws way (begun way b.phase) 2 a.before a.lines a.body a.last a.line a.others what b.before b.lines b.body b.last b.line b.others other
+    (tail_one a.first b.first (a.before ++ a.line ∷ a.others) (b.before ++ b.line ∷ b.others) e)
+    a.said moved (placed way number (2 + length a.before) a.line a.last what a.place a.refused)
+    b.said b.prints (placed way second (2 + length b.before) b.line b.last other b.place b.refused) in
     (omega (arith, a.place, b.place, one.places), one.whats)
 
 pub refusals_one : Lawful → (way : Dir) (source : List ℕ) (number second : ℕ) (what other : LineWhat) → IsRefused way source number what → IsRefused way source second other

@@ -1,14 +1,13 @@
 -- a reading is sound when it begins, and behind each call of its reader
-use Rattle.std.proofs.Common.{◌≡◌, ℕ, ◌+◌, Option, Some, None, List, [], length, refl, sym, ap, subst, ◌∙◌, length-append}
-use Rattle.tmc_base.specs.declared.field.Field.{Field}
+use Rattle.std.proofs.Common.{◌≡◌, ℕ, ◌+◌, Some, None, List, [], length, sym, ap, subst, ◌∙◌, length-append}
 use Rattle.usbip_wire.specs.declared.dirs.Outstanding.{Outstanding}
 use Rattle.usbip_wire.specs.declared.urb.Dir.{Dir}
 use Rattle.event_text.specs.declared.reading.Reader.{Reader}
 use Rattle.event_text.specs.declared.reading.Step.{Step}
 use Rattle.event_text.specs.declared.reading.Step.TheVariants.{Message, More, Bad}
 use Rattle.event_text.specs.declared.script.Phase.{Phase}
-use Rattle.event_text.specs.Read.{standing_of, IsSound, IsSettled, IsCounted, IsOurReader, Stepped, fed_with, rest_of}
-use Rattle.event_text.specs.Shown.{Standing, Stops, begun, taken, stopped}
+use Rattle.event_text.specs.Read.{standing_of, IsSound, IsSettled, IsCounted, IsOurReader, Stepped, rest_of}
+use Rattle.event_text.specs.Shown.{Standing, Stops, begun, taken}
 use Rattle.event_text.proofs.Long.{no_message, no_bad}
 
 some_none : {A : Type 0} (x : A) → Some x ≡ None → ⊥

@@ -1,8 +1,7 @@
 -- a call of a reader that completes a message is a step
-use Rattle.std.proofs.Common.{Result, Ok, Err, IfOk, ⊎_elim, ◌≡◌, ℕ, zero, suc, ◌<◌, ◌≤◌, List, [], ◌++◌, length, take, refl, sym, ap, subst, ◌∙◌, append-nil, arith}
-use Rattle.std.proofs.lemmas.Bool.{cases_lt}
+use Rattle.std.proofs.Common.{Result, Ok, Err, IfOk, ◌≡◌, ℕ, zero, suc, ◌<◌, ◌≤◌, List, [], ◌++◌, length, take, sym, ◌∙◌, append-nil, arith}
 use Rattle.event_text.specs.declared.reading.Step.TheVariants as step
-use Rattle.event_text.specs.Message.{Stream, Message, Spells, NoneWhole}
+use Rattle.event_text.specs.Message.{Message, Spells, NoneWhole}
 use Rattle.event_text.specs.Printed.{message_line}
 use Rattle.event_text.specs.Read.{Stepped}
 use Rattle.event_text.specs.Shown.{Standing, taken}

@@ -1,5 +1,5 @@
 -- what the functions of the code gave
-use Rattle.std.specs.Prelude.{◌≡◌, ⊤, ℕ, ◌+◌, ◌<◌, ◌≤◌, Option, Some, None, Result, Ok, Err, List, [], ◌++◌, length, take}
+use Rattle.std.specs.Prelude.{◌≡◌, ⊤, ℕ, ◌<◌, ◌≤◌, Option, Some, None, Result, Ok, Err, List, [], ◌++◌, length, take, Bool, false, nat_le, ◌&&◌, ◌∷◌}
 use Rattle.tmc_base.specs.declared.field.Field.{Field}
 use Rattle.usbip_wire.specs.declared.dirs.Outstanding.{Outstanding}
 use Rattle.usbip_wire.specs.declared.down.Down.{Down}
@@ -31,8 +31,14 @@ use Rattle.event_text.specs.declared.script.Line.TheVariants.{Adds, Bytes}
 use Rattle.event_text.specs.Message as message
 use Rattle.event_text.specs.Message.{Stream, Requests, Urbs, Parts, Answers, devid}
 use Rattle.event_text.specs.Printed.{message_line, request_line, submit_line, unlink_line, part_line, ret_submit_line, ret_unlink_line, bad_line}
-use Rattle.event_text.specs.Script.{lines_most, line_most, said_fault, later_said, Say}
-use Rattle.event_text.specs.Shown.{Standing, Stops, stopped, taken, Prints, bad_text}
+use Rattle.event_text.specs.Script.{lines_most, line_most, said_fault, later_said}
+use Rattle.event_text.specs.Shown.{Standing, Stops, stopped, taken, Prints}
+
+-- a word that begins with a digit, which is a zero only where it is alone
+abbrev pub starts_plain : List ℕ → Bool
+starts_plain [] = false
+starts_plain (first ∷ []) = nat_le 48 first && nat_le first 57
+starts_plain (first ∷ others) = nat_le 49 first && nat_le first 57
 
 -- the code gave what a line says, or memory was wanting
 abbrev pub IsRead : {A : Type 0} → Result A LineStop → Result A LineWhat → Type 0

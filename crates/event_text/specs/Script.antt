@@ -1,5 +1,5 @@
 -- what the lines of a script say, and their faults
-use Rattle.std.specs.Prelude.{◌≡◌, ⊤, ℕ, ◌+◌, ◌==◌, ◌&&◌, nat_le, nat_lt, Option, Some, None, is_some, Result, Ok, Err, Bool, true, false, List, [], ◌∷◌, if◌then◌else◌, codes, length}
+use Rattle.std.specs.Prelude.{◌≡◌, ℕ, ◌+◌, nat_le, nat_lt, Option, Some, None, is_some, Result, Ok, Err, List, [], ◌∷◌, if◌then◌else◌, codes, length}
 use Rattle.std.specs.Str.{bytes_eq}
 use Rattle.tmc_base.specs.declared.limits.TheConstants.{SUBMIT_MAX}
 use Rattle.usbip_wire.specs.declared.dirs.Outstanding.{Outstanding}

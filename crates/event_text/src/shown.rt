@@ -1,9 +1,12 @@
 //! What is shown of a script.
 
-ghost use Rattle.std.specs.Prelude.{◌≡◌, ◌++◌, ℕ, List, IfOk, IfErr, OnOk, OnErr, string_bytes};
+ghost use Rattle.std.specs.Prelude.{◌≡◌, ◌⊎◌, ◌++◌, Ok, Err, ℕ, List, IfOk, IfErr, OnOk, OnErr, string_bytes};
+ghost use Rattle.event_text.specs.declared.line_fault.LineFault.TheVariants.{At, Memory};
+ghost use Rattle.event_text.specs.declared.line_fault.LineWhat.{LineWhat};
 ghost use Rattle.event_text.specs.Read.{LinePut, IsSound, standing_of};
-ghost use Rattle.event_text.specs.Shown.{ShownOf, IsFaultOf};
+ghost use Rattle.event_text.specs.Shown.{ShownOf, IsFaultOf, IsRefused};
 
+use crate::laws::scripts_are_determined;
 use crate::line_fault::{LineFault, LineWhat};
 use crate::line_stop::LineStop;
 use crate::reading::Reading;
@@ -19,7 +22,11 @@ pub fn put_shown(way: Dir, source: &[u8], out: &mut Vec<u8>) -> Result<(), LineF
     ensures shown { IfOk result (λ _. (text : List ℕ) × ShownOf way source.now text × (out.new.items ≡ out.old.items ++ text)) }
     ensures refused { IfErr result (IsFaultOf way source.now) }
     ensures kept { OnErr result (out.new.items ≡ out.old.items) }
+    ensures all_shown { (text : List ℕ) → ShownOf way source.now text → (result ≡ Ok tt) ⊎ (result ≡ Err Memory) }
+    ensures all_refused { (number : ℕ) (what : LineWhat) → IsRefused way source.now number what
+        → (result ≡ Err (At number what)) ⊎ (result ≡ Err Memory) }
 {
+    scripts_are_determined();
     let text = text_of(*out.allocator(), way, source)?;
     out.extend_from_slice(text.as_bytes())
         .map_err(|_| LineFault::Memory)

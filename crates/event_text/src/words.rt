@@ -4,8 +4,8 @@ ghost use Rattle.std.specs.Prelude.{◌≡◌, ◌==◌, ◌<◌, ◌∷◌, len
 ghost use Rattle.std.specs.List.{position};
 ghost use Rattle.std.specs.Str.{bytes_eq};
 ghost use Rattle.event_text.specs.Words.{lines_of, words_of, number_of, hex_word, bytes_of};
+ghost use Rattle.event_text.specs.Read.{starts_plain};
 
-use itoa::Buffer;
 use std::alloc::Global;
 use tmc_base::{Memory, Octets};
 
@@ -46,17 +46,26 @@ pub(crate) fn is(word: &[u8], name: &str) -> bool
 pub(crate) fn read_number(word: &[u8]) -> Option<u32>
     ensures { result ≡ number_of word.now }
 {
+    if !is_plain(word) {
+        return None;
+    }
     let Ok(text) = str::from_utf8(word) else {
         return None;
     };
-    let Ok(number) = text.parse::<u32>() else {
-        return None;
-    };
-    let mut buffer = Buffer::new();
-    if buffer.format(number).as_bytes() == word {
-        Some(number)
-    } else {
-        None
+    match text.parse::<u32>() {
+        Ok(number) => Some(number),
+        Err(_) => None,
+    }
+}
+
+/// Whether a word has no sign and no leading zero.
+fn is_plain(word: &[u8]) -> bool
+    ensures { result ≡ starts_plain word.now }
+{
+    match word {
+        [b'0'] => true,
+        [first, ..] => *first >= b'1' && *first <= b'9',
+        [] => false,
     }
 }
 
