@@ -13,3 +13,4 @@ pub mod AnswerArrivals
 pub mod AnswerBulk
 pub mod AnswerControl
 pub mod Accepting
+pub mod DescriptorEnds
