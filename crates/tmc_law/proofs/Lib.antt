@@ -14,3 +14,6 @@ pub mod AnswerBulk
 pub mod AnswerControl
 pub mod Accepting
 pub mod DescriptorEnds
+pub mod Laid
+pub mod LaidSteps
+pub mod PacketLayouts
