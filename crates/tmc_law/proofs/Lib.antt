@@ -17,3 +17,4 @@ pub mod DescriptorEnds
 pub mod Laid
 pub mod LaidSteps
 pub mod PacketLayouts
+pub mod ClassLayouts
