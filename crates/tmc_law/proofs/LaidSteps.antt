@@ -118,7 +118,7 @@ executes s t laid (DoesExecute seq message waiting logs) =
 
 -- ---- Bulk-IN
 
-count_fits : (count size most : ℕ) → IsSize size → 1 ≤ count → count ≤ min size most → IsSize count
+pub count_fits : (count size most : ℕ) → IsSize size → 1 ≤ count → count ≤ min size most → IsSize count
 count_fits count size most (some, small) least within = (omega arith, omega (arith, small, within))
 
 begins : (s : State) (count : ℕ) (t : State) → IsLaid s → Begins s count t → IsLaid t

@@ -18,3 +18,4 @@ pub mod Laid
 pub mod LaidSteps
 pub mod PacketLayouts
 pub mod ClassLayouts
+pub mod PieceTransfers
