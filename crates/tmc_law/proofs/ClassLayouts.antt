@@ -2,7 +2,6 @@
 use Rattle.std.proofs.Common.{◌≡◌, ℕ, ◌<◌, ◌^◌, Bool, true, false, List, [], ◌∷◌, length, drop, Option, refl, sym, ap, subst, lit<}
 use Rattle.tmc_wire.specs.declared.class_request.ClassRequest.{ClassRequest}
 use Rattle.tmc_wire.specs.declared.class_request.ClassRequest.TheVariants as request
-use Rattle.tmc_wire.specs.declared.class_answer.ClassAnswer.{ClassAnswer}
 use Rattle.instr_plain.specs.declared.remote.RemoteAct.{RemoteAct}
 use Rattle.instr_plain.specs.declared.remote.RemoteAct.TheVariants as act
 use Rattle.tmc_law.specs.State.{State, start, Pending, Running, Nothing, AbortsOut, AbortsIn, Clears}
@@ -13,7 +12,7 @@ use Rattle.tmc_law.specs.Status as status
 use Rattle.tmc_law.specs.Class.{Operates, DoesOperate, Serves, StaysPending, capabilities_layout}
 use Rattle.tmc_law.specs.Run.{Entry, Runs}
 use Rattle.tmc_law.specs.Layouts.{IsLaidOut}
-use Rattle.tmc_law.proofs.Laid.{IsLaid, RunningFits}
+use Rattle.tmc_law.proofs.Laid.{RunningFits}
 use Rattle.tmc_law.proofs.LaidSteps.{reached}
 
 -- a layout that is another

@@ -1,5 +1,5 @@
 -- what a reader finds in the instrument's own descriptors
-use Rattle.std.proofs.Common.{◌≡◌, ℕ, ◌≤◌, List, [], ◌∷◌, refl, lit≤}
+use Rattle.std.proofs.Common.{ℕ, List, [], ◌∷◌, refl, lit≤}
 use Rattle.std.specs.List.{AllByRecursion}
 use Rattle.usb_setup.specs.Standard.{configuration_layout, interface_layout, endpoint_layout}
 use Rattle.usb_setup.specs.Identity.{own_configuration, own_interface, bulk_out, bulk_in, interrupt_in, configuration_text}
@@ -16,10 +16,16 @@ all = configuration_layout own_configuration ∷ interface_layout own_interface 
 each : AllByRecursion IsDescriptor all
 each = (
   record { counted = refl; headed = lit≤ tt; sized = lit≤ tt },
-  (record { counted = refl; headed = lit≤ tt; sized = lit≤ tt },
-  (record { counted = refl; headed = lit≤ tt; sized = lit≤ tt },
-  (record { counted = refl; headed = lit≤ tt; sized = lit≤ tt },
-  (record { counted = refl; headed = lit≤ tt; sized = lit≤ tt }, tt)))),
+  (
+    record { counted = refl; headed = lit≤ tt; sized = lit≤ tt },
+    (
+      record { counted = refl; headed = lit≤ tt; sized = lit≤ tt },
+      (
+        record { counted = refl; headed = lit≤ tt; sized = lit≤ tt },
+        (record { counted = refl; headed = lit≤ tt; sized = lit≤ tt }, tt),
+      ),
+    ),
+  ),
 )
 
 are : AreDescriptors configuration_text all

@@ -1,11 +1,11 @@
 -- what holds of every state that a device comes to: the tags and the sizes that its answers are laid out with
-use Rattle.std.proofs.Common.{◌≡◌, ℕ, ◌<◌, ◌≤◌, ◌^◌, min, Bool, true, false, if◌then◌else◌, not, ◌&&◌, List, [], ◌∷◌, ◌++◌, length, Option, Some, None, refl, sym, ap, subst, lit<, arith}
+use Rattle.std.proofs.Common.{◌≡◌, ℕ, ◌<◌, ◌^◌, Bool, true, false, if◌then◌else◌, not, ◌&&◌, List, [], ◌∷◌, ◌++◌, Option, Some, None, sym, subst, lit<, arith}
 use Rattle.tmc_wire.specs.declared.header.OutHeader.{OutHeader}
 use Rattle.tmc_wire.specs.declared.header.OutHeader.TheVariants.{Message, Request, Trigger}
 use Rattle.tmc_wire.specs.Header.{IsTag, IsSize, IsOutHeader}
 use Rattle.instr_plain.specs.declared.log.LogEntry.{LogEntry}
 use Rattle.instr_plain.specs.Standing.{Standing, polled_byte}
-use Rattle.tmc_law.specs.State.{State, start, Transfer, Side, Idle, Owed, Sending, Running, Nothing, AbortsOut, AbortsIn, Clears, Packet, StatusPacket, ServicePacket, data_given}
+use Rattle.tmc_law.specs.State.{State, start, Transfer, Side, Idle, Owed, Sending, Running, Nothing, AbortsOut, AbortsIn, Clears, Packet, StatusPacket, ServicePacket}
 use Rattle.tmc_law.specs.Logging.{Logs, with_service, is_queued, is_service}
 use Rattle.tmc_law.specs.Aborts.{cut, given_of}
 use Rattle.tmc_law.specs.Status.{IsStatusTag}

@@ -1,9 +1,9 @@
 -- each step keeps what is laid out
-use Rattle.std.proofs.Common.{◌≡◌, ℕ, ◌<◌, ◌≤◌, ◌^◌, min, true, false, List, [], ◌∷◌, ◌++◌, length, Option, Some, None, refl, sym, ap, ◌∙◌, subst, lit<, arith}
+use Rattle.std.proofs.Common.{◌≡◌, ℕ, ◌≤◌, min, true, false, List, [], ◌∷◌, Option, Some, refl, sym, ap, subst, arith}
 use Rattle.tmc_wire.specs.declared.class_request.ClassRequest.{ClassRequest}
 use Rattle.tmc_wire.specs.declared.class_request.ClassRequest.TheVariants as request
 use Rattle.tmc_wire.specs.declared.header.OutHeader.{OutHeader}
-use Rattle.tmc_wire.specs.declared.header.OutHeader.TheVariants.{Message, Request, Trigger}
+use Rattle.tmc_wire.specs.declared.header.OutHeader.TheVariants.{Request}
 use Rattle.tmc_wire.specs.Header.{IsTag, IsSize}
 use Rattle.usbip_wire.specs.declared.submit.SubmitHead.{SubmitHead}
 use Rattle.usbip_wire.specs.declared.unlink.UnlinkHead.{UnlinkHead}
@@ -13,7 +13,7 @@ use Rattle.instr_plain.specs.declared.remote.RemoteAct.TheVariants as act
 use Rattle.instr_plain.specs.declared.log.LogEntry.TheVariants as entry
 use Rattle.instr_plain.specs.Standing.{polled_byte}
 use Rattle.tmc_law.specs.Endpoint.{Endpoint, Control, BulkOut, BulkIn, InterruptIn}
-use Rattle.tmc_law.specs.State.{State, start, Pending, Running, Nothing, AbortsOut, AbortsIn, Clears, Transfer, Side, Owed, Sending, Packet, StatusPacket, with_queue}
+use Rattle.tmc_law.specs.State.{State, start, Pending, Running, Nothing, AbortsOut, AbortsIn, Clears, Transfer, Side, Owed, Packet, StatusPacket, with_queue}
 use Rattle.tmc_law.specs.Put.{Put}
 use Rattle.tmc_law.specs.Halts.{halts, HaltsItself, DoesHalt}
 use Rattle.tmc_law.specs.Queues.{Arrives, Queued, TurnedAway, Unlinks, Hits, Polled, Misses}

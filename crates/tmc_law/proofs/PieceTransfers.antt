@@ -1,5 +1,5 @@
 -- the pieces of a response
-use Rattle.std.proofs.Common.{◌≡◌, ℕ, ◌-◌, ◌%◌, ◌<◌, ◌≤◌, min, ◌==◌, Bool, true, List, [], length, take, drop, refl, sym, ap, ◌∙◌, subst, arith, length-drop}
+use Rattle.std.proofs.Common.{◌≡◌, ℕ, ◌-◌, ◌%◌, ◌<◌, ◌≤◌, ◌==◌, true, List, [], length, take, drop, refl, sym, ap, ◌∙◌, subst, arith, length-drop}
 use Rattle.std.specs.Prelude.{◌↔◌}
 use Rattle.std.proofs.lemmas.List.{length-replicate, length-take-le, nil_from_length}
 use Rattle.std.proofs.lemmas.Bool.{eq-eqb, eqb-true}
@@ -8,7 +8,7 @@ use Rattle.tmc_wire.specs.Transfer.{InText, alignment_of}
 use Rattle.tmc_wire.proofs.Sized.{response_written}
 use Rattle.instr_plain.specs.declared.log.LogEntry.TheVariants as entry
 use Rattle.instr_plain.specs.Standing.{Standing}
-use Rattle.tmc_law.specs.State.{State, start, Side, Owed, Sending}
+use Rattle.tmc_law.specs.State.{State, start, Side}
 use Rattle.tmc_law.specs.Logging.{Logs, unread}
 use Rattle.tmc_law.specs.BulkIn.{Begins, DoesBegin, piece_bytes}
 use Rattle.tmc_law.specs.Run.{Entry, Runs}
