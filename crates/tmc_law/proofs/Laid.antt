@@ -9,6 +9,8 @@ use Rattle.tmc_law.specs.State.{State, start, Transfer, Side, Idle, Owed, Sendin
 use Rattle.tmc_law.specs.Logging.{Logs, with_service, is_queued, is_service}
 use Rattle.tmc_law.specs.Aborts.{cut, given_of}
 use Rattle.tmc_law.specs.Status.{IsStatusTag}
+use Rattle.tmc_law.specs.Layouts.{IsUnderWay}
+use Rattle.tmc_law.proofs.PieceTexts.{cut_short}
 
 -- a request has a tag and a size
 abbrev pub HeaderFits : OutHeader → Type 0
@@ -23,7 +25,7 @@ TransferFits (Some transfer) = HeaderFits transfer.header
 abbrev pub SideFits : Side → Type 0
 SideFits Idle = Unit {0}
 SideFits (Owed tag size) = IsTag tag × IsSize size
-SideFits (Sending piece) = IsTag piece.tag × IsSize piece.size
+SideFits (Sending piece) = IsTag piece.tag × IsSize piece.size × IsUnderWay piece
 
 -- an abort's count has four bytes
 abbrev pub RunningFits : Running → Type 0
@@ -93,7 +95,7 @@ logged entry s t laid logs = like t _ logs.is (record {
 pub cut_fits : (side : Side) → SideFits side → SideFits (cut side)
 cut_fits Idle fits = tt
 cut_fits (Owed tag size) fits = fits
-cut_fits (Sending piece) fits = fits
+cut_fits (Sending piece) fits = (fits.0, fits.1, cut_short piece fits.2)
 
 pub given_fits : (side : Side) → SideFits side → given_of side < 2 ^ 32
 given_fits Idle fits = lit< tt

@@ -1,5 +1,5 @@
 -- each step keeps what is laid out
-use Rattle.std.proofs.Common.{◌≡◌, ℕ, ◌≤◌, min, true, false, List, [], ◌∷◌, Option, Some, refl, sym, ap, subst, arith}
+use Rattle.std.proofs.Common.{◌≡◌, ℕ, ◌*◌, ◌≤◌, min, true, false, List, [], ◌∷◌, Option, Some, refl, sym, ap, subst, arith}
 use Rattle.tmc_wire.specs.declared.class_request.ClassRequest.{ClassRequest}
 use Rattle.tmc_wire.specs.declared.class_request.ClassRequest.TheVariants as request
 use Rattle.tmc_wire.specs.declared.header.OutHeader.{OutHeader}
@@ -12,14 +12,15 @@ use Rattle.instr_plain.specs.declared.remote.RemoteAct.{RemoteAct}
 use Rattle.instr_plain.specs.declared.remote.RemoteAct.TheVariants as act
 use Rattle.instr_plain.specs.declared.log.LogEntry.TheVariants as entry
 use Rattle.instr_plain.specs.Standing.{polled_byte}
-use Rattle.tmc_law.specs.Endpoint.{Endpoint, Control, BulkOut, BulkIn, InterruptIn}
-use Rattle.tmc_law.specs.State.{State, start, Pending, Running, Nothing, AbortsOut, AbortsIn, Clears, Transfer, Side, Owed, Packet, StatusPacket, with_queue}
+use Rattle.tmc_law.specs.Endpoint.{Endpoint, Control, BulkOut, BulkIn, InterruptIn, packet_size}
+use Rattle.tmc_law.specs.State.{State, start, Pending, Piece, Running, Nothing, AbortsOut, AbortsIn, Clears, Transfer, Side, Owed, Sending, Packet, StatusPacket, with_queue}
 use Rattle.tmc_law.specs.Put.{Put}
+use Rattle.tmc_law.specs.Logging.{unread}
 use Rattle.tmc_law.specs.Halts.{halts, HaltsItself, DoesHalt}
 use Rattle.tmc_law.specs.Queues.{Arrives, Queued, TurnedAway, Unlinks, Hits, Polled, Misses}
 use Rattle.tmc_law.specs.BulkOut.{Takes, TakesEffect, Interrupts, Executes, DoesExecute, Belongs, Moves, DoesMove}
 use Rattle.tmc_law.specs.BulkOut as out
-use Rattle.tmc_law.specs.BulkIn.{Begins, DoesBegin, Fills}
+use Rattle.tmc_law.specs.BulkIn.{Begins, DoesBegin, Fills, given}
 use Rattle.tmc_law.specs.BulkIn as piece
 use Rattle.tmc_law.specs.Standard.{Standard, standard_effect}
 use Rattle.tmc_law.specs.Standard as standard
@@ -30,6 +31,7 @@ use Rattle.tmc_law.specs.Status as status
 use Rattle.tmc_law.specs.Class.{Operates, DoesOperate, Serves, Answers, ByClass, ByStandard, Unknown, Postpones, DoesPostpone, PollsFirst, DoesPollFirst}
 use Rattle.tmc_law.specs.Step.{Move, Comes, Refuses, Take, Exec, Begin, Fill, Answer, Pend, Poll, Notify, Halt, Unplug, Leads}
 use Rattle.tmc_law.specs.Run.{Entry, Runs}
+use Rattle.tmc_law.proofs.PieceTexts.{begun, goes}
 use Rattle.tmc_law.proofs.Laid.{IsLaid, HeaderFits, TransferFits, SideFits, RunningFits, PacketsFit, at_start, like, header_fits, pushed, logged, cut_fits, given_fits}
 
 -- the queues and the halts alone differ
@@ -124,12 +126,16 @@ count_fits count size most (some, small) least within = (omega arith, omega (ari
 begins : (s : State) (count : ℕ) (t : State) → IsLaid s → Begins s count t → IsLaid t
 begins s count t laid (DoesBegin tag size owed calm least most logs) =
     let fits : IsTag tag × IsSize size = subst (λ (x : Side). SideFits x) owed laid.side in
+    let counted : IsSize count = count_fits count size _ fits.1 least most in
     logged (entry.Took count) _ t (record {
       transfer = laid.transfer;
-      side = (fits.0, count_fits count size _ fits.1 least most);
+      side = (fits.0, counted, begun tag count (unread s) fits.0 counted (omega arith));
       running = laid.running;
       packets = laid.packets;
     }) logs
+
+gives : (size : ℕ) (sent : Piece) → SideFits (Sending sent) → SideFits (Sending (given size sent))
+gives size sent fits = (fits.0, fits.1, goes size sent fits.2)
 
 fills : (s : State) (count : ℕ) (puts : List Put) (t : State) → IsLaid s → Fills s count puts t → IsLaid t
 fills s count puts t laid (piece.Ends submit behind given queued running one put is) = like t _ is (record {
@@ -140,13 +146,13 @@ fills s count puts t laid (piece.Ends submit behind given queued running one put
 })
 fills s count puts t laid (piece.Inside submit behind sent queued sending calm least within room put is) = like t _ is (record {
   transfer = laid.transfer;
-  side = subst (λ (x : Side). SideFits x) sending laid.side;
+  side = gives (count * packet_size) sent (subst (λ (x : Side). SideFits x) sending laid.side);
   running = laid.running;
   packets = laid.packets;
 })
 fills s count puts t laid (piece.Full submit behind sent queued sending calm least within room put is) = like t _ is (record {
   transfer = laid.transfer;
-  side = subst (λ (x : Side). SideFits x) sending laid.side;
+  side = gives (count * packet_size) sent (subst (λ (x : Side). SideFits x) sending laid.side);
   running = laid.running;
   packets = laid.packets;
 })

@@ -14,6 +14,7 @@ pub mod AnswerBulk
 pub mod AnswerControl
 pub mod Accepting
 pub mod DescriptorEnds
+pub mod PieceTexts
 pub mod Laid
 pub mod LaidSteps
 pub mod PacketLayouts

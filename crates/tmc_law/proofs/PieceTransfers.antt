@@ -1,35 +1,19 @@
 -- the pieces of a response
-use Rattle.std.proofs.Common.{◌≡◌, ℕ, ◌-◌, ◌%◌, ◌<◌, ◌≤◌, ◌==◌, true, List, [], length, take, drop, refl, sym, ap, ◌∙◌, subst, arith, length-drop}
+use Rattle.std.proofs.Common.{◌≡◌, ℕ, ◌≤◌, ◌==◌, true, List, [], length, drop, sym, ap, ◌∙◌, subst, arith, length-drop}
 use Rattle.std.specs.Prelude.{◌↔◌}
-use Rattle.std.proofs.lemmas.List.{length-replicate, length-take-le, nil_from_length}
+use Rattle.std.proofs.lemmas.List.{nil_from_length}
 use Rattle.std.proofs.lemmas.Bool.{eq-eqb, eqb-true}
 use Rattle.tmc_wire.specs.Header.{IsTag, IsSize}
-use Rattle.tmc_wire.specs.Transfer.{InText, alignment_of}
-use Rattle.tmc_wire.proofs.Sized.{response_written}
 use Rattle.instr_plain.specs.declared.log.LogEntry.TheVariants as entry
 use Rattle.instr_plain.specs.Standing.{Standing}
-use Rattle.tmc_law.specs.State.{State, start, Side}
+use Rattle.tmc_law.specs.State.{State, start, Side, Piece, Sending}
 use Rattle.tmc_law.specs.Logging.{Logs, unread}
 use Rattle.tmc_law.specs.BulkIn.{Begins, DoesBegin, piece_bytes}
 use Rattle.tmc_law.specs.Run.{Entry, Runs}
-use Rattle.tmc_law.specs.Layouts.{BeginsTransfer}
+use Rattle.tmc_law.specs.Layouts.{BeginsTransfer, IsUnderWay}
+use Rattle.tmc_law.proofs.PieceTexts.{text}
 use Rattle.tmc_law.proofs.Laid.{IsLaid, SideFits}
 use Rattle.tmc_law.proofs.LaidSteps.{reached, count_fits}
-
-alignment_small : (size : ℕ) → length (alignment_of size) < 4
-alignment_small size = omega (arith, length-replicate {A = ℕ} ((4 - size % 4) % 4) 0)
-
--- the bytes of a piece are a transfer
-text : (tag size : ℕ) (response : List ℕ) → IsTag tag → IsSize size → size ≤ length response
-    → InText (record { tag = tag; size = size; eom = size == length response }) (take size response) (piece_bytes tag size response)
-text tag size response tagged counted within = record {
-  head = _;
-  alignment = alignment_of size;
-  headed = response_written (record { tag = tag; size = size; eom = size == length response }) tagged counted;
-  counted = length-take-le size response within;
-  least = alignment_small size;
-  layout = refl;
-}
 
 -- all of a response is taken exactly where nothing is left of it
 ends : (size : ℕ) (response : List ℕ) → size ≤ length response → ((size == length response) ≡ true) ↔ (drop size response ≡ [])
@@ -61,3 +45,6 @@ begins s count t laid (DoesBegin tag size owed calm least most logs) =
 
 pub transfers : (run : List Entry) (s t : State) (count : ℕ) → Runs start run s → Begins s count t → BeginsTransfer s count t
 transfers run s t count runs does = begins s count t (reached run s runs) does
+
+pub goes_on : (run : List Entry) (s : State) (piece : Piece) → Runs start run s → s.side ≡ Sending piece → IsUnderWay piece
+goes_on run s piece runs sending = (subst (λ (x : Side). SideFits x) sending (reached run s runs).side).2

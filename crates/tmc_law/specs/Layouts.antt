@@ -1,5 +1,5 @@
 -- what the laws on layouts speak of
-use Rattle.std.specs.Prelude.{◌≡◌, ◌↔◌, ℕ, Bool, true, List, [], length, take}
+use Rattle.std.specs.Prelude.{◌≡◌, ◌↔◌, ℕ, Bool, true, List, [], ◌++◌, length, take}
 use Rattle.tmc_wire.specs.declared.class_request.ClassRequest.{ClassRequest}
 use Rattle.tmc_wire.specs.declared.class_answer.ClassAnswer.{ClassAnswer}
 use Rattle.tmc_wire.specs.ClassAnswer.{IsAnswer, answer_length}
@@ -26,6 +26,13 @@ pub record BeginsTransfer (s : State) (count : ℕ) (t : State) : Type 0 where
   pub sending : t.side ≡ Sending piece
   pub text : InText (record { tag = tag; size = count; eom = eom }) (take count (unread s)) piece.left
   pub ends : (eom ≡ true) ↔ (unread t ≡ [])
+
+-- what is left of a piece is the end of a Bulk-IN transfer with its tag and its size
+pub record IsUnderWay (piece : Piece) : Type 0 where
+  pub front : List ℕ
+  pub message : List ℕ
+  pub eom : Bool
+  pub text : InText (record { tag = piece.tag; size = piece.size; eom = eom }) message (front ++ piece.left)
 
 -- what a queued packet tells
 abbrev pub notify_of : Packet → Notify

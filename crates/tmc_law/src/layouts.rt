@@ -6,13 +6,13 @@ ghost use Rattle.usb_setup.specs.Interface.{Finds};
 ghost use Rattle.tmc_wire.specs.declared.class_request.ClassRequest.{ClassRequest};
 ghost use Rattle.tmc_wire.specs.Notify.{IsPacket};
 ghost use Rattle.tmc_law.specs.Endpoint.{ends};
-ghost use Rattle.tmc_law.specs.State.{State, start, Pending, Packet};
+ghost use Rattle.tmc_law.specs.State.{State, start, Pending, Piece, Sending, Packet};
 ghost use Rattle.tmc_law.specs.BulkIn.{Begins};
 ghost use Rattle.tmc_law.specs.Aborts.{Served};
 ghost use Rattle.tmc_law.specs.Status.{packet_bytes};
 ghost use Rattle.tmc_law.specs.Class.{Serves, StaysPending};
 ghost use Rattle.tmc_law.specs.Run.{Entry, Runs};
-ghost use Rattle.tmc_law.specs.Layouts.{IsLaidOut, BeginsTransfer, notify_of};
+ghost use Rattle.tmc_law.specs.Layouts.{IsLaidOut, BeginsTransfer, IsUnderWay, notify_of};
 
 /// Each class request is answered by a layout of its row in the standards' tables, of the row's length. This holds of the
 /// PENDING of a check too.
@@ -24,9 +24,10 @@ pub fn class_answers_are_laid_out()
 {}
 
 /// A piece of a response begins as a Bulk-IN transfer of the first unread bytes, with the tag of its request. Its EOM is set
-/// exactly where it ends the response.
+/// exactly where it ends the response. While it is sent, what is left of it is the end of such a transfer.
 pub fn pieces_are_transfers()
-    ensures { (run : List Entry) (s t : State) (count : ℕ) → Runs start run s → Begins s count t → BeginsTransfer s count t }
+    ensures begins { (run : List Entry) (s t : State) (count : ℕ) → Runs start run s → Begins s count t → BeginsTransfer s count t }
+    ensures goes_on { (run : List Entry) (s : State) (piece : Piece) → Runs start run s → s.side ≡ Sending piece → IsUnderWay piece }
 {}
 
 /// A queued packet is an Interrupt-IN packet: one with the status byte for a request whose tag is 2 to 127, or a request for
