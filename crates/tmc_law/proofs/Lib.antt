@@ -21,3 +21,10 @@ pub mod Sound
 pub mod Hit
 pub mod Sublists
 pub mod Order
+pub mod DescriptorEnds
+pub mod PieceTexts
+pub mod Laid
+pub mod LaidSteps
+pub mod PacketLayouts
+pub mod ClassLayouts
+pub mod PieceTransfers

@@ -16,3 +16,4 @@ pub mod Step
 pub mod Run
 pub mod Told
 pub mod Laws
+pub mod Layouts

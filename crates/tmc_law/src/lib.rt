@@ -10,6 +10,7 @@
 mod dev_event;
 mod input;
 mod laws;
+mod layouts;
 mod log;
 mod output;
 #[cfg(test)]
@@ -21,6 +22,10 @@ pub use instr_plain::{LogEntry, RemoteAct};
 pub use laws::{
     a_hit_is_final, answers_are_accepted, answers_keep_order, no_more_is_taken_than_there_is,
     runs_join, the_log_grows, told_runs_are_lawful,
+};
+pub use layouts::{
+    class_answers_are_laid_out, packets_are_laid_out, pieces_are_transfers,
+    the_ends_are_the_descriptors,
 };
 pub use log::Log;
 pub use output::Output;
