@@ -41,11 +41,11 @@ turn_one laws s (m ∷ ms) (n ∷ ns) last other bad worse (front, rest, e, spel
     let r = turn_one laws (taken s m rest) ms ns last other bad worse more u back v in
     record { messages = ap (λ z. z ∷ ms) same.0 ∙ ap (λ (z : List Message). n ∷ z) r.messages; lasts = r.lasts; bads = r.bads }
 
-pub record Prints1 (text other : List ℕ) (new after : Standing) : Type 0 where
+pub record OneText (text other : List ℕ) (new after : Standing) : Type 0 where
   pub texts : text ≡ other
   pub news : new ≡ after
 
-takes_one : Lawful → (old : Standing) (piece text other : List ℕ) (new after : Standing) → Takes old piece text new → Takes old piece other after → Prints1 text other new after
+takes_one : Lawful → (old : Standing) (piece text other : List ℕ) (new after : Standing) → Takes old piece text new → Takes old piece other after → OneText text other new after
 takes_one laws old piece text other new after p q =
     let r = turn_one laws (record old { rest = old.rest ++ piece }) p.messages q.messages p.last q.last p.bad q.bad p.row p.stops q.row q.stops in
     record {
@@ -59,17 +59,17 @@ takes_one laws old piece text other new after p q =
     }
 
 gives_one : Lawful → (bad : Option Field) (old : Standing) (piece text other : List ℕ) (new after : Standing) → Gives bad old piece text new → Gives bad old piece other after
-    → Prints1 text other new after
+    → OneText text other new after
 gives_one laws None old piece text other new after p q = takes_one laws old piece text other new after p q
 gives_one laws (Some f) old piece text other new after p q = record { texts = p.0 ∙ sym q.0; news = p.1 ∙ sym q.1 }
 
 pub prints_one : Lawful → (old : Standing) (line : Line) (text other : List ℕ) (new after : Standing) → Prints old line text new → Prints old line other after
-    → Prints1 text other new after
+    → OneText text other new after
 prints_one laws old (Adds entry) text other new after p q = record { texts = p.1 ∙ sym q.1; news = p.2 ∙ sym q.2 }
 prints_one laws old (Bytes piece) text other new after p q = gives_one laws old.bad old piece text other new after p q
 
 pub print_all_one : Lawful → (old : Standing) (lines : List Line) (text other : List ℕ) (new after : Standing) → PrintAll old lines text new → PrintAll old lines other after
-    → Prints1 text other new after
+    → OneText text other new after
 print_all_one laws old [] text other new after p q = record { texts = p.0 ∙ sym q.0; news = p.1 ∙ sym q.1 }
 print_all_one laws old (line ∷ lines) text other new after (front, back, middle, e, first, more) (front2, back2, middle2, e2, first2, more2) =
     let one = prints_one laws old line front front2 middle middle2 first first2 in

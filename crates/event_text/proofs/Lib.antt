@@ -1,5 +1,6 @@
 pub mod Cuts
 pub mod Numbers
+pub mod Hexes
 pub mod Long
 pub mod Sound
 pub mod Added

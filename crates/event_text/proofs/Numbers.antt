@@ -34,3 +34,15 @@ not_number_by word none false e = refl
 
 pub not_number : (word : List ℕ) → ((n : ℕ) → n < 2 ^ 32 → word ≡ decimal n → ⊥) → None ≡ number_of word
 not_number word none = not_number_by word none _ refl
+
+number_was_by : (word : List ℕ) (n : ℕ) (b : Bool) → (ltb (digits_value 10 word) (2 ^ 32) && bytes_eq (decimal (digits_value 10 word)) word) ≡ b
+    → cond b (Some (digits_value 10 word)) None ≡ Some n → word ≡ decimal n
+number_was_by word n true e same =
+    let parts = and_parts (ltb (digits_value 10 word) (2 ^ 32)) (bytes_eq (decimal (digits_value 10 word)) word) e in
+    let value : digits_value 10 word ≡ n = cc in
+    sym ((bytes_eq-Decides (decimal (digits_value 10 word)) word).0 parts.1) ∙ ap decimal value
+number_was_by word n false e same = absurd (cc same)
+
+-- and a number is what is written of it
+pub number_was : (word : List ℕ) (n : ℕ) → number_of word ≡ Some n → word ≡ decimal n
+number_was word n same = number_was_by word n _ refl same

@@ -1,6 +1,9 @@
-//! What holds of scripts. The function does nothing, and its contract is the law.
+//! What holds of scripts. No function does anything, and its contract is the law.
 
-ghost use Rattle.std.specs.Prelude.{◌≡◌, ℕ, List};
+ghost use Rattle.std.specs.Prelude.{◌≡◌, ◌↔◌, ◌<◌, ◌^◌, ℕ, List, Some};
+ghost use Rattle.std.specs.Fmt.{decimal};
+ghost use Rattle.hex.specs.Hex.{IsBytes};
+ghost use Rattle.event_text.specs.Words.{number_of, bytes_of, hex_word};
 ghost use Rattle.usbip_wire.specs.declared.urb.Dir.{Dir};
 ghost use Rattle.event_text.specs.declared.line_fault.LineWhat.{LineWhat};
 ghost use Rattle.event_text.specs.Shown.{ShownOf, IsRefused};
@@ -9,6 +12,13 @@ use usbip_wire::{
     answers_are_determined, bad_fields_are_alone, parts_are_determined, requests_are_determined,
     urbs_are_determined,
 };
+
+/// A word is a number below 2^32 exactly where it is what is written of it, and it is HEX of bytes exactly where
+/// it is what is written of them.
+pub fn words_spell_their_values()
+    ensures numbers { (word : List ℕ) (number : ℕ) → number < 2 ^ 32 → (number_of word ≡ Some number) ↔ (word ≡ decimal number) }
+    ensures hex { (word bytes : List ℕ) → IsBytes bytes → (bytes_of word ≡ Some bytes) ↔ (word ≡ hex_word bytes) }
+{}
 
 /// A script is shown or refused and not both, with one text, or at one line for one fault.
 pub fn scripts_are_determined()

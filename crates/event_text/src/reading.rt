@@ -160,7 +160,8 @@ impl Reading {
         Ok(step)
     }
 
-    /// The number of bytes that are not part of a message yet, with this piece.
+    /// The number of bytes that are not part of a message yet, with this piece. More than a `usize` counts are
+    /// more than memory holds.
     fn kept_with(&self, piece: &[u8]) -> Result<usize, Memory>
         requires good { (standing_of self.now.reader self.now.dirs).bad ≡ None }
         requires counted { IsCounted self.now.rest (standing_of self.now.reader self.now.dirs) }
