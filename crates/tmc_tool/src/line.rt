@@ -1,6 +1,6 @@
 //! The line that `ask` reads, and whether its message can be asked.
 
-ghost use Rattle.std.specs.Prelude.{◌≡◌, ◌≤◌, MatchResult, IfOk, IfErr, ⊤, length, string_bytes};
+ghost use Rattle.std.specs.Prelude.{◌≡◌, ◌≤◌, MatchResult, IfOk, IfErr, ⊤, length};
 ghost use Rattle.tmc_tool.specs.Line.{IsFirstLine, IsAsked, Responds, message_most};
 ghost use Rattle.tmc_tool.specs.Judged.{IsRefusal};
 

@@ -1,9 +1,17 @@
-use Rattle.std.proofs.Common.{◌≡◌, ◌++◌, rules, refl, sym, ap, ◌∙◌, subst}
+use Rattle.std.proofs.Common.{◌≡◌, ℕ, List, [], ◌++◌, rules, refl, sym, ap, ◌∙◌, subst}
+use Rattle.usbip_wire.specs.declared.urb.Dir.{Dir}
 use Rattle.event_text.specs.Shown.{ShownOf, IsRefused, IsFaultOf}
 use Rattle.tmc_tool.specs.declared.command.Command.TheVariants.{Show}
 use Rattle.tmc_tool.specs.Tool.{Outside, ReadsAll}
 use Rattle.tmc_tool.proofs.Ending.{made_ends, refused_ends}
 use Rattle.tmc_tool.proofs.tool.run_show.Goals as goal
+
+-- what is read of a text that was appended to nothing is shown
+printed_shown : (way : Dir) (script source printed new old text : List ℕ) → source ≡ script → ShownOf way source text → old ≡ [] → new ≡ old ++ text → printed ≡ new
+    → ShownOf way script printed
+printed_shown way script source printed new old text same shown none appended read =
+    let whole : printed ≡ text = read ∙ (appended ∙ ap (λ xs. xs ++ text) none) in
+    subst (λ t. ShownOf way script t) (sym whole) (subst (λ s. ShownOf way s text) same shown)
 
 pub returns-in-Err-Failed : goal.returns-in-Err-Failed
 returns-in-Err-Failed g c = ((Show c.args.way, refl), search rules, record { put = refl; counts = refl })
@@ -20,10 +28,9 @@ returns-in-Ok-put_shown g c =
     let after : Outside = record { left = g.S.Source.left c.read_all.new.source; read_faults = g.S.Source.faults c.read_all.new.source; put = g.K.Sink.put c.print.new.sink; write_faults = g.K.Sink.faults c.print.new.sink } in
     let reads : ReadsAll c.in-Ok.script.items before after = record { first = c.in-Ok.ensures.first; ended = c.in-Ok.ensures.ended; counts = c.in-Ok.ensures.ok_counts } in
     let shown = c.in-Ok-put_shown.ensures.shown in
-    let printed : c.deref-in-Ok-put_shown.result.now ≡ shown.0 =
-    c.deref-in-Ok-put_shown.ensures.value ∙ (shown.2 ∙ ap (λ xs. xs ++ shown.0) c.new-text.ensures.items) in
-    let of_script : ShownOf c.args.way c.in-Ok.script.items shown.0 = subst (λ source. ShownOf c.args.way source shown.0) c.deref.ensures.value shown.1 in
-    let made : ShownOf c.args.way c.in-Ok.script.items c.deref-in-Ok-put_shown.result.now = subst (λ text. ShownOf c.args.way c.in-Ok.script.items text) (sym printed) of_script in
+    let made : ShownOf c.args.way c.in-Ok.script.items c.deref-in-Ok-put_shown.result.now =
+    printed_shown c.args.way c.in-Ok.script.items c.deref.result.now c.deref-in-Ok-put_shown.result.now c.put_shown.new.out.items c.new-text.result.items shown.0
+    c.deref.ensures.value shown.1 c.new-text.ensures.items shown.2 c.deref-in-Ok-put_shown.ensures.value in
     made_ends (Show c.args.way) before after _ _ _ reads made c.print.ensures
 
 pub returns-in-Err-At : goal.returns-in-Err-At
