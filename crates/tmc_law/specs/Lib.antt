@@ -16,3 +16,5 @@ pub mod Step
 pub mod Run
 pub mod Told
 pub mod Laws
+pub mod WorkedSession
+pub mod WorkedQuery

@@ -12,6 +12,7 @@ mod input;
 mod laws;
 mod log;
 mod output;
+mod worked;
 
 pub use dev_event::DevEvent;
 pub use input::Input;
@@ -22,3 +23,4 @@ pub use laws::{
 };
 pub use log::Log;
 pub use output::Output;
+pub use worked::a_query_is_answered;
