@@ -18,3 +18,13 @@ pub mod Told
 pub mod Laws
 pub mod WorkedSession
 pub mod WorkedQuery
+pub mod WorkedRead
+pub mod WorkedUnlink
+pub mod WorkedClear
+pub mod WorkedAbortIn
+pub mod WorkedHalt
+pub mod WorkedAbortOut
+pub mod WorkedStatus
+pub mod WorkedService
+pub mod WorkedInterrupt
+pub mod WorkedUnplug

@@ -1,14 +1,91 @@
 //! Worked runs: sessions that the law allows, and steps that it refuses. Each function does nothing, and its contract
 //! says that the run is lawful.
 
-ghost use Rattle.std.specs.Prelude.{[], ◌++◌};
+ghost use Rattle.std.specs.Prelude.{◌≡◌, ℕ, Bool, List, [], ◌++◌};
 ghost use Rattle.usbip_wire.specs.Stream.{InRow};
-ghost use Rattle.tmc_law.specs.State.{start};
+ghost use Rattle.instr_plain.specs.Standing.{power_on, at_power_on};
+ghost use Rattle.tmc_law.specs.State.{State, start, Unplugged, AbortsIn};
+ghost use Rattle.tmc_law.specs.Put.{Put};
+ghost use Rattle.tmc_law.specs.Step.{Move, Begin, Steps};
 ghost use Rattle.tmc_law.specs.Run.{Runs, outputs, SpellsPut};
-ghost use Rattle.tmc_law.specs.WorkedQuery.{asking, answering, query_log, query_down};
+ghost use Rattle.tmc_law.specs.WorkedQuery.{asking, answering, query_log, query_down, identity};
+ghost use Rattle.tmc_law.specs.WorkedRead.{reading, read_log};
+ghost use Rattle.tmc_law.specs.WorkedUnlink.{unlinking};
+ghost use Rattle.tmc_law.specs.WorkedClear.{clearing, clear_log};
+ghost use Rattle.tmc_law.specs.WorkedAbortIn.{aborting_in};
+ghost use Rattle.tmc_law.specs.WorkedAbortOut.{aborting_out};
+ghost use Rattle.tmc_law.specs.WorkedHalt.{halting};
+ghost use Rattle.tmc_law.specs.WorkedStatus.{status_asked, answer_first, packet_first, status_log};
+ghost use Rattle.tmc_law.specs.WorkedService.{requesting, service_log};
+ghost use Rattle.tmc_law.specs.WorkedInterrupt.{interrupting, interrupt_log};
+ghost use Rattle.tmc_law.specs.WorkedUnplug.{unplugging};
 
-/// The query `*IDN?`, from its arrival to the last packet of its response.
+/// The query `*IDN?`, from its arrival to the last packet of its response, and the bytes of the answers.
 pub fn a_query_is_answered()
     ensures runs { Runs start (asking ++ answering) (record start { log = query_log }) }
     ensures spelled { InRow SpellsPut (outputs (asking ++ answering)) query_down [] }
+{}
+
+/// An unlink hits a Bulk-IN submit with a packet in it, and a second one misses. The packet is lost, and the next
+/// submit has the rest of the response.
+pub fn an_unlink_loses_packets()
+    ensures { Runs start (reading ++ unlinking) (record start { log = read_log }) }
+{}
+
+/// A message in two submits is aborted between them, checked, and Bulk-OUT made usable again. Nothing is left of it.
+pub fn a_split_message_is_aborted()
+    ensures { Runs start aborting_out start }
+{}
+
+/// A clear ends a Bulk-IN submit with the packet that it had, and halts Bulk-OUT.
+pub fn a_response_is_cleared()
+    ensures { Runs start (reading ++ clearing) (record start { log = clear_log }) }
+{}
+
+/// An abort of Bulk-IN ends the submit with a packet of length 0.
+pub fn a_response_is_aborted()
+    ensures { Runs start (reading ++ aborting_in) (record start { log = read_log }) }
+{}
+
+/// A halt of Bulk-IN ends the submit with the packet that it had, and drops the rest of the response.
+pub fn a_halt_drops_a_response()
+    ensures { Runs start (reading ++ halting) (record start { log = read_log }) }
+{}
+
+/// The status byte comes in a packet, behind the answer to its request or before it.
+pub fn a_status_comes_before_or_behind()
+    ensures behind { Runs start (status_asked ++ answer_first) (record start { log = status_log }) }
+    ensures before { Runs start (status_asked ++ packet_first) (record start { log = status_log }) }
+{}
+
+/// A response that was made available requests service, and a poll takes the request back.
+pub fn a_response_requests_service()
+    ensures { Runs start requesting (record start {
+        log = service_log;
+        standing = record { state = record power_on { sre = 16 }; unread = identity; rqs = false };
+    }) }
+{}
+
+/// A message drops the unread response of the one before it, and sets QYE beside PON.
+pub fn a_message_interrupts_a_response()
+    ensures { Runs start interrupting (record start {
+        log = interrupt_log;
+        standing = record at_power_on { state = record power_on { esr = 132 }; unread = identity };
+    }) }
+{}
+
+/// Unplugging answers the submits of all endpoints.
+pub fn unplugging_answers_all()
+    ensures { Runs start unplugging (record start { presence = Unplugged }) }
+{}
+
+/// Nothing happens to a device that is unplugged.
+pub fn nothing_follows_unplugging()
+    ensures { (s t : State) (move : Move) (puts : List Put) → s.presence ≡ Unplugged → Steps s move puts t → ⊥ }
+{}
+
+/// No piece begins while an abort of Bulk-IN runs.
+pub fn no_piece_begins_in_an_abort()
+    ensures { (s t : State) (wanting : Bool) (given count : ℕ) (puts : List Put) → s.running ≡ AbortsIn wanting given
+        → Steps s (Begin count) puts t → ⊥ }
 {}

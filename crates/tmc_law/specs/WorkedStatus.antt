@@ -1,0 +1,34 @@
+-- the status byte is read, and comes in a packet: behind the answer to its request, or before it
+use Rattle.std.specs.Prelude.{ℕ, List, [], ◌∷◌}
+use Rattle.usbip_wire.specs.declared.submit.SubmitHead.{SubmitHead}
+use Rattle.instr_plain.specs.declared.log.LogEntry.{LogEntry}
+use Rattle.instr_plain.specs.declared.log.LogEntry.TheVariants as entry
+use Rattle.tmc_law.specs.Put.{success}
+use Rattle.tmc_law.specs.Step.{Answer, Poll, Notify}
+use Rattle.tmc_law.specs.Run.{Entry}
+use Rattle.tmc_law.specs.WorkedSession.{notify_submit, asking_submit, submits, step, answered}
+
+-- READ_STATUS_BYTE with tag 5
+abbrev pub status_submit : SubmitHead
+status_submit = asking_submit 2 3 (0xA1 ∷ 0x80 ∷ 0x05 ∷ 0x00 ∷ 0x00 ∷ 0x00 ∷ 0x03 ∷ 0x00 ∷ [])
+
+-- up to the request
+abbrev pub status_asked : List Entry
+status_asked = submits (notify_submit 1 8) [] ∷ submits status_submit [] ∷ []
+
+-- the answer: SUCCESS and the tag, and no status byte
+abbrev pub answer_first : List Entry
+answer_first =
+    step Answer (answered status_submit success 3 (0x01 ∷ 0x05 ∷ 0x00 ∷ []) ∷ [])
+    ∷ step Notify (answered (notify_submit 1 8) success 2 (0x85 ∷ 0x00 ∷ []) ∷ [])
+    ∷ []
+
+abbrev pub packet_first : List Entry
+packet_first =
+    step Poll []
+    ∷ step Notify (answered (notify_submit 1 8) success 2 (0x85 ∷ 0x00 ∷ []) ∷ [])
+    ∷ step Answer (answered status_submit success 3 (0x01 ∷ 0x05 ∷ 0x00 ∷ []) ∷ [])
+    ∷ []
+
+abbrev pub status_log : List LogEntry
+status_log = entry.Poll 2 ∷ []
