@@ -5,3 +5,5 @@ pub mod Unspoiled
 pub mod Taking
 pub mod Messages
 pub mod Query
+pub mod Read
+pub mod Unlinking

@@ -77,12 +77,12 @@ executes_query = record {
   leads = (DoesExecute 1 (codes "*IDN?") refl (record { standing = record at_power_on { unread = identity }; after = (identifies _, refl); is = refl }), refl);
 }
 
-request_good : IsGood executed request_text (Request 2 4000)
-request_good = record {
-  idle = refl;
+pub request_good : (s : State) → s.side ≡ Idle → s.part ≡ [] → IsGood s request_text (Request 2 4000)
+request_good s idle none = record {
+  idle = idle;
   fine = record { long = lit≤ tt; known = refl; tagged = eqb-false _ _ refl; inverse = refl; counted = inr (eqb-false _ _ refl) };
   headed = record { reserved = 0; attributes = 0; ninth = 0; tenth = 0; eleventh = 0; tagged = (lit< tt, lit< tt); counted = (lit< tt, lit< tt); accepted = tt; layout = refl };
-  suits = refl;
+  suits = none;
 }
 
 some_identity : identity ≢ []
@@ -91,7 +91,7 @@ some_identity e = cc
 takes_request : Steps executed (Take 1) (answered request_submit success 12 [] ∷ []) requested
 takes_request =
     takes_whole executed requested (arrived request_submit request_text) [] (Request 2 4000)
-    (record { plugged = refl; none_waits = refl; none_runs = refl; first = refl; good = request_good; some = eqb-false _ _ refl; one = refl; moves = DoesMove refl refl; fits = refl; full = refl })
+    (record { plugged = refl; none_waits = refl; none_runs = refl; first = refl; good = request_good executed refl refl; some = eqb-false _ _ refl; one = refl; moves = DoesMove refl refl; fits = refl; full = refl })
     (Requests 2 4000 refl some_identity refl)
 
 begins_response : Steps requested (Begin 19) [] sends

@@ -5,7 +5,8 @@ use Rattle.tmc_law.specs.Put.{success}
 use Rattle.tmc_law.specs.Step.{Answer, Fill}
 use Rattle.tmc_law.specs.Run.{Entry}
 use Rattle.tmc_law.specs.WorkedSession.{asking_submit, submits, step, answered}
-use Rattle.tmc_law.specs.WorkedRead.{response_submit, first_packet}
+use Rattle.tmc_law.specs.WorkedQuery.{response_submit}
+use Rattle.tmc_law.specs.WorkedRead.{first_packet}
 
 -- INITIATE_ABORT_BULK_IN of the transfer with tag 2
 abbrev pub abort_submit : SubmitHead

@@ -8,7 +8,8 @@ use Rattle.tmc_law.specs.Put.{success, stalled}
 use Rattle.tmc_law.specs.Step.{Comes, Answer}
 use Rattle.tmc_law.specs.Run.{Entry}
 use Rattle.tmc_law.specs.WorkedSession.{out_submit, asking_submit, telling_submit, submits, step, answered}
-use Rattle.tmc_law.specs.WorkedRead.{response_submit, request_text, first_packet, read_log}
+use Rattle.tmc_law.specs.WorkedQuery.{request_text, response_submit}
+use Rattle.tmc_law.specs.WorkedRead.{first_packet, read_log}
 
 -- INITIATE_CLEAR
 abbrev pub clear_submit : SubmitHead

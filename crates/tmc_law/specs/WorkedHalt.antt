@@ -7,7 +7,8 @@ use Rattle.tmc_law.specs.Put.{success, stalled}
 use Rattle.tmc_law.specs.Step.{Comes, Answer, Halt}
 use Rattle.tmc_law.specs.Run.{Entry}
 use Rattle.tmc_law.specs.WorkedSession.{in_submit, asking_submit, telling_submit, submits, step, answered}
-use Rattle.tmc_law.specs.WorkedRead.{response_submit, first_packet}
+use Rattle.tmc_law.specs.WorkedQuery.{response_submit}
+use Rattle.tmc_law.specs.WorkedRead.{first_packet}
 
 -- GET_STATUS of Bulk-IN
 abbrev pub status_submit : SubmitHead

@@ -7,24 +7,15 @@ use Rattle.instr_plain.specs.declared.log.LogEntry.TheVariants as entry
 use Rattle.tmc_law.specs.Put.{success}
 use Rattle.tmc_law.specs.Step.{Take, Exec, Begin, Fill}
 use Rattle.tmc_law.specs.Run.{Entry}
-use Rattle.tmc_law.specs.WorkedSession.{out_submit, in_submit, submits, step, answered}
+use Rattle.tmc_law.specs.WorkedSession.{out_submit, submits, step, answered}
+use Rattle.tmc_law.specs.WorkedQuery.{request_submit, request_text, response_submit}
 
 abbrev pub read_submit : SubmitHead
 read_submit = out_submit 1 20
 
-abbrev pub request_submit : SubmitHead
-request_submit = out_submit 2 12
-
-abbrev pub response_submit : SubmitHead
-response_submit = in_submit 3 4096
-
 -- DEV_DEP_MSG_OUT, tag 1, 8 bytes that end the message
 abbrev pub read_text : List ℕ
 read_text = 0x01 ∷ 0x01 ∷ 0xfe ∷ 0x00 ∷ 0x08 ∷ 0x00 ∷ 0x00 ∷ 0x00 ∷ 0x01 ∷ 0x00 ∷ 0x00 ∷ 0x00 ∷ [] ++ codes "READ? 60"
-
--- REQUEST_DEV_DEP_MSG_IN, tag 2, at most 4000 bytes
-abbrev pub request_text : List ℕ
-request_text = 0x02 ∷ 0x02 ∷ 0xfd ∷ 0x00 ∷ 0xa0 ∷ 0x0f ∷ 0x00 ∷ 0x00 ∷ 0x00 ∷ 0x00 ∷ 0x00 ∷ 0x00 ∷ []
 
 -- the response: a block of 60 samples, and NL
 abbrev pub block : List ℕ
