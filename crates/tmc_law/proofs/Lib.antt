@@ -7,3 +7,5 @@ pub mod Messages
 pub mod Query
 pub mod Read
 pub mod Unlinking
+pub mod Answering
+pub mod AbortingOut
