@@ -9,3 +9,6 @@ pub mod Read
 pub mod Unlinking
 pub mod Answering
 pub mod AbortingOut
+pub mod Clearing
+pub mod AbortingIn
+pub mod Halting
