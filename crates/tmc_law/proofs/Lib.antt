@@ -12,3 +12,7 @@ pub mod AbortingOut
 pub mod Clearing
 pub mod AbortingIn
 pub mod Halting
+pub mod Statuses
+pub mod Service
+pub mod Interrupting
+pub mod Unplugging

@@ -55,20 +55,20 @@ sends = record requested {
 abbrev pub done : State
 done = record start { log = query_log }
 
-query_good : IsGood came query_text (Message 1 5 true)
-query_good = record {
-  idle = refl;
+pub query_good : (s : State) → s.side ≡ Idle → s.part ≡ [] → IsGood s query_text (Message 1 5 true)
+query_good s idle none = record {
+  idle = idle;
   fine = record { long = lit≤ tt; known = refl; tagged = eqb-false _ _ refl; inverse = refl; counted = inr (eqb-false _ _ refl) };
   headed = record { reserved = 0; attributes = 1; ninth = 0; tenth = 0; eleventh = 0; tagged = (lit< tt, lit< tt); counted = (lit< tt, lit< tt); accepted = refl; layout = refl };
-  suits = lit≤ tt;
+  suits = rw none (lit≤ tt);
 }
 
 takes_query : Steps came (Take 1) (answered query_submit success 20 [] ∷ []) waits
 takes_query =
     takes_whole came waits (arrived query_submit query_text) (arrived request_submit request_text ∷ []) (Message 1 5 true)
-    (record { plugged = refl; none_waits = refl; none_runs = refl; first = refl; good = query_good; some = eqb-false _ _ refl; one = refl; moves = DoesMove refl refl; fits = refl; full = refl })
+    (record { plugged = refl; none_waits = refl; none_runs = refl; first = refl; good = query_good came refl refl; some = eqb-false _ _ refl; one = refl; moves = DoesMove refl refl; fits = refl; full = refl })
     (Last 1 5 (codes "*IDN?") (record came { bulk_out = arrived request_submit request_text ∷ [] }) refl
-      (record { head = 0x01 ∷ 0x01 ∷ 0xfe ∷ 0x00 ∷ 0x05 ∷ 0x00 ∷ 0x00 ∷ 0x00 ∷ 0x01 ∷ 0x00 ∷ 0x00 ∷ 0x00 ∷ []; alignment = 0x00 ∷ 0x00 ∷ 0x00 ∷ []; headed = query_good.headed; counted = refl; least = lit< tt; aligned = refl; layout = refl })
+      (record { head = 0x01 ∷ 0x01 ∷ 0xfe ∷ 0x00 ∷ 0x05 ∷ 0x00 ∷ 0x00 ∷ 0x00 ∷ 0x01 ∷ 0x00 ∷ 0x00 ∷ 0x00 ∷ []; alignment = 0x00 ∷ 0x00 ∷ 0x00 ∷ []; headed = (query_good came refl refl).headed; counted = refl; least = lit< tt; aligned = refl; layout = refl })
       (NothingUnread refl refl) refl)
 
 executes_query : Steps waits Exec [] executed
@@ -85,7 +85,7 @@ request_good s idle none = record {
   suits = none;
 }
 
-some_identity : identity ≢ []
+pub some_identity : identity ≢ []
 some_identity e = cc
 
 takes_request : Steps executed (Take 1) (answered request_submit success 12 [] ∷ []) requested

@@ -8,10 +8,10 @@ use Rattle.tmc_law.specs.Step.{Take, Exec, Answer, Notify}
 use Rattle.tmc_law.specs.Run.{Entry}
 use Rattle.tmc_law.specs.WorkedSession.{out_submit, notify_submit, asking_submit, submits, step, answered}
 
--- DEV_DEP_MSG_OUT, tag 1, 14 bytes that end the message
+-- DEV_DEP_MSG_OUT, tag 1, 13 bytes that end the message
 abbrev pub enabling_text : List ℕ
 enabling_text =
-    0x01 ∷ 0x01 ∷ 0xfe ∷ 0x00 ∷ 0x0e ∷ 0x00 ∷ 0x00 ∷ 0x00 ∷ 0x01 ∷ 0x00 ∷ 0x00 ∷ 0x00 ∷ [] ++ (codes "*SRE 16;*IDN?" ++ 0x00 ∷ 0x00 ∷ [])
+    0x01 ∷ 0x01 ∷ 0xfe ∷ 0x00 ∷ 0x0d ∷ 0x00 ∷ 0x00 ∷ 0x00 ∷ 0x01 ∷ 0x00 ∷ 0x00 ∷ 0x00 ∷ [] ++ (codes "*SRE 16;*IDN?" ++ 0x00 ∷ 0x00 ∷ 0x00 ∷ [])
 
 -- READ_STATUS_BYTE with tag 2
 abbrev pub status_submit : SubmitHead

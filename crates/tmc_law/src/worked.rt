@@ -1,7 +1,7 @@
 //! Worked runs: sessions that the law allows, and steps that it refuses. Each function does nothing, and its contract
 //! says that the run is lawful.
 
-ghost use Rattle.std.specs.Prelude.{◌≡◌, ℕ, Bool, List, [], ◌++◌};
+ghost use Rattle.std.specs.Prelude.{◌≡◌, ℕ, Bool, false, List, [], ◌++◌};
 ghost use Rattle.usbip_wire.specs.Stream.{InRow};
 ghost use Rattle.instr_plain.specs.Standing.{power_on, at_power_on};
 ghost use Rattle.tmc_law.specs.State.{State, start, Unplugged, AbortsIn};

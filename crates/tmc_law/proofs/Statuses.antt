@@ -1,0 +1,86 @@
+-- the status byte is read, step by step
+use Rattle.std.proofs.Common.{◌≡◌, ℕ, Bool, true, false, List, [], ◌∷◌, refl, lit<, lit≤}
+use Rattle.tmc_wire.specs.declared.class_request.ClassRequest.TheVariants.{ReadStatus}
+use Rattle.tmc_wire.specs.ControlTable.{row}
+use Rattle.instr_plain.specs.declared.log.LogEntry.TheVariants as entry
+use Rattle.instr_plain.specs.Standing.{at_power_on}
+use Rattle.tmc_law.specs.Endpoint.{ends}
+use Rattle.tmc_law.specs.State.{State, Pending, start, arrived, StatusPacket}
+use Rattle.tmc_law.specs.Put.{success}
+use Rattle.tmc_law.specs.Control.{Asks}
+use Rattle.tmc_law.specs.Status.{DoesPoll, PolledNow, PolledBefore, Gives}
+use Rattle.tmc_law.specs.Class.{DoesPollFirst}
+use Rattle.tmc_law.specs.Step.{Steps, Answer, Poll, Notify}
+use Rattle.tmc_law.specs.Run.{Runs}
+use Rattle.tmc_law.specs.WorkedSession.{notify_submit, answered}
+use Rattle.tmc_law.specs.WorkedStatus.{status_submit, status_asked, answer_first, packet_first, status_log}
+use Rattle.tmc_law.proofs.Coming.{notify_comes, asking_comes}
+use Rattle.tmc_law.proofs.Answering.{answers_class}
+
+abbrev notify_came : State
+notify_came = record start { interrupt_in = arrived (notify_submit 1 8) [] ∷ [] }
+
+abbrev pub status_came : State
+status_came = record notify_came { control = arrived status_submit [] ∷ [] }
+
+abbrev pub done : State
+done = record start { log = status_log }
+
+status_asks : Asks (arrived status_submit []) (row ends (ReadStatus 5))
+status_asks = record { fits = record { request_type = lit< tt; request = lit< tt; value = lit< tt; index = lit< tt; length = lit< tt }; layout = refl }
+
+pub asks : Runs start status_asked status_came
+asks = (
+  notify_came, notify_comes start 1 8 (record { plugged = refl; free = refl; few = refl }) (lit< tt) (lit≤ tt) refl,
+  (status_came, asking_comes notify_came 2 3 0xA1 _ (record { plugged = refl; free = refl; few = refl }) (lit< tt) (lit≤ tt) refl refl, refl),
+)
+
+-- the answer, and then the packet
+abbrev answered_first : State
+answered_first = record notify_came { packets = StatusPacket 5 0 ∷ []; log = status_log }
+
+answers_now : Steps status_came Answer (answered status_submit success 3 (0x01 ∷ 0x05 ∷ 0x00 ∷ []) ∷ []) answered_first
+answers_now = answers_class status_came (arrived status_submit []) [] (ReadStatus 5) (record { layout = 0x01 ∷ 0x05 ∷ 0x00 ∷ []; behind = []; state = answered_first })
+    refl refl status_asks (lit< tt)
+    (PolledNow answered_first (lit≤ tt, lit≤ tt) refl refl
+      (DoesPoll (record notify_came { log = status_log }) (record { standing = at_power_on; after = refl; is = refl }) refl) refl)
+
+pub answers_then_notifies : Runs status_came answer_first done
+answers_then_notifies = (
+  answered_first, answers_now,
+  (done, record { plugged = refl; leads = Gives (arrived (notify_submit 1 8) []) [] (StatusPacket 5 0) [] refl refl (lit≤ tt) refl refl }, refl),
+)
+
+-- the packet, and then the answer
+abbrev polled : Pending
+polled = record (arrived status_submit []) { polled = true }
+
+abbrev polled_first : State
+polled_first = record answered_first { control = polled ∷ [] }
+
+abbrev notified_first : State
+notified_first = record start { control = polled ∷ []; log = status_log }
+
+polls : Steps status_came Poll [] polled_first
+polls = record {
+  plugged = refl;
+  leads = (
+    DoesPollFirst (arrived status_submit []) [] (row ends (ReadStatus 5)) 5 refl status_asks (record { fits = lit< tt; is = refl }) (lit≤ tt, lit≤ tt) refl refl
+      (DoesPoll (record notify_came { control = polled ∷ []; log = status_log }) (record { standing = at_power_on; after = refl; is = refl }) refl),
+    refl,
+  );
+}
+
+polled_asks : Asks polled (row ends (ReadStatus 5))
+polled_asks = record { fits = status_asks.fits; layout = refl }
+
+answers_later : Steps notified_first Answer (answered status_submit success 3 (0x01 ∷ 0x05 ∷ 0x00 ∷ []) ∷ []) done
+answers_later = answers_class notified_first polled [] (ReadStatus 5) (record { layout = 0x01 ∷ 0x05 ∷ 0x00 ∷ []; behind = []; state = done })
+    refl refl polled_asks (lit< tt) (PolledBefore (lit≤ tt, lit≤ tt) refl refl)
+
+pub notifies_then_answers : Runs status_came packet_first done
+notifies_then_answers = (
+  polled_first, polls,
+  (notified_first, record { plugged = refl; leads = Gives (arrived (notify_submit 1 8) []) [] (StatusPacket 5 0) [] refl refl (lit≤ tt) refl refl },
+    (done, answers_later, refl)),
+)
