@@ -59,11 +59,27 @@ checks_late = answers_class late_came (arrived (check_submit 6) []) [] CheckIn (
 
 pub aborts_in : Runs half aborting_in done
 aborts_in = (
-  abort_came, asking_comes half 4 2 0xA2 _ (record { plugged = refl; free = refl; few = refl }) (lit< tt) (lit≤ tt) refl refl,
-  (aborted, aborts,
-    (early_came, asking_comes aborted 5 8 0xA2 _ (record { plugged = refl; free = refl; few = refl }) (lit< tt) (lit≤ tt) refl refl,
-      (aborted, checks_early,
-        (ended, ends_transfer,
-          (late_came, asking_comes ended 6 8 0xA2 _ (record { plugged = refl; free = refl; few = refl }) (lit< tt) (lit≤ tt) refl refl,
-            (done, checks_late, refl)))))),
+  abort_came,
+  asking_comes half 4 2 0xA2 _ (record { plugged = refl; free = refl; few = refl }) (lit< tt) (lit≤ tt) refl refl,
+  (
+    aborted,
+    aborts,
+    (
+      early_came,
+      asking_comes aborted 5 8 0xA2 _ (record { plugged = refl; free = refl; few = refl }) (lit< tt) (lit≤ tt) refl refl,
+      (
+        aborted,
+        checks_early,
+        (
+          ended,
+          ends_transfer,
+          (
+            late_came,
+            asking_comes ended 6 8 0xA2 _ (record { plugged = refl; free = refl; few = refl }) (lit< tt) (lit≤ tt) refl refl,
+            (done, checks_late, refl),
+          ),
+        ),
+      ),
+    ),
+  ),
 )

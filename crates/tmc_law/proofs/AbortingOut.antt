@@ -64,8 +64,8 @@ takes_first = record {
   leads = (
     refl,
     SubmitEnds first (record first { left = []; moved = first_text }) [] (begun (Message 1 100 true)) (record { header = Message 1 100 true; taken = first_text }) refl (eqb-false _ _ refl) refl
-      (unspoiled first_came first (Message 1 100 true) refl first_good (fits_full first (begun (Message 1 100 true)) (lit≤ tt) refl))
-      (begins first_came first (Message 1 100 true) refl first_good) (DoesMove refl refl) (eqb-false _ _ refl) refl refl,
+        (unspoiled first_came first (Message 1 100 true) refl first_good (fits_full first (begun (Message 1 100 true)) (lit≤ tt) refl))
+        (begins first_came first (Message 1 100 true) refl first_good) (DoesMove refl refl) (eqb-false _ _ refl) refl refl,
   );
 }
 
@@ -91,7 +91,7 @@ postpones : Steps (check_came 4) Pend (answered (check_submit 4) success 8 (0x02
 postpones = record {
   plugged = refl;
   leads = DoesPostpone (arrived (check_submit 4) []) [] (row ends CheckOut) CheckOut (0x02 ∷ 0x00 ∷ 0x00 ∷ 0x00 ∷ 0x00 ∷ 0x00 ∷ 0x00 ∷ 0x00 ∷ [])
-    refl (check_asks 4) (record { fits = tt; is = refl }) refl refl refl;
+      refl (check_asks 4) (record { fits = tt; is = refl }) refl refl refl;
 }
 
 checks : Steps (check_came 5) Answer (answered (check_submit 5) success 8 (0x01 ∷ 0x00 ∷ 0x00 ∷ 0x00 ∷ 0x00 ∷ 0x00 ∷ 0x00 ∷ 0x00 ∷ []) ∷ []) checked
@@ -102,15 +102,43 @@ becomes_usable = answers_standard usable_came (arrived usable_submit []) [] usab
 
 pub aborts_out : Runs start aborting_out start
 aborts_out = (
-  first_came, out_comes start 1 64 first_text (record { plugged = refl; free = refl; few = refl }) (lit< tt) (lit≤ tt) refl refl,
-  (split, takes_first,
-    (second_came, out_comes split 2 48 second_text (record { plugged = refl; free = refl; few = refl }) (lit< tt) (lit≤ tt) refl refl,
-      (abort_came, asking_comes second_came 3 2 0xA2 _ (record { plugged = refl; free = refl; few = refl }) (lit< tt) (lit≤ tt) refl refl,
-        (aborted, aborts,
-          (check_came 4, asking_comes aborted 4 8 0xA2 _ (record { plugged = refl; free = refl; few = refl }) (lit< tt) (lit≤ tt) refl refl,
-            (aborted, postpones,
-              (check_came 5, asking_comes aborted 5 8 0xA2 _ (record { plugged = refl; free = refl; few = refl }) (lit< tt) (lit≤ tt) refl refl,
-                (checked, checks,
-                  (usable_came, telling_comes checked 6 0x02 _ (record { plugged = refl; free = refl; few = refl }) (lit< tt) refl refl,
-                    (start, becomes_usable, refl)))))))))),
+  first_came,
+  out_comes start 1 64 first_text (record { plugged = refl; free = refl; few = refl }) (lit< tt) (lit≤ tt) refl refl,
+  (
+    split,
+    takes_first,
+    (
+      second_came,
+      out_comes split 2 48 second_text (record { plugged = refl; free = refl; few = refl }) (lit< tt) (lit≤ tt) refl refl,
+      (
+        abort_came,
+        asking_comes second_came 3 2 0xA2 _ (record { plugged = refl; free = refl; few = refl }) (lit< tt) (lit≤ tt) refl refl,
+        (
+          aborted,
+          aborts,
+          (
+            check_came 4,
+            asking_comes aborted 4 8 0xA2 _ (record { plugged = refl; free = refl; few = refl }) (lit< tt) (lit≤ tt) refl refl,
+            (
+              aborted,
+              postpones,
+              (
+                check_came 5,
+                asking_comes aborted 5 8 0xA2 _ (record { plugged = refl; free = refl; few = refl }) (lit< tt) (lit≤ tt) refl refl,
+                (
+                  checked,
+                  checks,
+                  (
+                    usable_came,
+                    telling_comes checked 6 0x02 _ (record { plugged = refl; free = refl; few = refl }) (lit< tt) refl refl,
+                    (start, becomes_usable, refl),
+                  ),
+                ),
+              ),
+            ),
+          ),
+        ),
+      ),
+    ),
+  ),
 )

@@ -78,11 +78,27 @@ becomes_usable = answers_standard usable_came (arrived usable_submit []) [] usab
 
 pub clears_all : Runs half clearing done
 clears_all = (
-  clear_came, asking_comes half 4 1 0xA1 _ (record { plugged = refl; free = refl; few = refl }) (lit< tt) (lit≤ tt) refl refl,
-  (cleared, clears,
-    (cleared, turns_away,
-      (check_came, asking_comes cleared 6 2 0xA1 _ (record { plugged = refl; free = refl; few = refl }) (lit< tt) (lit≤ tt) refl refl,
-        (checked, checks,
-          (usable_came, telling_comes checked 7 0x02 _ (record { plugged = refl; free = refl; few = refl }) (lit< tt) refl refl,
-            (done, becomes_usable, refl)))))),
+  clear_came,
+  asking_comes half 4 1 0xA1 _ (record { plugged = refl; free = refl; few = refl }) (lit< tt) (lit≤ tt) refl refl,
+  (
+    cleared,
+    clears,
+    (
+      cleared,
+      turns_away,
+      (
+        check_came,
+        asking_comes cleared 6 2 0xA1 _ (record { plugged = refl; free = refl; few = refl }) (lit< tt) (lit≤ tt) refl refl,
+        (
+          checked,
+          checks,
+          (
+            usable_came,
+            telling_comes checked 7 0x02 _ (record { plugged = refl; free = refl; few = refl }) (lit< tt) refl refl,
+            (done, becomes_usable, refl),
+          ),
+        ),
+      ),
+    ),
+  ),
 )

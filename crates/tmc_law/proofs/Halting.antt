@@ -69,10 +69,23 @@ becomes_usable = answers_standard usable_came (arrived usable_submit []) [] usab
 
 pub halts_in : Runs half halting done
 halts_in = (
-  halted, halts,
-  (halted, turns_away,
-    (status_came, asking_comes halted 5 2 0x82 _ (record { plugged = refl; free = refl; few = refl }) (lit< tt) (lit≤ tt) refl refl,
-      (halted, tells_status,
-        (usable_came, telling_comes halted 6 0x02 _ (record { plugged = refl; free = refl; few = refl }) (lit< tt) refl refl,
-          (done, becomes_usable, refl))))),
+  halted,
+  halts,
+  (
+    halted,
+    turns_away,
+    (
+      status_came,
+      asking_comes halted 5 2 0x82 _ (record { plugged = refl; free = refl; few = refl }) (lit< tt) (lit≤ tt) refl refl,
+      (
+        halted,
+        tells_status,
+        (
+          usable_came,
+          telling_comes halted 6 0x02 _ (record { plugged = refl; free = refl; few = refl }) (lit< tt) refl refl,
+          (done, becomes_usable, refl),
+        ),
+      ),
+    ),
+  ),
 )

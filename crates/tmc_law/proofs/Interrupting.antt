@@ -48,8 +48,8 @@ takes_first =
     takes_whole first_came first_waits (arrived (out_submit 1 20) query_text) [] (Message 1 5 true)
     (record { plugged = refl; none_waits = refl; none_runs = refl; first = refl; good = query_good first_came refl refl; some = eqb-false _ _ refl; one = refl; moves = DoesMove refl refl; fits = refl; full = refl })
     (Last 1 5 (codes "*IDN?") start refl
-      (record { head = 0x01 ∷ 0x01 ∷ 0xfe ∷ 0x00 ∷ 0x05 ∷ 0x00 ∷ 0x00 ∷ 0x00 ∷ 0x01 ∷ 0x00 ∷ 0x00 ∷ 0x00 ∷ []; alignment = 0x00 ∷ 0x00 ∷ 0x00 ∷ []; headed = (query_good first_came refl refl).headed; counted = refl; least = lit< tt; aligned = refl; layout = refl })
-      (NothingUnread refl refl) refl)
+    (record { head = 0x01 ∷ 0x01 ∷ 0xfe ∷ 0x00 ∷ 0x05 ∷ 0x00 ∷ 0x00 ∷ 0x00 ∷ 0x01 ∷ 0x00 ∷ 0x00 ∷ 0x00 ∷ []; alignment = 0x00 ∷ 0x00 ∷ 0x00 ∷ []; headed = (query_good first_came refl refl).headed; counted = refl; least = lit< tt; aligned = refl; layout = refl })
+    (NothingUnread refl refl) refl)
 
 second_good : IsGood second_came second_text (Message 2 5 true)
 second_good = record {
@@ -64,8 +64,8 @@ takes_second =
     takes_whole second_came second_waits (arrived (out_submit 2 20) second_text) [] (Message 2 5 true)
     (record { plugged = refl; none_waits = refl; none_runs = refl; first = refl; good = second_good; some = eqb-false _ _ refl; one = refl; moves = DoesMove refl refl; fits = refl; full = refl })
     (Last 2 5 (codes "*IDN?") dropped refl
-      (record { head = 0x01 ∷ 0x02 ∷ 0xfd ∷ 0x00 ∷ 0x05 ∷ 0x00 ∷ 0x00 ∷ 0x00 ∷ 0x01 ∷ 0x00 ∷ 0x00 ∷ 0x00 ∷ []; alignment = 0x00 ∷ 0x00 ∷ 0x00 ∷ []; headed = second_good.headed; counted = refl; least = lit< tt; aligned = refl; layout = refl })
-      (Dropped refl some_identity (record { standing = dropped.standing; after = refl; is = refl })) refl)
+    (record { head = 0x01 ∷ 0x02 ∷ 0xfd ∷ 0x00 ∷ 0x05 ∷ 0x00 ∷ 0x00 ∷ 0x00 ∷ 0x01 ∷ 0x00 ∷ 0x00 ∷ 0x00 ∷ []; alignment = 0x00 ∷ 0x00 ∷ 0x00 ∷ []; headed = second_good.headed; counted = refl; least = lit< tt; aligned = refl; layout = refl })
+    (Dropped refl some_identity (record { standing = dropped.standing; after = refl; is = refl })) refl)
 
 executes_first : Steps first_waits Exec [] executed
 executes_first = record {
@@ -81,9 +81,19 @@ executes_second = record {
 
 pub interrupts : Runs start interrupting done
 interrupts = (
-  first_came, out_comes start 1 20 query_text (record { plugged = refl; free = refl; few = refl }) (lit< tt) (lit≤ tt) refl refl,
-  (first_waits, takes_first,
-    (executed, executes_first,
-      (second_came, out_comes executed 2 20 second_text (record { plugged = refl; free = refl; few = refl }) (lit< tt) (lit≤ tt) refl refl,
-        (second_waits, takes_second, (done, executes_second, refl))))),
+  first_came,
+  out_comes start 1 20 query_text (record { plugged = refl; free = refl; few = refl }) (lit< tt) (lit≤ tt) refl refl,
+  (
+    first_waits,
+    takes_first,
+    (
+      executed,
+      executes_first,
+      (
+        second_came,
+        out_comes executed 2 20 second_text (record { plugged = refl; free = refl; few = refl }) (lit< tt) (lit≤ tt) refl refl,
+        (second_waits, takes_second, (done, executes_second, refl)),
+      ),
+    ),
+  ),
 )

@@ -141,8 +141,13 @@ enable_program = record {
   text = kinds (codes "*SRE 16;*IDN?");
   ended = false;
   spelled = refl;
-  message = (0, 0, kinds (codes "*SRE 16;*IDN?"), refl,
-    (kinds (codes "*SRE 16"), kinds (codes "*IDN?"), 0, 0, refl, enable_unit, identification_unit));
+  message = (
+    0,
+    0,
+    kinds (codes "*SRE 16;*IDN?"),
+    refl,
+    (kinds (codes "*SRE 16"), kinds (codes "*IDN?"), 0, 0, refl, enable_unit, identification_unit),
+  );
 }
 
 -- MAV is enabled, and then there is a response

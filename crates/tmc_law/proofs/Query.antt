@@ -68,8 +68,8 @@ takes_query =
     takes_whole came waits (arrived query_submit query_text) (arrived request_submit request_text ∷ []) (Message 1 5 true)
     (record { plugged = refl; none_waits = refl; none_runs = refl; first = refl; good = query_good came refl refl; some = eqb-false _ _ refl; one = refl; moves = DoesMove refl refl; fits = refl; full = refl })
     (Last 1 5 (codes "*IDN?") (record came { bulk_out = arrived request_submit request_text ∷ [] }) refl
-      (record { head = 0x01 ∷ 0x01 ∷ 0xfe ∷ 0x00 ∷ 0x05 ∷ 0x00 ∷ 0x00 ∷ 0x00 ∷ 0x01 ∷ 0x00 ∷ 0x00 ∷ 0x00 ∷ []; alignment = 0x00 ∷ 0x00 ∷ 0x00 ∷ []; headed = (query_good came refl refl).headed; counted = refl; least = lit< tt; aligned = refl; layout = refl })
-      (NothingUnread refl refl) refl)
+    (record { head = 0x01 ∷ 0x01 ∷ 0xfe ∷ 0x00 ∷ 0x05 ∷ 0x00 ∷ 0x00 ∷ 0x00 ∷ 0x01 ∷ 0x00 ∷ 0x00 ∷ 0x00 ∷ []; alignment = 0x00 ∷ 0x00 ∷ 0x00 ∷ []; headed = (query_good came refl refl).headed; counted = refl; least = lit< tt; aligned = refl; layout = refl })
+    (NothingUnread refl refl) refl)
 
 executes_query : Steps waits Exec [] executed
 executes_query = record {
@@ -111,11 +111,15 @@ pub asks : Runs start asking requested
 asks = (
   query_came,
   out_comes start 1 20 query_text (record { plugged = refl; free = refl; few = refl }) (lit< tt) (lit≤ tt) refl refl,
-  (request_came,
+  (
+    request_came,
     out_comes query_came 2 12 request_text (record { plugged = refl; free = refl; few = refl }) (lit< tt) (lit≤ tt) refl refl,
-    (came,
+    (
+      came,
       in_comes request_came 3 4096 (record { plugged = refl; free = refl; few = refl }) (lit< tt) (lit≤ tt) refl,
-      (waits, takes_query, (executed, executes_query, (requested, takes_request, refl))))),
+      (waits, takes_query, (executed, executes_query, (requested, takes_request, refl))),
+    ),
+  ),
 )
 
 pub answers : Runs requested answering done

@@ -73,8 +73,8 @@ takes_read =
     takes_whole came waits (arrived read_submit read_text) (arrived request_submit request_text ∷ []) (Message 1 8 true)
     (record { plugged = refl; none_waits = refl; none_runs = refl; first = refl; good = read_good; some = eqb-false _ _ refl; one = refl; moves = DoesMove refl refl; fits = refl; full = refl })
     (Last 1 8 (codes "READ? 60") (record came { bulk_out = arrived request_submit request_text ∷ [] }) refl
-      (record { head = 0x01 ∷ 0x01 ∷ 0xfe ∷ 0x00 ∷ 0x08 ∷ 0x00 ∷ 0x00 ∷ 0x00 ∷ 0x01 ∷ 0x00 ∷ 0x00 ∷ 0x00 ∷ []; alignment = []; headed = read_good.headed; counted = refl; least = lit< tt; aligned = refl; layout = refl })
-      (NothingUnread refl refl) refl)
+    (record { head = 0x01 ∷ 0x01 ∷ 0xfe ∷ 0x00 ∷ 0x08 ∷ 0x00 ∷ 0x00 ∷ 0x00 ∷ 0x01 ∷ 0x00 ∷ 0x00 ∷ 0x00 ∷ []; alignment = []; headed = read_good.headed; counted = refl; least = lit< tt; aligned = refl; layout = refl })
+    (NothingUnread refl refl) refl)
 
 executes_read : Steps waits Exec [] executed
 executes_read = record {
@@ -108,9 +108,13 @@ pub reads_half : Runs start reading half
 reads_half = (
   read_came,
   out_comes start 1 20 read_text (record { plugged = refl; free = refl; few = refl }) (lit< tt) (lit≤ tt) refl refl,
-  (request_came,
+  (
+    request_came,
     out_comes read_came 2 12 request_text (record { plugged = refl; free = refl; few = refl }) (lit< tt) (lit≤ tt) refl refl,
-    (came,
+    (
+      came,
       in_comes request_came 3 4096 (record { plugged = refl; free = refl; few = refl }) (lit< tt) (lit≤ tt) refl,
-      (waits, takes_read, (executed, executes_read, (requested, takes_request, (sends, begins_block, (half, fills_first, refl))))))),
+      (waits, takes_read, (executed, executes_read, (requested, takes_request, (sends, begins_block, (half, fills_first, refl))))),
+    ),
+  ),
 )

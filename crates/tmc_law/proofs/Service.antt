@@ -67,8 +67,8 @@ takes_enabling =
     takes_whole came waits (arrived (out_submit 1 28) enabling_text) [] (Message 1 13 true)
     (record { plugged = refl; none_waits = refl; none_runs = refl; first = refl; good = enabling_good; some = eqb-false _ _ refl; one = refl; moves = DoesMove refl refl; fits = refl; full = refl })
     (Last 1 13 (codes "*SRE 16;*IDN?") start refl
-      (record { head = 0x01 ∷ 0x01 ∷ 0xfe ∷ 0x00 ∷ 0x0d ∷ 0x00 ∷ 0x00 ∷ 0x00 ∷ 0x01 ∷ 0x00 ∷ 0x00 ∷ 0x00 ∷ []; alignment = 0x00 ∷ 0x00 ∷ 0x00 ∷ []; headed = enabling_good.headed; counted = refl; least = lit< tt; aligned = refl; layout = refl })
-      (NothingUnread refl refl) refl)
+    (record { head = 0x01 ∷ 0x01 ∷ 0xfe ∷ 0x00 ∷ 0x0d ∷ 0x00 ∷ 0x00 ∷ 0x00 ∷ 0x01 ∷ 0x00 ∷ 0x00 ∷ 0x00 ∷ []; alignment = 0x00 ∷ 0x00 ∷ 0x00 ∷ []; headed = enabling_good.headed; counted = refl; least = lit< tt; aligned = refl; layout = refl })
+    (NothingUnread refl refl) refl)
 
 executes_enabling : Steps waits Exec [] executed
 executes_enabling = record {
@@ -83,17 +83,39 @@ answers_status : Steps status_came Answer (answered status_submit success 3 (0x0
 answers_status = answers_class status_came (arrived status_submit []) [] (ReadStatus 2) (record { layout = 0x01 ∷ 0x02 ∷ 0x00 ∷ []; behind = []; state = polled })
     refl refl status_asks (lit< tt)
     (PolledNow polled (lit≤ tt, lit≤ tt) refl refl
-      (DoesPoll (record polled { packets = [] }) (record { standing = available false; after = refl; is = refl }) refl) refl)
+    (DoesPoll (record polled { packets = [] }) (record { standing = available false; after = refl; is = refl }) refl) refl)
 
 pub requests_service : Runs start requesting done
 requests_service = (
-  came, out_comes start 1 28 enabling_text (record { plugged = refl; free = refl; few = refl }) (lit< tt) (lit≤ tt) refl refl,
-  (waits, takes_enabling,
-    (executed, executes_enabling,
-      (notify_came, notify_comes executed 2 8 (record { plugged = refl; free = refl; few = refl }) (lit< tt) (lit≤ tt) refl,
-        (notified, record { plugged = refl; leads = Gives (arrived (notify_submit 2 8) []) [] (ServicePacket 80) [] refl refl (lit≤ tt) refl refl },
-          (status_came, asking_comes notified 3 3 0xA1 _ (record { plugged = refl; free = refl; few = refl }) (lit< tt) (lit≤ tt) refl refl,
-            (polled, answers_status,
-              (second_came, notify_comes polled 4 8 (record { plugged = refl; free = refl; few = refl }) (lit< tt) (lit≤ tt) refl,
-                (done, record { plugged = refl; leads = Gives (arrived (notify_submit 4 8) []) [] (StatusPacket 2 80) [] refl refl (lit≤ tt) refl refl }, refl)))))))),
+  came,
+  out_comes start 1 28 enabling_text (record { plugged = refl; free = refl; few = refl }) (lit< tt) (lit≤ tt) refl refl,
+  (
+    waits,
+    takes_enabling,
+    (
+      executed,
+      executes_enabling,
+      (
+        notify_came,
+        notify_comes executed 2 8 (record { plugged = refl; free = refl; few = refl }) (lit< tt) (lit≤ tt) refl,
+        (
+          notified,
+          record { plugged = refl; leads = Gives (arrived (notify_submit 2 8) []) [] (ServicePacket 80) [] refl refl (lit≤ tt) refl refl },
+          (
+            status_came,
+            asking_comes notified 3 3 0xA1 _ (record { plugged = refl; free = refl; few = refl }) (lit< tt) (lit≤ tt) refl refl,
+            (
+              polled,
+              answers_status,
+              (
+                second_came,
+                notify_comes polled 4 8 (record { plugged = refl; free = refl; few = refl }) (lit< tt) (lit≤ tt) refl,
+                (done, record { plugged = refl; leads = Gives (arrived (notify_submit 4 8) []) [] (StatusPacket 2 80) [] refl refl (lit≤ tt) refl refl }, refl),
+              ),
+            ),
+          ),
+        ),
+      ),
+    ),
+  ),
 )

@@ -29,26 +29,32 @@ code_small Out = lit< tt
 code_small In = lit< tt
 
 pub submit_spelled : (head : SubmitHead) (transferred : List ℕ) → IsSent head transferred → (bytes : List ℕ) × Spells (up.Submit head transferred) bytes
-submit_spelled head transferred sent = (submit.submit_bytes head submit.unused transferred, record {
-  rest = submit.unused;
-  imported = sent.imported;
-  endpoint = sent.endpoint;
-  short = sent.short;
-  packets = inl refl;
-  setup = sent.setup;
-  carried = sent.carried;
-  wide = each_wide (submit.submit_words head submit.unused) (lit< tt, (sent.number, (omega (arith, sent.imported), (code_small head.dir, (omega (arith, sent.endpoint), (lit< tt, (omega (arith, sent.short), (lit< tt, (lit< tt, (lit< tt, tt))))))))));
-  layout = refl;
-})
+submit_spelled head transferred sent = (
+  submit.submit_bytes head submit.unused transferred,
+  record {
+    rest = submit.unused;
+    imported = sent.imported;
+    endpoint = sent.endpoint;
+    short = sent.short;
+    packets = inl refl;
+    setup = sent.setup;
+    carried = sent.carried;
+    wide = each_wide (submit.submit_words head submit.unused) (lit< tt, (sent.number, (omega (arith, sent.imported), (code_small head.dir, (omega (arith, sent.endpoint), (lit< tt, (omega (arith, sent.short), (lit< tt, (lit< tt, (lit< tt, tt))))))))));
+    layout = refl;
+  },
+)
 
 pub unlink_spelled : (head : UnlinkHead) → head.devid ≡ devid → head.seqnum < 2 ^ 32 → head.target < 2 ^ 32 → (bytes : List ℕ) × Spells (up.Unlink head) bytes
-unlink_spelled head imported number target = (unlink.unlink_bytes head unlink.unused, record {
-  rest = unlink.unused;
-  imported = imported;
-  padded = refl;
-  wide = each_wide (unlink.unlink_words head unlink.unused) (lit< tt, (number, (omega arith, (lit< tt, (lit< tt, (target, tt))))));
-  layout = refl;
-})
+unlink_spelled head imported number target = (
+  unlink.unlink_bytes head unlink.unused,
+  record {
+    rest = unlink.unused;
+    imported = imported;
+    padded = refl;
+    wide = each_wide (unlink.unlink_words head unlink.unused) (lit< tt, (number, (omega arith, (lit< tt, (lit< tt, (target, tt))))));
+    layout = refl;
+  },
+)
 
 -- the answer to a submit that succeeded
 abbrev pub succeeded : (seqnum actual : ℕ) → RetSubmitHead
@@ -62,7 +68,7 @@ success_spelled head actual transferred number small within returned = record {
   packets = inl refl;
   status = refl;
   wide = each_wide (ret.ret_submit_words (succeeded head.seqnum actual) ret.unused)
-    (lit< tt, (number, (lit< tt, (lit< tt, (lit< tt, (lit< tt, (small, (lit< tt, (lit< tt, (lit< tt, (lit< tt, (lit< tt, tt))))))))))));
+      (lit< tt, (number, (lit< tt, (lit< tt, (lit< tt, (lit< tt, (small, (lit< tt, (lit< tt, (lit< tt, (lit< tt, (lit< tt, tt))))))))))));
   returned = returned;
   layout = refl;
 }

@@ -31,7 +31,8 @@ status_asks = record { fits = record { request_type = lit< tt; request = lit< tt
 
 pub asks : Runs start status_asked status_came
 asks = (
-  notify_came, notify_comes start 1 8 (record { plugged = refl; free = refl; few = refl }) (lit< tt) (lit≤ tt) refl,
+  notify_came,
+  notify_comes start 1 8 (record { plugged = refl; free = refl; few = refl }) (lit< tt) (lit≤ tt) refl,
   (status_came, asking_comes notify_came 2 3 0xA1 _ (record { plugged = refl; free = refl; few = refl }) (lit< tt) (lit≤ tt) refl refl, refl),
 )
 
@@ -43,11 +44,12 @@ answers_now : Steps status_came Answer (answered status_submit success 3 (0x01 �
 answers_now = answers_class status_came (arrived status_submit []) [] (ReadStatus 5) (record { layout = 0x01 ∷ 0x05 ∷ 0x00 ∷ []; behind = []; state = answered_first })
     refl refl status_asks (lit< tt)
     (PolledNow answered_first (lit≤ tt, lit≤ tt) refl refl
-      (DoesPoll (record notify_came { log = status_log }) (record { standing = at_power_on; after = refl; is = refl }) refl) refl)
+    (DoesPoll (record notify_came { log = status_log }) (record { standing = at_power_on; after = refl; is = refl }) refl) refl)
 
 pub answers_then_notifies : Runs status_came answer_first done
 answers_then_notifies = (
-  answered_first, answers_now,
+  answered_first,
+  answers_now,
   (done, record { plugged = refl; leads = Gives (arrived (notify_submit 1 8) []) [] (StatusPacket 5 0) [] refl refl (lit≤ tt) refl refl }, refl),
 )
 
@@ -66,7 +68,7 @@ polls = record {
   plugged = refl;
   leads = (
     DoesPollFirst (arrived status_submit []) [] (row ends (ReadStatus 5)) 5 refl status_asks (record { fits = lit< tt; is = refl }) (lit≤ tt, lit≤ tt) refl refl
-      (DoesPoll (record notify_came { control = polled ∷ []; log = status_log }) (record { standing = at_power_on; after = refl; is = refl }) refl),
+        (DoesPoll (record notify_came { control = polled ∷ []; log = status_log }) (record { standing = at_power_on; after = refl; is = refl }) refl),
     refl,
   );
 }
@@ -80,7 +82,11 @@ answers_later = answers_class notified_first polled [] (ReadStatus 5) (record { 
 
 pub notifies_then_answers : Runs status_came packet_first done
 notifies_then_answers = (
-  polled_first, polls,
-  (notified_first, record { plugged = refl; leads = Gives (arrived (notify_submit 1 8) []) [] (StatusPacket 5 0) [] refl refl (lit≤ tt) refl refl },
-    (done, answers_later, refl)),
+  polled_first,
+  polls,
+  (
+    notified_first,
+    record { plugged = refl; leads = Gives (arrived (notify_submit 1 8) []) [] (StatusPacket 5 0) [] refl refl (lit≤ tt) refl refl },
+    (done, answers_later, refl),
+  ),
 )

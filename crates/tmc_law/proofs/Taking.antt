@@ -34,7 +34,7 @@ takes_whole s t submit behind header whole effect = record {
   leads = (
     whole.none_waits,
     TransferEnds submit (all_taken submit) behind (begun header) (record { header = header; taken = submit.left }) whole.first whole.some (rw whole.one refl)
-      (unspoiled s submit header whole.none_runs whole.good (fits_whole submit (begun header) whole.fits))
-      (begins s submit header whole.none_runs whole.good) whole.moves whole.full effect refl,
+        (unspoiled s submit header whole.none_runs whole.good (fits_whole submit (begun header) whole.fits))
+        (begins s submit header whole.none_runs whole.good) whole.moves whole.full effect refl,
   );
 }

@@ -22,14 +22,20 @@ pub unlinks : Runs half unlinking (record start { log = read_log })
 unlinks = (
   unlinked,
   unlink_comes half unlinked 4 3 _ refl (lit< tt) (lit< tt) (Hits BulkIn [] part_filled [] refl refl refl refl refl),
-  (unlinked,
+  (
+    unlinked,
     unlink_comes unlinked unlinked 5 3 _ refl (lit< tt) (lit< tt) (Misses tt refl refl),
-    (next_came,
+    (
+      next_came,
       in_comes unlinked 6 4096 (record { plugged = refl; free = refl; few = refl }) (lit< tt) (lit≤ tt) refl,
-      (record start { log = read_log },
+      (
+        record start { log = read_log },
         record {
           plugged = refl;
           leads = Short (arrived (in_submit 6 4096) []) [] (record { tag = 2; size = 65; left = second_packet }) 0 refl refl tt refl (inl refl) (lit≤ tt) (lit< tt) (lit≤ tt) refl refl;
         },
-        refl))),
+        refl,
+      ),
+    ),
+  ),
 )

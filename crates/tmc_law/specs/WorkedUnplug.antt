@@ -18,9 +18,9 @@ unplugging =
     ∷ submits (out_submit 3 20) query_text
     ∷ submits pulse_submit []
     ∷ step Unplug
-      (answered pulse_submit unplugged 0 []
-        ∷ answered (out_submit 3 20) unplugged 0 []
-        ∷ answered (in_submit 2 4096) unplugged 0 []
-        ∷ answered (notify_submit 1 8) unplugged 0 []
-        ∷ [])
+    (answered pulse_submit unplugged 0 []
+    ∷ answered (out_submit 3 20) unplugged 0 []
+    ∷ answered (in_submit 2 4096) unplugged 0 []
+    ∷ answered (notify_submit 1 8) unplugged 0 []
+    ∷ [])
     ∷ []

@@ -61,16 +61,16 @@ pub fn a_status_comes_before_or_behind()
 /// A response that was made available requests service, and a poll takes the request back.
 pub fn a_response_requests_service()
     ensures { Runs start requesting (record start {
-        log = service_log;
-        standing = record { state = record power_on { sre = 16 }; unread = identity; rqs = false };
+      log = service_log;
+      standing = record { state = record power_on { sre = 16 }; unread = identity; rqs = false };
     }) }
 {}
 
 /// A message drops the unread response of the one before it, and sets QYE beside PON.
 pub fn a_message_interrupts_a_response()
     ensures { Runs start interrupting (record start {
-        log = interrupt_log;
-        standing = record at_power_on { state = record power_on { esr = 132 }; unread = identity };
+      log = interrupt_log;
+      standing = record at_power_on { state = record power_on { esr = 132 }; unread = identity };
     }) }
 {}
 

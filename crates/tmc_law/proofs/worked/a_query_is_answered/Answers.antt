@@ -18,13 +18,17 @@ returns-clause-spelled c = (
   ret_submit_bytes (succeeded 2 12) unused [] ++ (ret_submit_bytes (succeeded 3 32) unused response_text ++ []),
   refl,
   success_spelled query_submit 20 [] (lit< tt) (lit< tt) (lit≤ tt) refl,
-  (ret_submit_bytes (succeeded 2 12) unused [],
+  (
+    ret_submit_bytes (succeeded 2 12) unused [],
     ret_submit_bytes (succeeded 3 32) unused response_text ++ [],
     refl,
     success_spelled request_submit 12 [] (lit< tt) (lit< tt) (lit≤ tt) refl,
-    (ret_submit_bytes (succeeded 3 32) unused response_text,
+    (
+      ret_submit_bytes (succeeded 3 32) unused response_text,
       [],
       refl,
       success_spelled response_submit 32 response_text (lit< tt) (lit< tt) (lit≤ tt) refl,
-      refl)),
+      refl,
+    ),
+  ),
 )
