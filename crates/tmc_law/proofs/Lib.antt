@@ -16,3 +16,7 @@ pub mod Statuses
 pub mod Service
 pub mod Interrupting
 pub mod Unplugging
+pub mod Parts
+pub mod Bare
+pub mod Triggering
+pub mod Spoiled

@@ -16,6 +16,7 @@ use Rattle.instr_plain.specs.Command.{unit_of}
 use Rattle.instr_plain.specs.Standing.{power_on}
 use Rattle.tmc_law.specs.WorkedQuery.{identity}
 use Rattle.tmc_law.specs.WorkedRead.{block}
+use Rattle.tmc_law.specs.WorkedParts.{spaced}
 
 identification_unit : IsUnit (kinds (codes "*IDN?")) (unit_of IdentificationQuery)
 unfolding kind_of
@@ -158,6 +159,26 @@ enables = inl (record {
   end = performed IdentificationQuery (performed (ServiceEnable (whole_number 16)) (begun power_on));
   program = enable_program;
   executes = inl (ServiceEnable (whole_number 16), refl, inl (IdentificationQuery, refl, refl));
+  leaves = refl;
+  answers = refl;
+})
+
+spaced_program : Program spaced (unit_of IdentificationQuery ∷ [])
+unfolding kind_of
+spaced_program = record {
+  text = kinds spaced;
+  ended = false;
+  spelled = refl;
+  message = (100, 0, kinds (codes "*IDN?"), refl, identification_unit);
+}
+
+-- spaces in front of `*IDN?` are passed over
+pub identifies_behind_spaces : (state : Plain) → Exec state spaced state identity
+identifies_behind_spaces state = inl (record {
+  units = unit_of IdentificationQuery ∷ [];
+  end = performed IdentificationQuery (begun state);
+  program = spaced_program;
+  executes = inl (IdentificationQuery, refl, refl);
   leaves = refl;
   answers = refl;
 })

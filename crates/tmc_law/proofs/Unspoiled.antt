@@ -117,6 +117,11 @@ unspoiled s submit header none good fits (ByHeader n refused) = not_refused s su
 unspoiled s submit header none good fits (ByLength transfer belongs fresh misfits) =
     fits (subst (λ (t : Transfer). Misfits submit t) (belongs_one s submit header transfer none good belongs) misfits)
 
+-- nothing is spoiled inside a submit
+pub unspoiled_inside : (s : State) (submit : Pending) (transfer : Transfer) → s.transfer ≡ Some transfer → submit.moved ≢ [] → Spoils s submit → ⊥
+unspoiled_inside s submit transfer runs some (ByHeader none refused) = let e : None ≡ Some transfer = sym none ∙ runs in cc
+unspoiled_inside s submit transfer runs some (ByLength other belongs fresh misfits) = some fresh
+
 -- a submit that is the rest of a transfer, or has full packets of it
 pub fits_whole : (submit : Pending) (transfer : Transfer) → wants transfer ≡ submit.head.length → Misfits submit transfer → ⊥
 fits_whole submit transfer is (inl long) = omega (arith, long)

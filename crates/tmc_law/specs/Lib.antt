@@ -28,3 +28,7 @@ pub mod WorkedStatus
 pub mod WorkedService
 pub mod WorkedInterrupt
 pub mod WorkedUnplug
+pub mod WorkedParts
+pub mod WorkedBare
+pub mod WorkedTrigger
+pub mod WorkedSpoiled

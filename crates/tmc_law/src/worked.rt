@@ -19,6 +19,10 @@ ghost use Rattle.tmc_law.specs.WorkedStatus.{status_asked, answer_first, packet_
 ghost use Rattle.tmc_law.specs.WorkedService.{requesting, service_log};
 ghost use Rattle.tmc_law.specs.WorkedInterrupt.{interrupting, interrupt_log};
 ghost use Rattle.tmc_law.specs.WorkedUnplug.{unplugging};
+ghost use Rattle.tmc_law.specs.WorkedParts.{sending_parts, parts_log};
+ghost use Rattle.tmc_law.specs.WorkedBare.{requesting_nothing, bare_log};
+ghost use Rattle.tmc_law.specs.WorkedTrigger.{triggering, trigger_log};
+ghost use Rattle.tmc_law.specs.WorkedSpoiled.{sending_unknown, sending_long};
 
 /// The query `*IDN?`, from its arrival to the last packet of its response, and the bytes of the answers.
 pub fn a_query_is_answered()
@@ -77,6 +81,36 @@ pub fn a_message_interrupts_a_response()
 /// Unplugging answers the submits of all endpoints.
 pub fn unplugging_answers_all()
     ensures { Runs start unplugging (record start { presence = Unplugged }) }
+{}
+
+/// A message in two transfers, of which the first takes two packets.
+pub fn a_message_comes_in_parts()
+    ensures { Runs start sending_parts (record start {
+      log = parts_log;
+      standing = record at_power_on { unread = identity };
+    }) }
+{}
+
+/// A request where there is no response sets QYE beside PON, and stays until it is aborted.
+pub fn a_bare_request_is_aborted()
+    ensures { Runs start requesting_nothing (record start {
+      log = bare_log;
+      standing = record at_power_on { state = record power_on { esr = 132 } };
+    }) }
+{}
+
+/// A trigger is counted.
+pub fn a_trigger_is_counted()
+    ensures { Runs start triggering (record start {
+      log = trigger_log;
+      standing = record at_power_on { state = record power_on { acquisitions = 1 } };
+    }) }
+{}
+
+/// A header that is none, or a submit that is too long for its transfer, halts Bulk-OUT until its halt is cleared.
+pub fn spoiled_submits_halt()
+    ensures header { Runs start sending_unknown start }
+    ensures size { Runs start sending_long start }
 {}
 
 /// Nothing happens to a device that is unplugged.
