@@ -20,3 +20,4 @@ pub mod Parts
 pub mod Bare
 pub mod Triggering
 pub mod Spoiled
+pub mod Overflowing

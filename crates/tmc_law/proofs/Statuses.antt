@@ -4,17 +4,18 @@ use Rattle.tmc_wire.specs.declared.class_request.ClassRequest.TheVariants.{ReadS
 use Rattle.tmc_wire.specs.ControlTable.{row}
 use Rattle.instr_plain.specs.declared.log.LogEntry.TheVariants as entry
 use Rattle.instr_plain.specs.Standing.{at_power_on}
-use Rattle.tmc_law.specs.Endpoint.{ends}
+use Rattle.tmc_law.specs.Endpoint.{Control, ends}
 use Rattle.tmc_law.specs.State.{State, Pending, start, arrived, StatusPacket}
 use Rattle.tmc_law.specs.Put.{success}
 use Rattle.tmc_law.specs.Control.{Asks}
-use Rattle.tmc_law.specs.Status.{DoesPoll, PolledNow, PolledBefore, Gives}
+use Rattle.tmc_law.specs.Queues.{Polled}
+use Rattle.tmc_law.specs.Status.{DoesPoll, PolledNow, PolledBefore, Gives, NoRoom}
 use Rattle.tmc_law.specs.Class.{DoesPollFirst}
 use Rattle.tmc_law.specs.Step.{Steps, Answer, Poll, Notify}
 use Rattle.tmc_law.specs.Run.{Runs}
 use Rattle.tmc_law.specs.WorkedSession.{notify_submit, answered}
-use Rattle.tmc_law.specs.WorkedStatus.{status_submit, status_asked, answer_first, packet_first, status_log}
-use Rattle.tmc_law.proofs.Coming.{notify_comes, asking_comes}
+use Rattle.tmc_law.specs.WorkedStatus.{status_submit, status_asked, answer_first, packet_first, unlink_behind_poll, no_room, status_log}
+use Rattle.tmc_law.proofs.Coming.{notify_comes, asking_comes, unlink_comes}
 use Rattle.tmc_law.proofs.Answering.{answers_class}
 
 abbrev notify_came : State
@@ -88,5 +89,56 @@ notifies_then_answers = (
     notified_first,
     record { plugged = refl; leads = Gives (arrived (notify_submit 1 8) []) [] (StatusPacket 5 0) [] refl refl (lit≤ tt) refl refl },
     (done, answers_later, refl),
+  ),
+)
+
+-- the request is unlinked behind its poll
+pub polls_then_unlinks : Runs status_came unlink_behind_poll done
+polls_then_unlinks = (
+  polled_first,
+  polls,
+  (
+    answered_first,
+    unlink_comes polled_first answered_first 3 2 _ refl (lit< tt) (lit< tt)
+        (Polled Control [] polled [] (row ends (ReadStatus 5)) 5 refl refl refl polled_asks (record { fits = lit< tt; is = refl }) refl refl),
+    (done, record { plugged = refl; leads = Gives (arrived (notify_submit 1 8) []) [] (StatusPacket 5 0) [] refl refl (lit≤ tt) refl refl }, refl),
+  ),
+)
+
+-- the packet does not fit
+abbrev small_came : State
+small_came = record start { interrupt_in = arrived (notify_submit 1 1) [] ∷ [] }
+
+abbrev small_asked : State
+small_asked = record small_came { control = arrived status_submit [] ∷ [] }
+
+abbrev small_answered : State
+small_answered = record small_came { packets = StatusPacket 5 0 ∷ []; log = status_log }
+
+abbrev pub halted : State
+halted = record start {
+  halted = record { bulk_out = false; bulk_in = false; interrupt_in = true };
+  packets = StatusPacket 5 0 ∷ [];
+  log = status_log;
+}
+
+small_answers : Steps small_asked Answer (answered status_submit success 3 (0x01 ∷ 0x05 ∷ 0x00 ∷ []) ∷ []) small_answered
+small_answers = answers_class small_asked (arrived status_submit []) [] (ReadStatus 5) (record { layout = 0x01 ∷ 0x05 ∷ 0x00 ∷ []; behind = []; state = small_answered })
+    refl refl status_asks (lit< tt)
+    (PolledNow small_answered (lit≤ tt, lit≤ tt) refl refl
+    (DoesPoll (record small_came { log = status_log }) (record { standing = at_power_on; after = refl; is = refl }) refl) refl)
+
+pub halts_without_room : Runs start no_room halted
+halts_without_room = (
+  small_came,
+  notify_comes start 1 1 (record { plugged = refl; free = refl; few = refl }) (lit< tt) (lit≤ tt) refl,
+  (
+    small_asked,
+    asking_comes small_came 2 3 0xA1 _ (record { plugged = refl; free = refl; few = refl }) (lit< tt) (lit≤ tt) refl refl,
+    (
+      small_answered,
+      small_answers,
+      (halted, record { plugged = refl; leads = NoRoom (arrived (notify_submit 1 1) []) [] (StatusPacket 5 0) [] refl refl (lit< tt) refl refl }, refl),
+    ),
   ),
 )

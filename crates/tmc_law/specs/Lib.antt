@@ -32,3 +32,4 @@ pub mod WorkedParts
 pub mod WorkedBare
 pub mod WorkedTrigger
 pub mod WorkedSpoiled
+pub mod WorkedOverflow

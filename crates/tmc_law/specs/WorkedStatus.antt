@@ -3,10 +3,11 @@ use Rattle.std.specs.Prelude.{ℕ, List, [], ◌∷◌}
 use Rattle.usbip_wire.specs.declared.submit.SubmitHead.{SubmitHead}
 use Rattle.instr_plain.specs.declared.log.LogEntry.{LogEntry}
 use Rattle.instr_plain.specs.declared.log.LogEntry.TheVariants as entry
-use Rattle.tmc_law.specs.Put.{success}
-use Rattle.tmc_law.specs.Step.{Answer, Poll, Notify}
+use Rattle.usbip_wire.specs.Up as up
+use Rattle.tmc_law.specs.Put.{Unlinked, success, stalled}
+use Rattle.tmc_law.specs.Step.{Comes, Answer, Poll, Notify}
 use Rattle.tmc_law.specs.Run.{Entry}
-use Rattle.tmc_law.specs.WorkedSession.{notify_submit, asking_submit, submits, step, answered}
+use Rattle.tmc_law.specs.WorkedSession.{notify_submit, asking_submit, unlink, submits, step, answered}
 
 -- READ_STATUS_BYTE with tag 5
 abbrev pub status_submit : SubmitHead
@@ -32,3 +33,21 @@ packet_first =
 
 abbrev pub status_log : List LogEntry
 status_log = entry.Poll 2 ∷ []
+
+-- the request is polled, and then it is unlinked: it is answered first, and so the unlink misses
+abbrev pub unlink_behind_poll : List Entry
+unlink_behind_poll =
+    step Poll []
+    ∷ step (Comes (up.Unlink (unlink 3 2)))
+    (answered status_submit success 3 (0x01 ∷ 0x05 ∷ 0x00 ∷ []) ∷ Unlinked (unlink 3 2) (record { seqnum = 3; status = success }) ∷ [])
+    ∷ step Notify (answered (notify_submit 1 8) success 2 (0x85 ∷ 0x00 ∷ []) ∷ [])
+    ∷ []
+
+-- a submit that has no room for the packet halts Interrupt-IN, and the packet stays
+abbrev pub no_room : List Entry
+no_room =
+    submits (notify_submit 1 1) []
+    ∷ submits status_submit []
+    ∷ step Answer (answered status_submit success 3 (0x01 ∷ 0x05 ∷ 0x00 ∷ []) ∷ [])
+    ∷ step Notify (answered (notify_submit 1 1) stalled 0 [] ∷ [])
+    ∷ []

@@ -1,10 +1,10 @@
 //! Worked runs: sessions that the law allows, and steps that it refuses. Each function does nothing, and its contract
 //! says that the run is lawful.
 
-ghost use Rattle.std.specs.Prelude.{◌≡◌, ℕ, Bool, false, List, [], ◌++◌};
+ghost use Rattle.std.specs.Prelude.{◌≡◌, ℕ, Bool, true, false, List, [], ◌∷◌, ◌++◌};
 ghost use Rattle.usbip_wire.specs.Stream.{InRow};
 ghost use Rattle.instr_plain.specs.Standing.{power_on, at_power_on};
-ghost use Rattle.tmc_law.specs.State.{State, start, Unplugged, AbortsIn};
+ghost use Rattle.tmc_law.specs.State.{State, start, Unplugged, AbortsIn, StatusPacket};
 ghost use Rattle.tmc_law.specs.Put.{Put};
 ghost use Rattle.tmc_law.specs.Step.{Move, Begin, Steps};
 ghost use Rattle.tmc_law.specs.Run.{Runs, outputs, SpellsPut};
@@ -15,7 +15,8 @@ ghost use Rattle.tmc_law.specs.WorkedClear.{clearing, clear_log};
 ghost use Rattle.tmc_law.specs.WorkedAbortIn.{aborting_in};
 ghost use Rattle.tmc_law.specs.WorkedAbortOut.{aborting_out};
 ghost use Rattle.tmc_law.specs.WorkedHalt.{halting};
-ghost use Rattle.tmc_law.specs.WorkedStatus.{status_asked, answer_first, packet_first, status_log};
+ghost use Rattle.tmc_law.specs.WorkedStatus.{status_asked, answer_first, packet_first, unlink_behind_poll, no_room, status_log};
+ghost use Rattle.tmc_law.specs.WorkedOverflow.{overflowing};
 ghost use Rattle.tmc_law.specs.WorkedService.{requesting, service_log};
 ghost use Rattle.tmc_law.specs.WorkedInterrupt.{interrupting, interrupt_log};
 ghost use Rattle.tmc_law.specs.WorkedUnplug.{unplugging};
@@ -111,6 +112,28 @@ pub fn a_trigger_is_counted()
 pub fn spoiled_submits_halt()
     ensures header { Runs start sending_unknown start }
     ensures size { Runs start sending_long start }
+{}
+
+/// A packet that fills its submit ends it, and one that does not fit halts Bulk-IN.
+pub fn a_response_overflows()
+    ensures { Runs start overflowing (record start {
+      halted = record { bulk_out = false; bulk_in = true; interrupt_in = false };
+      log = read_log;
+    }) }
+{}
+
+/// A status request that was polled is answered before an unlink of it, which misses.
+pub fn a_polled_request_is_answered()
+    ensures { Runs start (status_asked ++ unlink_behind_poll) (record start { log = status_log }) }
+{}
+
+/// A packet that does not fit halts Interrupt-IN, and stays queued.
+pub fn a_packet_without_room_stays()
+    ensures { Runs start no_room (record start {
+      halted = record { bulk_out = false; bulk_in = false; interrupt_in = true };
+      packets = StatusPacket 5 0 ∷ [];
+      log = status_log;
+    }) }
 {}
 
 /// Nothing happens to a device that is unplugged.
