@@ -21,3 +21,6 @@ pub mod Bare
 pub mod Triggering
 pub mod Spoiled
 pub mod Overflowing
+pub mod Controls
+pub mod Declining
+pub mod Refused

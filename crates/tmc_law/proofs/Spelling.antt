@@ -28,21 +28,23 @@ code_small : (dir : Dir) → direction_code dir < 2 ^ 32
 code_small Out = lit< tt
 code_small In = lit< tt
 
+-- as this product writes it
+pub submit_spells : (head : SubmitHead) (transferred : List ℕ) → IsSent head transferred → Spells (up.Submit head transferred) (submit.submit_bytes head submit.unused transferred)
+submit_spells head transferred sent = record {
+  rest = submit.unused;
+  imported = sent.imported;
+  endpoint = sent.endpoint;
+  short = sent.short;
+  packets = inl refl;
+  setup = sent.setup;
+  carried = sent.carried;
+  wide = each_wide (submit.submit_words head submit.unused)
+      (lit< tt, (sent.number, (omega (arith, sent.imported), (code_small head.dir, (omega (arith, sent.endpoint), (lit< tt, (omega (arith, sent.short), (lit< tt, (lit< tt, (lit< tt, tt))))))))));
+  layout = refl;
+}
+
 pub submit_spelled : (head : SubmitHead) (transferred : List ℕ) → IsSent head transferred → (bytes : List ℕ) × Spells (up.Submit head transferred) bytes
-submit_spelled head transferred sent = (
-  submit.submit_bytes head submit.unused transferred,
-  record {
-    rest = submit.unused;
-    imported = sent.imported;
-    endpoint = sent.endpoint;
-    short = sent.short;
-    packets = inl refl;
-    setup = sent.setup;
-    carried = sent.carried;
-    wide = each_wide (submit.submit_words head submit.unused) (lit< tt, (sent.number, (omega (arith, sent.imported), (code_small head.dir, (omega (arith, sent.endpoint), (lit< tt, (omega (arith, sent.short), (lit< tt, (lit< tt, (lit< tt, tt))))))))));
-    layout = refl;
-  },
-)
+submit_spelled head transferred sent = (submit.submit_bytes head submit.unused transferred, submit_spells head transferred sent)
 
 pub unlink_spelled : (head : UnlinkHead) → head.devid ≡ devid → head.seqnum < 2 ^ 32 → head.target < 2 ^ 32 → (bytes : List ℕ) × Spells (up.Unlink head) bytes
 unlink_spelled head imported number target = (

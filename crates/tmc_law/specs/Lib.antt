@@ -33,3 +33,6 @@ pub mod WorkedBare
 pub mod WorkedTrigger
 pub mod WorkedSpoiled
 pub mod WorkedOverflow
+pub mod WorkedControl
+pub mod WorkedDeclined
+pub mod WorkedRefused

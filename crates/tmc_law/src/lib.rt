@@ -28,6 +28,7 @@ pub use worked::{
     a_message_interrupts_a_response, a_packet_without_room_stays, a_polled_request_is_answered,
     a_query_is_answered, a_response_is_aborted, a_response_is_cleared, a_response_overflows,
     a_response_requests_service, a_split_message_is_aborted, a_status_comes_before_or_behind,
-    a_trigger_is_counted, an_unlink_loses_packets, no_piece_begins_in_an_abort,
-    nothing_follows_unplugging, spoiled_submits_halt, unplugging_answers_all,
+    a_trigger_is_counted, aborts_are_declined, an_unlink_loses_packets,
+    control_requests_are_answered, no_piece_begins_in_an_abort, nothing_follows_unplugging,
+    refused_bytes_close, spoiled_submits_halt, unplugging_answers_all,
 };

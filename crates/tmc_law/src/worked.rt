@@ -4,7 +4,7 @@
 ghost use Rattle.std.specs.Prelude.{◌≡◌, ℕ, Bool, true, false, List, [], ◌∷◌, ◌++◌};
 ghost use Rattle.usbip_wire.specs.Stream.{InRow};
 ghost use Rattle.instr_plain.specs.Standing.{power_on, at_power_on};
-ghost use Rattle.tmc_law.specs.State.{State, start, Unplugged, AbortsIn, StatusPacket};
+ghost use Rattle.tmc_law.specs.State.{State, start, arrived, Unplugged, Closed, AbortsOut, AbortsIn, StatusPacket};
 ghost use Rattle.tmc_law.specs.Put.{Put};
 ghost use Rattle.tmc_law.specs.Step.{Move, Begin, Steps};
 ghost use Rattle.tmc_law.specs.Run.{Runs, outputs, SpellsPut};
@@ -17,6 +17,10 @@ ghost use Rattle.tmc_law.specs.WorkedAbortOut.{aborting_out};
 ghost use Rattle.tmc_law.specs.WorkedHalt.{halting};
 ghost use Rattle.tmc_law.specs.WorkedStatus.{status_asked, answer_first, packet_first, unlink_behind_poll, no_room, status_log};
 ghost use Rattle.tmc_law.specs.WorkedOverflow.{overflowing};
+ghost use Rattle.tmc_law.specs.WorkedControl.{asking_control};
+ghost use Rattle.tmc_law.specs.WorkedDeclined.{declining};
+ghost use Rattle.tmc_law.specs.WorkedRefused.{number_field, command_field, coming_twice, coming_wrong};
+ghost use Rattle.tmc_law.specs.WorkedSession.{in_submit};
 ghost use Rattle.tmc_law.specs.WorkedService.{requesting, service_log};
 ghost use Rattle.tmc_law.specs.WorkedInterrupt.{interrupting, interrupt_log};
 ghost use Rattle.tmc_law.specs.WorkedUnplug.{unplugging};
@@ -134,6 +138,28 @@ pub fn a_packet_without_room_stays()
       packets = StatusPacket 5 0 ∷ [];
       log = status_log;
     }) }
+{}
+
+/// A descriptor is sent in part where less is wanted, and an unknown request stalls.
+pub fn control_requests_are_answered()
+    ensures { Runs start asking_control start }
+{}
+
+/// An abort does not begin where no transfer is in progress, another one is, or an abort runs.
+pub fn aborts_are_declined()
+    ensures { Runs start declining (record start {
+      halted = record { bulk_out = true; bulk_in = false; interrupt_in = false };
+      running = AbortsOut;
+    }) }
+{}
+
+/// The device closes at a number that is pending, and at a message that there is not.
+pub fn refused_bytes_close()
+    ensures number { Runs start coming_twice (record start {
+      bulk_in = arrived (in_submit 1 4096) [] ∷ [];
+      presence = Closed number_field;
+    }) }
+    ensures command { Runs start coming_wrong (record start { presence = Closed command_field }) }
 {}
 
 /// Nothing happens to a device that is unplugged.
