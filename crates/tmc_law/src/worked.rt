@@ -1,12 +1,19 @@
 //! Worked runs: sessions that the law allows, and steps that it refuses. Each function does nothing, and its contract
 //! says that the run is lawful.
 
-ghost use Rattle.std.specs.Prelude.{◌≡◌, ℕ, Bool, true, false, List, [], ◌∷◌, ◌++◌};
+ghost use Rattle.std.specs.Prelude.{◌≡◌, ◌≢◌, ℕ, ◌<◌, Bool, true, false, List, [], ◌∷◌, ◌++◌, length, Option, Some, None};
+ghost use Rattle.tmc_base.specs.declared.field.Field.{Field};
+ghost use Rattle.usbip_wire.specs.declared.submit.SubmitHead.{SubmitHead};
+ghost use Rattle.usbip_wire.specs.Up as up;
 ghost use Rattle.usbip_wire.specs.Stream.{InRow};
 ghost use Rattle.instr_plain.specs.Standing.{power_on, at_power_on};
-ghost use Rattle.tmc_law.specs.State.{State, start, arrived, Unplugged, Closed, AbortsOut, AbortsIn, StatusPacket};
-ghost use Rattle.tmc_law.specs.Put.{Put};
-ghost use Rattle.tmc_law.specs.Step.{Move, Begin, Steps};
+ghost use Rattle.tmc_law.specs.Endpoint.{Endpoint, BulkOut, number_of};
+ghost use Rattle.tmc_law.specs.State.{State, Pending, Waiting, Piece, start, arrived, pending, Avoids, is_halted, Unplugged, Closed, Idle, Sending, Nothing, AbortsOut, AbortsIn, StatusPacket};
+ghost use Rattle.tmc_law.specs.Logging.{unread};
+ghost use Rattle.tmc_law.specs.Halts.{halts, halt_answers};
+ghost use Rattle.tmc_law.specs.BulkIn.{NoPacketWanted};
+ghost use Rattle.tmc_law.specs.Put.{Put, answer_of, ended, success, stalled};
+ghost use Rattle.tmc_law.specs.Step.{Move, Comes, Take, Begin, Fill, Pend, Poll, Steps};
 ghost use Rattle.tmc_law.specs.Run.{Runs, outputs, SpellsPut};
 ghost use Rattle.tmc_law.specs.WorkedQuery.{asking, answering, query_log, query_down, identity};
 ghost use Rattle.tmc_law.specs.WorkedRead.{reading, read_log};
@@ -171,4 +178,64 @@ pub fn nothing_follows_unplugging()
 pub fn no_piece_begins_in_an_abort()
     ensures { (s t : State) (wanting : Bool) (given count : ℕ) (puts : List Put) → s.running ≡ AbortsIn wanting given
         → Steps s (Begin count) puts t → ⊥ }
+{}
+
+/// Nothing happens to a device that closed.
+pub fn nothing_follows_a_refusal()
+    ensures { (s t : State) (f : Field) (move : Move) (puts : List Put) → s.presence ≡ Closed f → Steps s move puts t → ⊥ }
+{}
+
+/// No submit comes whose number is pending.
+pub fn no_number_comes_twice()
+    ensures { (s t : State) (head : SubmitHead) (transferred : List ℕ) (puts : List Put) → (Avoids head.seqnum (pending s) → ⊥)
+        → Steps s (Comes (up.Submit head transferred)) puts t → ⊥ }
+{}
+
+/// A submit on a halted endpoint is turned away, and nothing else happens.
+pub fn a_halted_endpoint_takes_nothing()
+    ensures { (s t : State) (endpoint : Endpoint) (head : SubmitHead) (transferred : List ℕ) (puts : List Put)
+        → is_halted endpoint s ≡ true → head.ep ≡ number_of endpoint → Steps s (Comes (up.Submit head transferred)) puts t
+        → (puts ≡ answer_of head stalled [] ∷ []) × (t ≡ s) }
+{}
+
+/// No packet is taken while a message waits.
+pub fn nothing_is_taken_while_a_message_waits()
+    ensures { (s t : State) (message : Waiting) (count : ℕ) (puts : List Put) → s.waiting ≡ Some message
+        → Steps s (Take count) puts t → ⊥ }
+{}
+
+/// A header that comes while a Bulk-IN transfer is in progress halts Bulk-OUT, and nothing else happens.
+pub fn a_busy_device_takes_no_header()
+    ensures { (s t : State) (submit : Pending) (behind : List Pending) (count : ℕ) (puts : List Put)
+        → s.side ≢ Idle → s.transfer ≡ None → s.bulk_out ≡ submit ∷ behind → submit.head.length ≢ 0
+        → Steps s (Take count) puts t → (puts ≡ halt_answers BulkOut s) × (t ≡ halts BulkOut s) }
+{}
+
+/// No piece has more bytes than are unread.
+pub fn no_piece_is_longer_than_the_response()
+    ensures { (s t : State) (count : ℕ) (puts : List Put) → length (unread s) < count → Steps s (Begin count) puts t → ⊥ }
+{}
+
+/// No packet is given where there is no piece, unless an abort wants one.
+pub fn no_packet_without_a_piece()
+    ensures { (s t : State) (count : ℕ) (puts : List Put) → NoPacketWanted s.running
+        → ((piece : Piece) → s.side ≡ Sending piece → ⊥) → Steps s (Fill count) puts t → ⊥ }
+{}
+
+/// Where an abort of Bulk-IN wants its packet, that is the only one, and has no bytes.
+pub fn an_aborted_piece_gives_nothing()
+    ensures { (s t : State) (given count : ℕ) (submit : Pending) (behind : List Pending) (puts : List Put)
+        → s.running ≡ AbortsIn true given → s.bulk_in ≡ submit ∷ behind → Steps s (Fill count) puts t
+        → (puts ≡ ended success submit ∷ []) × (count ≡ 1) }
+{}
+
+/// Nothing is answered with PENDING where nothing runs.
+pub fn nothing_is_pending_where_nothing_runs()
+    ensures { (s t : State) (puts : List Put) → s.running ≡ Nothing → Steps s Pend puts t → ⊥ }
+{}
+
+/// No request is polled twice.
+pub fn no_request_is_polled_twice()
+    ensures { (s t : State) (submit : Pending) (behind : List Pending) (puts : List Put) → s.control ≡ submit ∷ behind
+        → submit.polled ≡ true → Steps s Poll puts t → ⊥ }
 {}
