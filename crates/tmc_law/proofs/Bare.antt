@@ -22,14 +22,14 @@ use Rattle.tmc_law.proofs.Taking.{takes_whole}
 use Rattle.tmc_law.proofs.Answering.{answers_class}
 use Rattle.tmc_law.proofs.Query.{request_good}
 
-abbrev came : State
+abbrev pub came : State
 came = record start { bulk_out = arrived (out_submit 1 12) request_text ∷ [] }
 
 -- QYE is set
 abbrev done : State
 done = record start { log = bare_log; standing = record at_power_on { state = record power_on { esr = 132 } } }
 
-abbrev owed : State
+abbrev pub owed : State
 owed = record done { side = Owed 2 4000 }
 
 abbrev in_came : State
@@ -47,7 +47,7 @@ ended = record done { running = AbortsIn false 0 }
 abbrev check_came : State
 check_came = record ended { control = arrived check_submit [] ∷ [] }
 
-takes_request : Steps came (Take 1) (answered (out_submit 1 12) success 12 [] ∷ []) owed
+pub takes_request : Steps came (Take 1) (answered (out_submit 1 12) success 12 [] ∷ []) owed
 takes_request =
     takes_whole came owed (arrived (out_submit 1 12) request_text) [] (Request 2 4000)
     (record { plugged = refl; none_waits = refl; none_runs = refl; first = refl; good = request_good came refl refl; some = eqb-false _ _ refl; one = refl; moves = DoesMove refl refl; fits = refl; full = refl })

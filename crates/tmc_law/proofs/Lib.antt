@@ -24,3 +24,6 @@ pub mod Overflowing
 pub mod Controls
 pub mod Declining
 pub mod Refused
+pub mod Unsuited
+pub mod Operating
+pub mod Checking

@@ -1,5 +1,5 @@
 -- the status byte is read, step by step
-use Rattle.std.proofs.Common.{◌≡◌, ℕ, Bool, true, false, List, [], ◌∷◌, refl, lit<, lit≤}
+use Rattle.std.proofs.Common.{◌≡◌, ℕ, Bool, true, false, List, [], ◌∷◌, refl, arith, lit<, lit≤}
 use Rattle.tmc_wire.specs.declared.class_request.ClassRequest.TheVariants.{ReadStatus}
 use Rattle.tmc_wire.specs.ControlTable.{row}
 use Rattle.instr_plain.specs.declared.log.LogEntry.TheVariants as entry
@@ -9,12 +9,12 @@ use Rattle.tmc_law.specs.State.{State, Pending, start, arrived, StatusPacket}
 use Rattle.tmc_law.specs.Put.{success}
 use Rattle.tmc_law.specs.Control.{Asks}
 use Rattle.tmc_law.specs.Queues.{Polled}
-use Rattle.tmc_law.specs.Status.{DoesPoll, PolledNow, PolledBefore, Gives, NoRoom}
+use Rattle.tmc_law.specs.Status.{IsStatusTag, BadTag, Busy, DoesPoll, PolledNow, PolledBefore, Gives, NoRoom}
 use Rattle.tmc_law.specs.Class.{DoesPollFirst}
 use Rattle.tmc_law.specs.Step.{Steps, Answer, Poll, Notify}
 use Rattle.tmc_law.specs.Run.{Runs}
 use Rattle.tmc_law.specs.WorkedSession.{notify_submit, answered}
-use Rattle.tmc_law.specs.WorkedStatus.{status_submit, status_asked, answer_first, packet_first, unlink_behind_poll, no_room, status_log}
+use Rattle.tmc_law.specs.WorkedStatus.{status_submit, status_asked, answer_first, packet_first, unlink_behind_poll, no_room, wrong_submit, early_submit, statuses, status_log}
 use Rattle.tmc_law.proofs.Coming.{notify_comes, asking_comes, unlink_comes}
 use Rattle.tmc_law.proofs.Answering.{answers_class}
 
@@ -139,6 +139,65 @@ halts_without_room = (
       small_answered,
       small_answers,
       (halted, record { plugged = refl; leads = NoRoom (arrived (notify_submit 1 1) []) [] (StatusPacket 5 0) [] refl refl (lit< tt) refl refl }, refl),
+    ),
+  ),
+)
+
+-- a wrong tag, and a request that comes too early
+abbrev wrong_came : State
+wrong_came = record start { control = arrived wrong_submit [] ∷ [] }
+
+abbrev alone_came : State
+alone_came = record start { control = arrived status_submit [] ∷ [] }
+
+abbrev pub alone_polled : State
+alone_polled = record start { packets = StatusPacket 5 0 ∷ []; log = status_log }
+
+abbrev early_came : State
+early_came = record alone_polled { control = arrived early_submit [] ∷ [] }
+
+wrong_asks : Asks (arrived wrong_submit []) (row ends (ReadStatus 1))
+wrong_asks = record { fits = record { request_type = lit< tt; request = lit< tt; value = lit< tt; index = lit< tt; length = lit< tt }; layout = refl }
+
+early_asks : Asks (arrived early_submit []) (row ends (ReadStatus 6))
+early_asks = record { fits = record { request_type = lit< tt; request = lit< tt; value = lit< tt; index = lit< tt; length = lit< tt }; layout = refl }
+
+no_tag : IsStatusTag 1 → ⊥
+no_tag is = omega (arith, is.0)
+
+fails : Steps wrong_came Answer (answered wrong_submit success 3 (0x80 ∷ 0x01 ∷ 0x00 ∷ []) ∷ []) start
+fails = answers_class wrong_came (arrived wrong_submit []) [] (ReadStatus 1) (record { layout = 0x80 ∷ 0x01 ∷ 0x00 ∷ []; behind = []; state = start })
+    refl refl wrong_asks (lit< tt) (BadTag no_tag refl)
+
+answers_alone : Steps alone_came Answer (answered status_submit success 3 (0x01 ∷ 0x05 ∷ 0x00 ∷ []) ∷ []) alone_polled
+answers_alone = answers_class alone_came (arrived status_submit []) [] (ReadStatus 5) (record { layout = 0x01 ∷ 0x05 ∷ 0x00 ∷ []; behind = []; state = alone_polled })
+    refl refl status_asks (lit< tt)
+    (PolledNow alone_polled (lit≤ tt, lit≤ tt) refl refl
+    (DoesPoll (record start { log = status_log }) (record { standing = at_power_on; after = refl; is = refl }) refl) refl)
+
+is_busy : Steps early_came Answer (answered early_submit success 3 (0x20 ∷ 0x06 ∷ 0x00 ∷ []) ∷ []) alone_polled
+is_busy = answers_class early_came (arrived early_submit []) [] (ReadStatus 6) (record { layout = 0x20 ∷ 0x06 ∷ 0x00 ∷ []; behind = []; state = alone_polled })
+    refl refl early_asks (lit< tt) (Busy (lit≤ tt, lit≤ tt) refl refl refl)
+
+pub reads_statuses : Runs start statuses alone_polled
+reads_statuses = (
+  wrong_came,
+  asking_comes start 1 3 0xA1 _ (record { plugged = refl; free = refl; few = refl }) (lit< tt) (lit≤ tt) refl refl,
+  (
+    start,
+    fails,
+    (
+      alone_came,
+      asking_comes start 2 3 0xA1 _ (record { plugged = refl; free = refl; few = refl }) (lit< tt) (lit≤ tt) refl refl,
+      (
+        alone_polled,
+        answers_alone,
+        (
+          early_came,
+          asking_comes alone_polled 3 3 0xA1 _ (record { plugged = refl; free = refl; few = refl }) (lit< tt) (lit≤ tt) refl refl,
+          (alone_polled, is_busy, refl),
+        ),
+      ),
     ),
   ),
 )

@@ -36,3 +36,6 @@ pub mod WorkedOverflow
 pub mod WorkedControl
 pub mod WorkedDeclined
 pub mod WorkedRefused
+pub mod WorkedUnsuited
+pub mod WorkedRemote
+pub mod WorkedChecks

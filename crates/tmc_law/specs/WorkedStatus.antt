@@ -51,3 +51,21 @@ no_room =
     ∷ step Answer (answered status_submit success 3 (0x01 ∷ 0x05 ∷ 0x00 ∷ []) ∷ [])
     ∷ step Notify (answered (notify_submit 1 1) stalled 0 [] ∷ [])
     ∷ []
+
+-- tag 1 is none, and tag 6 comes while a packet is queued
+abbrev pub wrong_submit : SubmitHead
+wrong_submit = asking_submit 1 3 (0xA1 ∷ 0x80 ∷ 0x01 ∷ 0x00 ∷ 0x00 ∷ 0x00 ∷ 0x03 ∷ 0x00 ∷ [])
+
+abbrev pub early_submit : SubmitHead
+early_submit = asking_submit 3 3 (0xA1 ∷ 0x80 ∷ 0x06 ∷ 0x00 ∷ 0x00 ∷ 0x00 ∷ 0x03 ∷ 0x00 ∷ [])
+
+-- FAILED, SUCCESS and INTERRUPT_IN_BUSY
+abbrev pub statuses : List Entry
+statuses =
+    submits wrong_submit []
+    ∷ step Answer (answered wrong_submit success 3 (0x80 ∷ 0x01 ∷ 0x00 ∷ []) ∷ [])
+    ∷ submits status_submit []
+    ∷ step Answer (answered status_submit success 3 (0x01 ∷ 0x05 ∷ 0x00 ∷ []) ∷ [])
+    ∷ submits early_submit []
+    ∷ step Answer (answered early_submit success 3 (0x20 ∷ 0x06 ∷ 0x00 ∷ []) ∷ [])
+    ∷ []

@@ -8,7 +8,7 @@ ghost use Rattle.usbip_wire.specs.Up as up;
 ghost use Rattle.usbip_wire.specs.Stream.{InRow};
 ghost use Rattle.instr_plain.specs.Standing.{power_on, at_power_on};
 ghost use Rattle.tmc_law.specs.Endpoint.{Endpoint, BulkOut, number_of};
-ghost use Rattle.tmc_law.specs.State.{State, Pending, Waiting, Piece, start, arrived, pending, Avoids, is_halted, Unplugged, Closed, Idle, Sending, Nothing, AbortsOut, AbortsIn, StatusPacket};
+ghost use Rattle.tmc_law.specs.State.{State, Pending, Waiting, Piece, start, arrived, pending, Avoids, is_halted, Unplugged, Closed, Idle, Owed, Sending, Nothing, AbortsOut, AbortsIn, StatusPacket};
 ghost use Rattle.tmc_law.specs.Logging.{unread};
 ghost use Rattle.tmc_law.specs.Halts.{halts, halt_answers};
 ghost use Rattle.tmc_law.specs.BulkIn.{NoPacketWanted};
@@ -22,8 +22,12 @@ ghost use Rattle.tmc_law.specs.WorkedClear.{clearing, clear_log};
 ghost use Rattle.tmc_law.specs.WorkedAbortIn.{aborting_in};
 ghost use Rattle.tmc_law.specs.WorkedAbortOut.{aborting_out};
 ghost use Rattle.tmc_law.specs.WorkedHalt.{halting};
-ghost use Rattle.tmc_law.specs.WorkedStatus.{status_asked, answer_first, packet_first, unlink_behind_poll, no_room, status_log};
+ghost use Rattle.tmc_law.specs.WorkedStatus.{status_asked, answer_first, packet_first, unlink_behind_poll, no_room, statuses, status_log};
 ghost use Rattle.tmc_law.specs.WorkedOverflow.{overflowing};
+ghost use Rattle.tmc_law.specs.WorkedUnsuited.{sending_nothing, sending_inside, sending_while_owed, sending_too_much};
+ghost use Rattle.tmc_law.specs.WorkedRemote.{operating, remote_log};
+ghost use Rattle.tmc_law.specs.WorkedChecks.{checking, check_log};
+ghost use Rattle.instr_plain.specs.declared.remote.RemoteState.TheVariants.{Remote};
 ghost use Rattle.tmc_law.specs.WorkedControl.{asking_control};
 ghost use Rattle.tmc_law.specs.WorkedDeclined.{declining};
 ghost use Rattle.tmc_law.specs.WorkedRefused.{number_field, command_field, coming_twice, coming_wrong};
@@ -167,6 +171,45 @@ pub fn refused_bytes_close()
       presence = Closed number_field;
     }) }
     ensures command { Runs start coming_wrong (record start { presence = Closed command_field }) }
+{}
+
+/// A submit of no bytes is answered. A header that does not suit the state halts Bulk-OUT: a request inside a message, a
+/// message while a response is owed, and one that would be too long.
+pub fn headers_have_to_suit()
+    ensures nothing { Runs start sending_nothing start }
+    ensures inside { Runs start sending_inside (record start {
+      halted = record { bulk_out = true; bulk_in = false; interrupt_in = false };
+    }) }
+    ensures owed { Runs start sending_while_owed (record start {
+      halted = record { bulk_out = true; bulk_in = false; interrupt_in = false };
+      side = Owed 2 4000;
+      log = bare_log;
+      standing = record at_power_on { state = record power_on { esr = 132 } };
+    }) }
+    ensures long { Runs start sending_too_much (record start {
+      halted = record { bulk_out = true; bulk_in = false; interrupt_in = false };
+    }) }
+{}
+
+/// A status request with a wrong tag fails, and one that comes while a packet is queued is too early.
+pub fn statuses_may_fail()
+    ensures { Runs start statuses (record start { packets = StatusPacket 5 0 ∷ []; log = status_log }) }
+{}
+
+/// The instrument is operated from remote, and says what it can.
+pub fn a_remote_act_is_logged()
+    ensures { Runs start operating (record start {
+      log = remote_log;
+      standing = record at_power_on { state = record power_on { remote = Remote } };
+    }) }
+{}
+
+/// A check where nothing runs says so, and one of what runs may be answered with PENDING first.
+pub fn checks_may_be_pending()
+    ensures { Runs start checking (record start {
+      halted = record { bulk_out = true; bulk_in = false; interrupt_in = false };
+      log = check_log;
+    }) }
 {}
 
 /// Nothing happens to a device that is unplugged.
