@@ -1,4 +1,4 @@
-use Rattle.tmc_law.proofs.Parts.{sends_parts}
+use Rattle.tmc_law.proofs.WorkedParts.{sends_parts}
 use Rattle.tmc_law.proofs.worked.a_message_comes_in_parts.Goals as goal
 
 pub returns : goal.returns

@@ -3,9 +3,9 @@ use Rattle.usbip_wire.specs.Urb.{fields}
 use Rattle.usbip_wire.specs.RetSubmit.{ret_submit_bytes, unused}
 use Rattle.tmc_law.specs.State.{start}
 use Rattle.tmc_law.specs.WorkedQuery.{query_submit, request_submit, response_submit, response_text, asking, answering}
-use Rattle.tmc_law.proofs.Spelling.{succeeded, success_spelled}
-use Rattle.tmc_law.proofs.Joined.{joined}
-use Rattle.tmc_law.proofs.Query.{requested, done, asks, answers}
+use Rattle.tmc_law.proofs.WorkedSpelling.{succeeded, success_spelled}
+use Rattle.tmc_law.proofs.WorkedJoined.{joined}
+use Rattle.tmc_law.proofs.WorkedQuery.{requested, done, asks, answers}
 use Rattle.tmc_law.proofs.worked.a_query_is_answered.Goals as goal
 
 pub returns-clause-runs : goal.returns-clause-runs

@@ -1,4 +1,4 @@
-use Rattle.tmc_law.proofs.Operating.{operates}
+use Rattle.tmc_law.proofs.WorkedRemote.{operates}
 use Rattle.tmc_law.proofs.worked.a_remote_act_is_logged.Goals as goal
 
 pub returns : goal.returns

@@ -1,4 +1,4 @@
-use Rattle.tmc_law.proofs.Overflowing.{overflows}
+use Rattle.tmc_law.proofs.WorkedOverflow.{overflows}
 use Rattle.tmc_law.proofs.worked.a_response_overflows.Goals as goal
 
 pub returns : goal.returns

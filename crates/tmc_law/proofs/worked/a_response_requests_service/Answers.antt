@@ -1,4 +1,4 @@
-use Rattle.tmc_law.proofs.Service.{requests_service}
+use Rattle.tmc_law.proofs.WorkedService.{requests_service}
 use Rattle.tmc_law.proofs.worked.a_response_requests_service.Goals as goal
 
 pub returns : goal.returns

@@ -1,7 +1,7 @@
 use Rattle.tmc_law.specs.State.{start}
 use Rattle.tmc_law.specs.WorkedStatus.{status_asked, answer_first, packet_first}
-use Rattle.tmc_law.proofs.Joined.{joined}
-use Rattle.tmc_law.proofs.Statuses.{status_came, done, asks, answers_then_notifies, notifies_then_answers}
+use Rattle.tmc_law.proofs.WorkedJoined.{joined}
+use Rattle.tmc_law.proofs.WorkedStatus.{status_came, done, asks, answers_then_notifies, notifies_then_answers}
 use Rattle.tmc_law.proofs.worked.a_status_comes_before_or_behind.Goals as goal
 
 pub returns-clause-behind : goal.returns-clause-behind

@@ -1,9 +1,9 @@
 use Rattle.tmc_law.specs.State.{start}
 use Rattle.tmc_law.specs.WorkedRead.{reading, read_log}
 use Rattle.tmc_law.specs.WorkedUnlink.{unlinking}
-use Rattle.tmc_law.proofs.Joined.{joined}
-use Rattle.tmc_law.proofs.Read.{half, reads_half}
-use Rattle.tmc_law.proofs.Unlinking.{unlinks}
+use Rattle.tmc_law.proofs.WorkedJoined.{joined}
+use Rattle.tmc_law.proofs.WorkedRead.{half, reads_half}
+use Rattle.tmc_law.proofs.WorkedUnlink.{unlinks}
 use Rattle.tmc_law.proofs.worked.an_unlink_loses_packets.Goals as goal
 
 pub returns : goal.returns

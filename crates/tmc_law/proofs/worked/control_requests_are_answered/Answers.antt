@@ -1,4 +1,4 @@
-use Rattle.tmc_law.proofs.Controls.{asks_control}
+use Rattle.tmc_law.proofs.WorkedControl.{asks_control}
 use Rattle.tmc_law.proofs.worked.control_requests_are_answered.Goals as goal
 
 pub returns : goal.returns

@@ -1,4 +1,4 @@
-use Rattle.tmc_law.proofs.Unsuited.{sends_nothing, sends_inside, sends_while_owed, sends_too_much}
+use Rattle.tmc_law.proofs.WorkedUnsuited.{sends_nothing, sends_inside, sends_while_owed, sends_too_much}
 use Rattle.tmc_law.proofs.worked.headers_have_to_suit.Goals as goal
 
 pub returns-clause-nothing : goal.returns-clause-nothing

@@ -1,4 +1,4 @@
-use Rattle.tmc_law.proofs.Refused.{comes_twice, comes_wrong}
+use Rattle.tmc_law.proofs.WorkedRefused.{comes_twice, comes_wrong}
 use Rattle.tmc_law.proofs.worked.refused_bytes_close.Goals as goal
 
 pub returns-clause-number : goal.returns-clause-number

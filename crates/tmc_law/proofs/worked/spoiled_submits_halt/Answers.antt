@@ -1,4 +1,4 @@
-use Rattle.tmc_law.proofs.Spoiled.{sends_unknown, sends_long}
+use Rattle.tmc_law.proofs.WorkedSpoiled.{sends_unknown, sends_long}
 use Rattle.tmc_law.proofs.worked.spoiled_submits_halt.Goals as goal
 
 pub returns-clause-header : goal.returns-clause-header

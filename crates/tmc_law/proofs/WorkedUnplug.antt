@@ -5,7 +5,7 @@ use Rattle.tmc_law.specs.Run.{Runs}
 use Rattle.tmc_law.specs.WorkedSession.{out_submit, in_submit, notify_submit}
 use Rattle.tmc_law.specs.WorkedQuery.{query_text}
 use Rattle.tmc_law.specs.WorkedUnplug.{pulse_submit, unplugging}
-use Rattle.tmc_law.proofs.Coming.{out_comes, in_comes, notify_comes, asking_comes}
+use Rattle.tmc_law.proofs.WorkedComing.{out_comes, in_comes, notify_comes, asking_comes}
 
 abbrev notify_came : State
 notify_came = record start { interrupt_in = arrived (notify_submit 1 8) [] ∷ [] }

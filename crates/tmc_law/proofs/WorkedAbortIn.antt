@@ -14,9 +14,9 @@ use Rattle.tmc_law.specs.WorkedSession.{answered}
 use Rattle.tmc_law.specs.WorkedQuery.{response_submit}
 use Rattle.tmc_law.specs.WorkedRead.{first_packet, read_log}
 use Rattle.tmc_law.specs.WorkedAbortIn.{abort_submit, check_submit, aborting_in}
-use Rattle.tmc_law.proofs.Coming.{asking_comes}
-use Rattle.tmc_law.proofs.Answering.{answers_class}
-use Rattle.tmc_law.proofs.Read.{half, part_filled}
+use Rattle.tmc_law.proofs.WorkedComing.{asking_comes}
+use Rattle.tmc_law.proofs.WorkedAnswering.{answers_class}
+use Rattle.tmc_law.proofs.WorkedRead.{half, part_filled}
 
 abbrev abort_came : State
 abort_came = record half { control = arrived abort_submit [] ∷ [] }

@@ -9,8 +9,8 @@ use Rattle.tmc_law.specs.Run.{Runs}
 use Rattle.tmc_law.specs.WorkedSession.{in_submit}
 use Rattle.tmc_law.specs.WorkedRead.{second_packet, read_log}
 use Rattle.tmc_law.specs.WorkedUnlink.{unlinking}
-use Rattle.tmc_law.proofs.Coming.{in_comes, unlink_comes}
-use Rattle.tmc_law.proofs.Read.{half, part_filled}
+use Rattle.tmc_law.proofs.WorkedComing.{in_comes, unlink_comes}
+use Rattle.tmc_law.proofs.WorkedRead.{half, part_filled}
 
 abbrev unlinked : State
 unlinked = record half { bulk_in = [] }

@@ -17,9 +17,9 @@ use Rattle.tmc_law.specs.Step.{Steps, Take, Answer, Pend}
 use Rattle.tmc_law.specs.Run.{Runs}
 use Rattle.tmc_law.specs.WorkedSession.{out_submit, answered}
 use Rattle.tmc_law.specs.WorkedAbortOut.{first_text, second_text, abort_submit, check_submit, usable_submit, aborting_out}
-use Rattle.tmc_law.proofs.Coming.{out_comes, asking_comes, telling_comes}
-use Rattle.tmc_law.proofs.Unspoiled.{IsGood, begun, begins, unspoiled, fits_full}
-use Rattle.tmc_law.proofs.Answering.{answers_class, answers_standard}
+use Rattle.tmc_law.proofs.WorkedComing.{out_comes, asking_comes, telling_comes}
+use Rattle.tmc_law.proofs.WorkedUnspoiled.{IsGood, begun, begins, unspoiled, fits_full}
+use Rattle.tmc_law.proofs.WorkedAnswering.{answers_class, answers_standard}
 
 abbrev first : Pending
 first = arrived (out_submit 1 64) first_text

@@ -17,11 +17,11 @@ use Rattle.tmc_law.specs.Run.{Runs}
 use Rattle.tmc_law.specs.WorkedSession.{out_submit, notify_submit, answered}
 use Rattle.tmc_law.specs.WorkedQuery.{identity}
 use Rattle.tmc_law.specs.WorkedService.{enabling_text, status_submit, requesting, service_log}
-use Rattle.tmc_law.proofs.Coming.{out_comes, notify_comes, asking_comes}
-use Rattle.tmc_law.proofs.Unspoiled.{IsGood}
-use Rattle.tmc_law.proofs.Taking.{takes_whole}
-use Rattle.tmc_law.proofs.Messages.{enables}
-use Rattle.tmc_law.proofs.Answering.{answers_class}
+use Rattle.tmc_law.proofs.WorkedComing.{out_comes, notify_comes, asking_comes}
+use Rattle.tmc_law.proofs.WorkedUnspoiled.{IsGood}
+use Rattle.tmc_law.proofs.WorkedTaking.{takes_whole}
+use Rattle.tmc_law.proofs.WorkedMessages.{enables}
+use Rattle.tmc_law.proofs.WorkedAnswering.{answers_class}
 
 abbrev came : State
 came = record start { bulk_out = arrived (out_submit 1 28) enabling_text ∷ [] }

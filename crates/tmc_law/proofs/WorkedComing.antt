@@ -11,7 +11,7 @@ use Rattle.tmc_law.specs.Put.{Put}
 use Rattle.tmc_law.specs.Queues.{IsTaken, Arrives, Queued, Unlinks}
 use Rattle.tmc_law.specs.Step.{Steps, Comes}
 use Rattle.tmc_law.specs.WorkedSession.{out_submit, in_submit, notify_submit, asking_submit, telling_submit, unlink}
-use Rattle.tmc_law.proofs.Spelling.{IsSent, submit_spelled, unlink_spelled}
+use Rattle.tmc_law.proofs.WorkedSpelling.{IsSent, submit_spelled, unlink_spelled}
 
 -- no pending submit has this number
 abbrev pub is_free : ℕ → List Pending → Bool

@@ -7,8 +7,8 @@ use Rattle.tmc_law.specs.WorkedSession.{in_submit}
 use Rattle.tmc_law.specs.WorkedQuery.{request_text}
 use Rattle.tmc_law.specs.WorkedRead.{read_text, first_packet, second_packet, read_log}
 use Rattle.tmc_law.specs.WorkedOverflow.{overflowing}
-use Rattle.tmc_law.proofs.Coming.{out_comes, in_comes}
-use Rattle.tmc_law.proofs.Read.{read_came, request_came, came, waits, executed, requested, sends, takes_read, executes_read, takes_request, begins_block}
+use Rattle.tmc_law.proofs.WorkedComing.{out_comes, in_comes}
+use Rattle.tmc_law.proofs.WorkedRead.{read_came, request_came, came, waits, executed, requested, sends, takes_read, executes_read, takes_request, begins_block}
 
 -- the second packet is to come
 abbrev full : State

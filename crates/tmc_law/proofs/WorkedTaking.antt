@@ -7,7 +7,7 @@ use Rattle.tmc_law.specs.State.{State, Pending, Plugged}
 use Rattle.tmc_law.specs.Put.{ended, success}
 use Rattle.tmc_law.specs.BulkOut.{TakesEffect, TransferEnds, Moves, DoesMove, Last, Interrupts, wants, packets_of}
 use Rattle.tmc_law.specs.Step.{Steps, Take}
-use Rattle.tmc_law.proofs.Unspoiled.{IsGood, begun, begins, unspoiled, fits_whole}
+use Rattle.tmc_law.proofs.WorkedUnspoiled.{IsGood, begun, begins, unspoiled, fits_whole}
 
 -- the submit with all its bytes taken
 abbrev pub all_taken : Pending → Pending

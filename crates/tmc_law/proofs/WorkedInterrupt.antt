@@ -12,11 +12,11 @@ use Rattle.tmc_law.specs.Run.{Runs}
 use Rattle.tmc_law.specs.WorkedSession.{out_submit, answered}
 use Rattle.tmc_law.specs.WorkedQuery.{query_text, identity}
 use Rattle.tmc_law.specs.WorkedInterrupt.{second_text, interrupting, interrupt_log}
-use Rattle.tmc_law.proofs.Coming.{out_comes}
-use Rattle.tmc_law.proofs.Unspoiled.{IsGood}
-use Rattle.tmc_law.proofs.Taking.{takes_whole}
-use Rattle.tmc_law.proofs.Messages.{identifies}
-use Rattle.tmc_law.proofs.Query.{query_good, some_identity}
+use Rattle.tmc_law.proofs.WorkedComing.{out_comes}
+use Rattle.tmc_law.proofs.WorkedUnspoiled.{IsGood}
+use Rattle.tmc_law.proofs.WorkedTaking.{takes_whole}
+use Rattle.tmc_law.proofs.WorkedMessages.{identifies}
+use Rattle.tmc_law.proofs.WorkedQuery.{query_good, some_identity}
 
 abbrev first_came : State
 first_came = record start { bulk_out = arrived (out_submit 1 20) query_text ∷ [] }

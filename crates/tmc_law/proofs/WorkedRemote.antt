@@ -13,8 +13,8 @@ use Rattle.tmc_law.specs.Step.{Steps, Answer}
 use Rattle.tmc_law.specs.Run.{Runs}
 use Rattle.tmc_law.specs.WorkedSession.{answered}
 use Rattle.tmc_law.specs.WorkedRemote.{remote_submit, capabilities_submit, operating, remote_log}
-use Rattle.tmc_law.proofs.Coming.{asking_comes}
-use Rattle.tmc_law.proofs.Answering.{answers_class}
+use Rattle.tmc_law.proofs.WorkedComing.{asking_comes}
+use Rattle.tmc_law.proofs.WorkedAnswering.{answers_class}
 
 abbrev remote_came : State
 remote_came = record start { control = arrived remote_submit [] ∷ [] }

@@ -15,9 +15,9 @@ use Rattle.tmc_law.specs.Run.{Runs}
 use Rattle.tmc_law.specs.WorkedSession.{out_submit, answered}
 use Rattle.tmc_law.specs.WorkedAbortOut.{first_text}
 use Rattle.tmc_law.specs.WorkedDeclined.{abort_submit, declining}
-use Rattle.tmc_law.proofs.Coming.{out_comes, asking_comes}
-use Rattle.tmc_law.proofs.Unspoiled.{IsGood, begun, begins, unspoiled, fits_full}
-use Rattle.tmc_law.proofs.Answering.{answers_class}
+use Rattle.tmc_law.proofs.WorkedComing.{out_comes, asking_comes}
+use Rattle.tmc_law.proofs.WorkedUnspoiled.{IsGood, begun, begins, unspoiled, fits_full}
+use Rattle.tmc_law.proofs.WorkedAnswering.{answers_class}
 
 abbrev first : Pending
 first = arrived (out_submit 2 64) first_text

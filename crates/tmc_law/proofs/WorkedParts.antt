@@ -11,10 +11,10 @@ use Rattle.tmc_law.specs.Run.{Runs}
 use Rattle.tmc_law.specs.WorkedSession.{out_submit, answered}
 use Rattle.tmc_law.specs.WorkedQuery.{identity}
 use Rattle.tmc_law.specs.WorkedParts.{spaces_text, last_text, spaced, sending_parts, parts_log}
-use Rattle.tmc_law.proofs.Coming.{out_comes}
-use Rattle.tmc_law.proofs.Unspoiled.{IsGood, begun, begins, unspoiled, unspoiled_inside, fits_whole}
-use Rattle.tmc_law.proofs.Taking.{takes_whole}
-use Rattle.tmc_law.proofs.Messages.{identifies_behind_spaces}
+use Rattle.tmc_law.proofs.WorkedComing.{out_comes}
+use Rattle.tmc_law.proofs.WorkedUnspoiled.{IsGood, begun, begins, unspoiled, unspoiled_inside, fits_whole}
+use Rattle.tmc_law.proofs.WorkedTaking.{takes_whole}
+use Rattle.tmc_law.proofs.WorkedMessages.{identifies_behind_spaces}
 
 abbrev header_bytes : List ℕ
 header_bytes = 0x01 ∷ 0x01 ∷ 0xfe ∷ 0x00 ∷ 0x64 ∷ 0x00 ∷ 0x00 ∷ 0x00 ∷ 0x00 ∷ 0x00 ∷ 0x00 ∷ 0x00 ∷ []

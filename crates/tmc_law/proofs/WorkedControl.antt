@@ -14,8 +14,8 @@ use Rattle.tmc_law.specs.Step.{Steps, Answer}
 use Rattle.tmc_law.specs.Run.{Runs}
 use Rattle.tmc_law.specs.WorkedSession.{answered}
 use Rattle.tmc_law.specs.WorkedControl.{descriptor_submit, unknown_submit, asking_control}
-use Rattle.tmc_law.proofs.Coming.{asking_comes}
-use Rattle.tmc_law.proofs.Answering.{answers_standard}
+use Rattle.tmc_law.proofs.WorkedComing.{asking_comes}
+use Rattle.tmc_law.proofs.WorkedAnswering.{answers_standard}
 
 abbrev descriptor_came : State
 descriptor_came = record start { control = arrived descriptor_submit [] ∷ [] }

@@ -11,8 +11,8 @@ use Rattle.tmc_law.specs.Class.{DoesPostpone}
 use Rattle.tmc_law.specs.Step.{Steps, Answer, Pend}
 use Rattle.tmc_law.specs.Run.{Runs}
 use Rattle.tmc_law.specs.WorkedChecks.{clear_submit, check_submit, checking, check_log}
-use Rattle.tmc_law.proofs.Coming.{asking_comes}
-use Rattle.tmc_law.proofs.Answering.{answers_class}
+use Rattle.tmc_law.proofs.WorkedComing.{asking_comes}
+use Rattle.tmc_law.proofs.WorkedAnswering.{answers_class}
 
 abbrev check_came : ℕ → State → State
 check_came seqnum s = record s { control = arrived (check_submit seqnum) [] ∷ [] }

@@ -18,9 +18,9 @@ use Rattle.tmc_law.specs.WorkedSession.{out_submit, answered}
 use Rattle.tmc_law.specs.WorkedQuery.{request_text, response_submit}
 use Rattle.tmc_law.specs.WorkedRead.{first_packet}
 use Rattle.tmc_law.specs.WorkedClear.{clear_submit, check_submit, usable_submit, clearing, clear_log}
-use Rattle.tmc_law.proofs.Coming.{asking_comes, telling_comes, turned_away}
-use Rattle.tmc_law.proofs.Answering.{answers_class, answers_standard}
-use Rattle.tmc_law.proofs.Read.{half}
+use Rattle.tmc_law.proofs.WorkedComing.{asking_comes, telling_comes, turned_away}
+use Rattle.tmc_law.proofs.WorkedAnswering.{answers_class, answers_standard}
+use Rattle.tmc_law.proofs.WorkedRead.{half}
 
 abbrev clear_came : State
 clear_came = record half { control = arrived clear_submit [] ∷ [] }

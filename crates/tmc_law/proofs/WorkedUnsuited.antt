@@ -12,11 +12,11 @@ use Rattle.tmc_law.specs.WorkedSession.{out_submit, answered}
 use Rattle.tmc_law.specs.WorkedQuery.{request_text}
 use Rattle.tmc_law.specs.WorkedInterrupt.{second_text}
 use Rattle.tmc_law.specs.WorkedUnsuited.{part_text, long_text, sending_nothing, sending_inside, sending_while_owed, sending_too_much}
-use Rattle.tmc_law.proofs.Coming.{out_comes}
-use Rattle.tmc_law.proofs.Unspoiled.{IsGood}
-use Rattle.tmc_law.proofs.Taking.{takes_whole}
-use Rattle.tmc_law.proofs.Query.{request_good}
-use Rattle.tmc_law.proofs.Bare.{came, owed, takes_request}
+use Rattle.tmc_law.proofs.WorkedComing.{out_comes}
+use Rattle.tmc_law.proofs.WorkedUnspoiled.{IsGood}
+use Rattle.tmc_law.proofs.WorkedTaking.{takes_whole}
+use Rattle.tmc_law.proofs.WorkedQuery.{request_good}
+use Rattle.tmc_law.proofs.WorkedBare.{came, owed, takes_request}
 
 -- a submit of no bytes
 abbrev empty_came : State

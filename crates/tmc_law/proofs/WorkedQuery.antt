@@ -13,10 +13,10 @@ use Rattle.tmc_law.specs.Step.{Steps, Comes, Take, Exec, Begin, Fill}
 use Rattle.tmc_law.specs.Run.{Runs}
 use Rattle.tmc_law.specs.WorkedSession.{submits, answered}
 use Rattle.tmc_law.specs.WorkedQuery.{query_submit, request_submit, response_submit, query_text, request_text, response_text, identity, query_log, asking, answering}
-use Rattle.tmc_law.proofs.Coming.{out_comes, in_comes}
-use Rattle.tmc_law.proofs.Unspoiled.{IsGood}
-use Rattle.tmc_law.proofs.Taking.{takes_whole}
-use Rattle.tmc_law.proofs.Messages.{identifies}
+use Rattle.tmc_law.proofs.WorkedComing.{out_comes, in_comes}
+use Rattle.tmc_law.proofs.WorkedUnspoiled.{IsGood}
+use Rattle.tmc_law.proofs.WorkedTaking.{takes_whole}
+use Rattle.tmc_law.proofs.WorkedMessages.{identifies}
 
 -- the submits come
 abbrev pub query_came : State

@@ -10,9 +10,9 @@ use Rattle.tmc_law.specs.Step.{Steps, Take}
 use Rattle.tmc_law.specs.Run.{Runs}
 use Rattle.tmc_law.specs.WorkedSession.{out_submit, answered}
 use Rattle.tmc_law.specs.WorkedTrigger.{trigger_text, triggering, trigger_log}
-use Rattle.tmc_law.proofs.Coming.{out_comes}
-use Rattle.tmc_law.proofs.Unspoiled.{IsGood}
-use Rattle.tmc_law.proofs.Taking.{takes_whole}
+use Rattle.tmc_law.proofs.WorkedComing.{out_comes}
+use Rattle.tmc_law.proofs.WorkedUnspoiled.{IsGood}
+use Rattle.tmc_law.proofs.WorkedTaking.{takes_whole}
 
 abbrev came : State
 came = record start { bulk_out = arrived (out_submit 1 12) trigger_text ∷ [] }

@@ -7,8 +7,8 @@ use Rattle.tmc_law.specs.Step.{Steps, Refuses, Twice, ByField, ByPending}
 use Rattle.tmc_law.specs.Run.{Runs}
 use Rattle.tmc_law.specs.WorkedSession.{in_submit}
 use Rattle.tmc_law.specs.WorkedRefused.{again_text, number_field, command_field, coming_twice, coming_wrong}
-use Rattle.tmc_law.proofs.Spelling.{submit_spells}
-use Rattle.tmc_law.proofs.Coming.{in_comes}
+use Rattle.tmc_law.proofs.WorkedSpelling.{submit_spells}
+use Rattle.tmc_law.proofs.WorkedComing.{in_comes}
 
 abbrev came : State
 came = record start { bulk_in = arrived (in_submit 1 4096) [] ∷ [] }

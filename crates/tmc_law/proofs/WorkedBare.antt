@@ -17,10 +17,10 @@ use Rattle.tmc_law.specs.Run.{Runs}
 use Rattle.tmc_law.specs.WorkedSession.{out_submit, in_submit, answered}
 use Rattle.tmc_law.specs.WorkedQuery.{request_text}
 use Rattle.tmc_law.specs.WorkedBare.{abort_submit, check_submit, requesting_nothing, bare_log}
-use Rattle.tmc_law.proofs.Coming.{out_comes, in_comes, asking_comes}
-use Rattle.tmc_law.proofs.Taking.{takes_whole}
-use Rattle.tmc_law.proofs.Answering.{answers_class}
-use Rattle.tmc_law.proofs.Query.{request_good}
+use Rattle.tmc_law.proofs.WorkedComing.{out_comes, in_comes, asking_comes}
+use Rattle.tmc_law.proofs.WorkedTaking.{takes_whole}
+use Rattle.tmc_law.proofs.WorkedAnswering.{answers_class}
+use Rattle.tmc_law.proofs.WorkedQuery.{request_good}
 
 abbrev pub came : State
 came = record start { bulk_out = arrived (out_submit 1 12) request_text ∷ [] }

@@ -15,9 +15,9 @@ use Rattle.tmc_law.specs.WorkedSession.{in_submit, answered}
 use Rattle.tmc_law.specs.WorkedQuery.{response_submit}
 use Rattle.tmc_law.specs.WorkedRead.{first_packet, read_log}
 use Rattle.tmc_law.specs.WorkedHalt.{status_submit, usable_submit, halting}
-use Rattle.tmc_law.proofs.Coming.{asking_comes, telling_comes, turned_away}
-use Rattle.tmc_law.proofs.Answering.{answers_standard}
-use Rattle.tmc_law.proofs.Read.{half}
+use Rattle.tmc_law.proofs.WorkedComing.{asking_comes, telling_comes, turned_away}
+use Rattle.tmc_law.proofs.WorkedAnswering.{answers_standard}
+use Rattle.tmc_law.proofs.WorkedRead.{half}
 
 abbrev halted : State
 halted = record start { halted = record { bulk_out = false; bulk_in = true; interrupt_in = false }; log = read_log }

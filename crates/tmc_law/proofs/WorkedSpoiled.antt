@@ -16,9 +16,9 @@ use Rattle.tmc_law.specs.Step.{Steps, Take, Answer}
 use Rattle.tmc_law.specs.Run.{Runs}
 use Rattle.tmc_law.specs.WorkedSession.{out_submit, answered}
 use Rattle.tmc_law.specs.WorkedSpoiled.{unknown_text, long_text, usable_submit, sending_unknown, sending_long}
-use Rattle.tmc_law.proofs.Coming.{out_comes, telling_comes}
-use Rattle.tmc_law.proofs.Unspoiled.{IsGood, begun, begins}
-use Rattle.tmc_law.proofs.Answering.{answers_standard}
+use Rattle.tmc_law.proofs.WorkedComing.{out_comes, telling_comes}
+use Rattle.tmc_law.proofs.WorkedUnspoiled.{IsGood, begun, begins}
+use Rattle.tmc_law.proofs.WorkedAnswering.{answers_standard}
 
 abbrev unknown_came : State
 unknown_came = record start { bulk_out = arrived (out_submit 1 12) unknown_text ∷ [] }

@@ -15,8 +15,8 @@ use Rattle.tmc_law.specs.Step.{Steps, Answer, Poll, Notify}
 use Rattle.tmc_law.specs.Run.{Runs}
 use Rattle.tmc_law.specs.WorkedSession.{notify_submit, answered}
 use Rattle.tmc_law.specs.WorkedStatus.{status_submit, status_asked, answer_first, packet_first, unlink_behind_poll, no_room, wrong_submit, early_submit, statuses, status_log}
-use Rattle.tmc_law.proofs.Coming.{notify_comes, asking_comes, unlink_comes}
-use Rattle.tmc_law.proofs.Answering.{answers_class}
+use Rattle.tmc_law.proofs.WorkedComing.{notify_comes, asking_comes, unlink_comes}
+use Rattle.tmc_law.proofs.WorkedAnswering.{answers_class}
 
 abbrev notify_came : State
 notify_came = record start { interrupt_in = arrived (notify_submit 1 8) [] ∷ [] }

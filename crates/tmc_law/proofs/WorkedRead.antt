@@ -14,11 +14,11 @@ use Rattle.tmc_law.specs.Run.{Runs}
 use Rattle.tmc_law.specs.WorkedSession.{in_submit, answered}
 use Rattle.tmc_law.specs.WorkedQuery.{request_submit, request_text, response_submit}
 use Rattle.tmc_law.specs.WorkedRead.{read_submit, read_text, block, first_packet, second_packet, reading, read_log}
-use Rattle.tmc_law.proofs.Coming.{out_comes, in_comes}
-use Rattle.tmc_law.proofs.Unspoiled.{IsGood}
-use Rattle.tmc_law.proofs.Taking.{takes_whole}
-use Rattle.tmc_law.proofs.Messages.{reads}
-use Rattle.tmc_law.proofs.Query.{request_good}
+use Rattle.tmc_law.proofs.WorkedComing.{out_comes, in_comes}
+use Rattle.tmc_law.proofs.WorkedUnspoiled.{IsGood}
+use Rattle.tmc_law.proofs.WorkedTaking.{takes_whole}
+use Rattle.tmc_law.proofs.WorkedMessages.{reads}
+use Rattle.tmc_law.proofs.WorkedQuery.{request_good}
 
 abbrev pub read_came : State
 read_came = record start { bulk_out = arrived read_submit read_text ∷ [] }
