@@ -1,9 +1,9 @@
 -- behind the first packet of a response, its transfer is aborted, step by step
-use Rattle.std.proofs.Common.{◌≡◌, ℕ, Bool, true, false, List, [], ◌∷◌, ◌++◌, refl, lit<, lit≤}
+use Rattle.std.proofs.Common.{ℕ, true, false, [], ◌∷◌, refl, lit<, lit≤}
 use Rattle.tmc_wire.specs.declared.class_request.ClassRequest.TheVariants.{AbortIn, CheckIn}
 use Rattle.tmc_wire.specs.ControlTable.{row}
 use Rattle.tmc_law.specs.Endpoint.{ends}
-use Rattle.tmc_law.specs.State.{State, Pending, start, arrived, Sending, AbortsIn}
+use Rattle.tmc_law.specs.State.{State, start, arrived, Sending, AbortsIn}
 use Rattle.tmc_law.specs.Put.{success}
 use Rattle.tmc_law.specs.BulkIn.{Ends}
 use Rattle.tmc_law.specs.Control.{Asks}

@@ -1,5 +1,5 @@
 -- a message in two submits, aborted between them, step by step
-use Rattle.std.proofs.Common.{◌≡◌, ◌≢◌, ℕ, Bool, true, false, List, [], ◌∷◌, ◌++◌, Some, None, inl, inr, refl, lit<, lit≤}
+use Rattle.std.proofs.Common.{ℕ, true, false, [], ◌∷◌, Some, inr, refl, lit<, lit≤}
 use Rattle.std.proofs.lemmas.Bool.{eqb-false}
 use Rattle.usb_setup.specs.declared.setup.Setup.{Setup}
 use Rattle.tmc_wire.specs.declared.header.OutHeader.TheVariants.{Message}

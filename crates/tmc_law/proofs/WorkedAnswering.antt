@@ -1,8 +1,8 @@
 -- how the first control submit of a worked run is answered
-use Rattle.std.proofs.Common.{◌≡◌, ℕ, List, [], ◌∷◌, refl, lit<}
+use Rattle.std.proofs.Common.{◌≡◌, List, [], ◌∷◌, refl}
 use Rattle.usb_setup.specs.declared.setup.Setup.{Setup}
 use Rattle.tmc_wire.specs.declared.class_request.ClassRequest.{ClassRequest}
-use Rattle.tmc_wire.specs.ControlTable.{IsRow, TagFits, row}
+use Rattle.tmc_wire.specs.ControlTable.{TagFits, row}
 use Rattle.tmc_law.specs.Endpoint.{ends}
 use Rattle.tmc_law.specs.State.{State, Pending, Plugged}
 use Rattle.tmc_law.specs.Control.{Asks, control_answer}

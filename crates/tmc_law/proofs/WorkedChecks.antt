@@ -1,5 +1,5 @@
 -- checks of a clear, step by step
-use Rattle.std.proofs.Common.{◌≡◌, ℕ, true, false, List, [], ◌∷◌, refl, lit<, lit≤}
+use Rattle.std.proofs.Common.{ℕ, true, false, [], ◌∷◌, refl, lit<, lit≤}
 use Rattle.tmc_wire.specs.declared.class_request.ClassRequest.TheVariants.{Clear, CheckClear}
 use Rattle.tmc_wire.specs.ControlTable.{row}
 use Rattle.instr_plain.specs.Standing.{at_power_on}
@@ -8,7 +8,6 @@ use Rattle.tmc_law.specs.State.{State, start, arrived, Clears}
 use Rattle.tmc_law.specs.Control.{Asks}
 use Rattle.tmc_law.specs.Aborts.{DoesClear, checked_clear}
 use Rattle.tmc_law.specs.Class.{DoesPostpone}
-use Rattle.tmc_law.specs.Step.{Steps, Answer, Pend}
 use Rattle.tmc_law.specs.Run.{Runs}
 use Rattle.tmc_law.specs.WorkedChecks.{clear_submit, check_submit, checking, check_log}
 use Rattle.tmc_law.proofs.WorkedComing.{asking_comes}

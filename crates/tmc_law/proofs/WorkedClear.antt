@@ -1,12 +1,12 @@
 -- behind the first packet of a response, all is cleared, step by step
-use Rattle.std.proofs.Common.{◌≡◌, ℕ, Bool, true, false, List, [], ◌∷◌, ◌++◌, refl, lit<, lit≤, arith}
+use Rattle.std.proofs.Common.{true, false, [], ◌∷◌, refl, lit<, lit≤, arith}
 use Rattle.usb_setup.specs.declared.setup.Setup.{Setup}
 use Rattle.usbip_wire.specs.Up as up
 use Rattle.tmc_wire.specs.declared.class_request.ClassRequest.TheVariants.{Clear, CheckClear}
 use Rattle.tmc_wire.specs.ControlTable.{row}
 use Rattle.instr_plain.specs.Standing.{at_power_on}
 use Rattle.tmc_law.specs.Endpoint.{Endpoint, Control, BulkOut, BulkIn, InterruptIn, ends}
-use Rattle.tmc_law.specs.State.{State, Pending, start, arrived, Clears}
+use Rattle.tmc_law.specs.State.{State, start, arrived, Clears}
 use Rattle.tmc_law.specs.Put.{success, stalled}
 use Rattle.tmc_law.specs.Queues.{IsTaken, TurnedAway}
 use Rattle.tmc_law.specs.Control.{Asks}

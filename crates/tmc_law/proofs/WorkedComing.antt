@@ -1,12 +1,10 @@
 -- submits and unlinks that come in a worked run
-use Rattle.std.proofs.Common.{◌≡◌, ◌≢◌, ℕ, ◌<◌, ◌≤◌, ◌^◌, ◌==◌, ◌&&◌, not, Bool, true, false, nat_lt, List, [], ◌∷◌, ◌++◌, length, refl, inl, arith, lit<, lit≤, rules}
+use Rattle.std.proofs.Common.{◌≡◌, ℕ, ◌<◌, ◌≤◌, ◌^◌, ◌==◌, ◌&&◌, not, Bool, true, false, nat_lt, List, [], ◌∷◌, ◌++◌, length, refl, arith, lit≤}
 use Rattle.std.proofs.lemmas.Bool.{eqb-false, ltb-true}
-use Rattle.usbip_wire.specs.declared.urb.Dir.TheVariants.{Out, In}
 use Rattle.usbip_wire.specs.declared.submit.SubmitHead.{SubmitHead}
-use Rattle.usbip_wire.specs.declared.unlink.UnlinkHead.{UnlinkHead}
 use Rattle.usbip_wire.specs.Up as up
 use Rattle.tmc_law.specs.Endpoint.{Endpoint, Control, BulkOut, BulkIn, InterruptIn}
-use Rattle.tmc_law.specs.State.{State, Pending, Plugged, arrived, queue_of, with_queue, pending, Avoids, is_halted}
+use Rattle.tmc_law.specs.State.{State, Pending, Plugged, arrived, queue_of, with_queue, pending, Avoids}
 use Rattle.tmc_law.specs.Put.{Put}
 use Rattle.tmc_law.specs.Queues.{IsTaken, Arrives, Queued, Unlinks}
 use Rattle.tmc_law.specs.Step.{Steps, Comes}

@@ -1,9 +1,9 @@
 -- behind the first packet of a response, Bulk-IN halts, step by step
-use Rattle.std.proofs.Common.{◌≡◌, ◌≢◌, ℕ, Bool, true, false, List, [], ◌∷◌, refl, lit<, lit≤, arith}
+use Rattle.std.proofs.Common.{◌≢◌, true, false, [], ◌∷◌, refl, lit<, lit≤, arith}
 use Rattle.usb_setup.specs.declared.setup.Setup.{Setup}
 use Rattle.usbip_wire.specs.Up as up
 use Rattle.tmc_law.specs.Endpoint.{Endpoint, Control, BulkOut, BulkIn, InterruptIn}
-use Rattle.tmc_law.specs.State.{State, Pending, start, arrived}
+use Rattle.tmc_law.specs.State.{State, start, arrived}
 use Rattle.tmc_law.specs.Put.{success, stalled}
 use Rattle.tmc_law.specs.Halts.{DoesHalt}
 use Rattle.tmc_law.specs.Queues.{IsTaken, TurnedAway}

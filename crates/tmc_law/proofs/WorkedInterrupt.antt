@@ -1,5 +1,5 @@
 -- a message interrupts a response, step by step
-use Rattle.std.proofs.Common.{◌≡◌, ◌≢◌, ℕ, Bool, true, false, List, [], ◌∷◌, ◌++◌, codes, Some, None, inl, inr, refl, lit<, lit≤}
+use Rattle.std.proofs.Common.{true, [], ◌∷◌, codes, Some, inr, refl, lit<, lit≤}
 use Rattle.std.proofs.lemmas.Bool.{eqb-false}
 use Rattle.tmc_wire.specs.declared.header.OutHeader.TheVariants.{Message}
 use Rattle.instr_plain.specs.declared.log.LogEntry.TheVariants as entry

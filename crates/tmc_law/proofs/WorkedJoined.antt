@@ -1,5 +1,5 @@
 -- two runs of a worked session, end to end
-use Rattle.std.proofs.Common.{◌≡◌, List, [], ◌∷◌, ◌++◌, subst}
+use Rattle.std.proofs.Common.{List, [], ◌∷◌, ◌++◌, subst}
 use Rattle.tmc_law.specs.State.{State}
 use Rattle.tmc_law.specs.Run.{Entry, Runs}
 

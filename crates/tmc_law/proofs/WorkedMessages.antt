@@ -1,5 +1,5 @@
 -- program messages, and what they do
-use Rattle.std.proofs.Common.{◌≡◌, ℕ, ◌<◌, Bool, true, false, List, [], ◌∷◌, ◌++◌, ℤ, pos, codes, decimal, inl, inr, refl, sym, ap, ◌∙◌, lit<, lit≤}
+use Rattle.std.proofs.Common.{◌≡◌, ℕ, ◌<◌, true, false, List, [], ◌∷◌, ◌++◌, pos, codes, decimal, inl, inr, refl, sym, ap, ◌∙◌, lit<, lit≤}
 use Rattle.std.specs.List.{range_with_len}
 use Rattle.std.proofs.lemmas.Fmt.{decimal_digit, decimal_step}
 use Rattle.ieee_syntax.specs.declared.nrf.Nrf.{Nrf}
@@ -11,7 +11,7 @@ use Rattle.instr_plain.specs.declared.plain.Plain.{Plain}
 use Rattle.instr_plain.specs.declared.command.Command.TheVariants.{IdentificationQuery, ServiceEnable, ReadQuery}
 use Rattle.instr_plain.specs.declared.answer.Answer.TheVariants.{Block}
 use Rattle.instr_plain.specs.Answer.{bytes_of}
-use Rattle.instr_plain.specs.Exec.{Exec, IsExecuted, Progress, begun, answered, performed}
+use Rattle.instr_plain.specs.Exec.{Exec, Progress, begun, answered, performed}
 use Rattle.instr_plain.specs.Command.{unit_of}
 use Rattle.instr_plain.specs.Standing.{power_on}
 use Rattle.tmc_law.specs.WorkedQuery.{identity}

@@ -1,5 +1,5 @@
 -- a submit that a packet fills, and one that has no room for the next packet, step by step
-use Rattle.std.proofs.Common.{◌≡◌, ℕ, Bool, true, false, List, [], ◌∷◌, ◌++◌, inl, refl, lit<, lit≤}
+use Rattle.std.proofs.Common.{true, false, [], ◌∷◌, ◌++◌, inl, refl, lit<, lit≤}
 use Rattle.tmc_law.specs.State.{State, start, arrived, Sending}
 use Rattle.tmc_law.specs.BulkIn.{Full, Overflows}
 use Rattle.tmc_law.specs.Run.{Runs}

@@ -1,5 +1,5 @@
 -- a message in two transfers, step by step
-use Rattle.std.proofs.Common.{◌≡◌, ◌≢◌, ℕ, Bool, true, false, List, [], ◌∷◌, ◌++◌, codes, replicate, Some, None, inl, inr, refl, lit<, lit≤}
+use Rattle.std.proofs.Common.{◌≢◌, ℕ, true, false, List, [], ◌∷◌, ◌++◌, codes, replicate, Some, inr, refl, lit<, lit≤}
 use Rattle.std.proofs.lemmas.Bool.{eqb-false}
 use Rattle.tmc_wire.specs.declared.header.OutHeader.TheVariants.{Message}
 use Rattle.instr_plain.specs.Standing.{at_power_on}

@@ -1,17 +1,17 @@
 -- the query `*IDN?`, step by step
-use Rattle.std.proofs.Common.{◌≡◌, ◌≢◌, ℕ, Bool, true, false, List, [], ◌∷◌, ◌++◌, codes, Some, None, inl, inr, refl, lit<, lit≤}
+use Rattle.std.proofs.Common.{◌≡◌, ◌≢◌, true, [], ◌∷◌, codes, Some, inl, inr, refl, lit<, lit≤}
 use Rattle.std.proofs.lemmas.Bool.{eqb-false}
 use Rattle.tmc_wire.specs.declared.header.OutHeader.TheVariants.{Message, Request}
 use Rattle.tmc_wire.specs.Header.{in_header_bytes}
 use Rattle.instr_plain.specs.declared.log.LogEntry.TheVariants as entry
-use Rattle.instr_plain.specs.Standing.{Standing, at_power_on}
-use Rattle.tmc_law.specs.State.{State, Pending, start, arrived, Idle, Owed, Sending}
+use Rattle.instr_plain.specs.Standing.{at_power_on}
+use Rattle.tmc_law.specs.State.{State, start, arrived, Idle, Owed, Sending}
 use Rattle.tmc_law.specs.Put.{success}
 use Rattle.tmc_law.specs.BulkOut.{DoesMove, Last, Requests, NothingUnread, DoesExecute}
 use Rattle.tmc_law.specs.BulkIn.{DoesBegin, Short}
-use Rattle.tmc_law.specs.Step.{Steps, Comes, Take, Exec, Begin, Fill}
+use Rattle.tmc_law.specs.Step.{Steps, Take, Exec, Begin, Fill}
 use Rattle.tmc_law.specs.Run.{Runs}
-use Rattle.tmc_law.specs.WorkedSession.{submits, answered}
+use Rattle.tmc_law.specs.WorkedSession.{answered}
 use Rattle.tmc_law.specs.WorkedQuery.{query_submit, request_submit, response_submit, query_text, request_text, response_text, identity, query_log, asking, answering}
 use Rattle.tmc_law.proofs.WorkedComing.{out_comes, in_comes}
 use Rattle.tmc_law.proofs.WorkedUnspoiled.{IsGood}

@@ -1,11 +1,11 @@
 -- the query `READ? 60` up to the first packet of its response, step by step
-use Rattle.std.proofs.Common.{◌≡◌, ◌≢◌, ℕ, Bool, true, false, List, [], ◌∷◌, ◌++◌, codes, Some, None, inl, inr, refl, lit<, lit≤}
+use Rattle.std.proofs.Common.{◌≢◌, ℕ, true, [], ◌∷◌, ◌++◌, codes, Some, inr, refl, lit<, lit≤}
 use Rattle.std.proofs.lemmas.Bool.{eqb-false}
 use Rattle.tmc_wire.specs.declared.header.OutHeader.TheVariants.{Message, Request}
 use Rattle.tmc_wire.specs.Header.{in_header_bytes}
 use Rattle.instr_plain.specs.declared.log.LogEntry.TheVariants as entry
 use Rattle.instr_plain.specs.Standing.{at_power_on}
-use Rattle.tmc_law.specs.State.{State, Pending, start, arrived, Idle, Owed, Sending}
+use Rattle.tmc_law.specs.State.{State, Pending, start, arrived, Owed, Sending}
 use Rattle.tmc_law.specs.Put.{success}
 use Rattle.tmc_law.specs.BulkOut.{DoesMove, Last, Requests, NothingUnread, DoesExecute}
 use Rattle.tmc_law.specs.BulkIn.{DoesBegin, Inside}

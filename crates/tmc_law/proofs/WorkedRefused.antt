@@ -1,5 +1,5 @@
 -- bytes at which the device closes, step by step
-use Rattle.std.proofs.Common.{◌≡◌, ℕ, List, [], ◌∷◌, refl, lit<, lit≤}
+use Rattle.std.proofs.Common.{[], ◌∷◌, refl, lit<, lit≤}
 use Rattle.usbip_wire.specs.Urb.{fields}
 use Rattle.usbip_wire.specs.Submit.{submit_bytes}
 use Rattle.tmc_law.specs.State.{State, start, arrived, Closed, pending, Avoids}

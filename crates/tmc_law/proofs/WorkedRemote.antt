@@ -1,17 +1,14 @@
 -- the instrument is operated from remote, step by step
-use Rattle.std.proofs.Common.{◌≡◌, ℕ, true, false, List, [], ◌∷◌, refl, lit<, lit≤}
+use Rattle.std.proofs.Common.{true, [], ◌∷◌, refl, lit<, lit≤}
 use Rattle.tmc_wire.specs.declared.class_request.ClassRequest.TheVariants.{Ren, Capabilities}
 use Rattle.tmc_wire.specs.ControlTable.{row}
 use Rattle.instr_plain.specs.declared.remote.RemoteState.TheVariants.{Remote}
 use Rattle.instr_plain.specs.Standing.{power_on, at_power_on}
 use Rattle.tmc_law.specs.Endpoint.{ends}
 use Rattle.tmc_law.specs.State.{State, start, arrived}
-use Rattle.tmc_law.specs.Put.{success}
 use Rattle.tmc_law.specs.Control.{Asks}
 use Rattle.tmc_law.specs.Class.{DoesOperate, capabilities_layout}
-use Rattle.tmc_law.specs.Step.{Steps, Answer}
 use Rattle.tmc_law.specs.Run.{Runs}
-use Rattle.tmc_law.specs.WorkedSession.{answered}
 use Rattle.tmc_law.specs.WorkedRemote.{remote_submit, capabilities_submit, operating, remote_log}
 use Rattle.tmc_law.proofs.WorkedComing.{asking_comes}
 use Rattle.tmc_law.proofs.WorkedAnswering.{answers_class}

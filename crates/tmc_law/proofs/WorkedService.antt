@@ -1,18 +1,18 @@
 -- a response requests service, step by step
-use Rattle.std.proofs.Common.{◌≡◌, ℕ, Bool, true, false, List, [], ◌∷◌, ◌++◌, codes, Some, None, inl, inr, refl, lit<, lit≤}
+use Rattle.std.proofs.Common.{Bool, true, false, [], ◌∷◌, codes, Some, inr, refl, lit<, lit≤}
 use Rattle.std.proofs.lemmas.Bool.{eqb-false}
 use Rattle.tmc_wire.specs.declared.header.OutHeader.TheVariants.{Message}
 use Rattle.tmc_wire.specs.declared.class_request.ClassRequest.TheVariants.{ReadStatus}
 use Rattle.tmc_wire.specs.ControlTable.{row}
 use Rattle.instr_plain.specs.declared.log.LogEntry.TheVariants as entry
-use Rattle.instr_plain.specs.Standing.{Standing, power_on, at_power_on}
+use Rattle.instr_plain.specs.Standing.{Standing, power_on}
 use Rattle.tmc_law.specs.Endpoint.{ends}
-use Rattle.tmc_law.specs.State.{State, Pending, start, arrived, StatusPacket, ServicePacket}
+use Rattle.tmc_law.specs.State.{State, start, arrived, StatusPacket, ServicePacket}
 use Rattle.tmc_law.specs.Put.{success}
 use Rattle.tmc_law.specs.BulkOut.{DoesMove, Last, NothingUnread, DoesExecute}
 use Rattle.tmc_law.specs.Control.{Asks}
 use Rattle.tmc_law.specs.Status.{DoesPoll, PolledNow, Gives}
-use Rattle.tmc_law.specs.Step.{Steps, Take, Exec, Answer, Notify}
+use Rattle.tmc_law.specs.Step.{Steps, Take, Exec, Answer}
 use Rattle.tmc_law.specs.Run.{Runs}
 use Rattle.tmc_law.specs.WorkedSession.{out_submit, notify_submit, answered}
 use Rattle.tmc_law.specs.WorkedQuery.{identity}

@@ -1,5 +1,5 @@
 -- submits that halt Bulk-OUT, step by step
-use Rattle.std.proofs.Common.{◌≡◌, ℕ, ◌<◌, Bool, true, false, List, [], ◌∷◌, inl, inr, refl, arith, lit<, lit≤}
+use Rattle.std.proofs.Common.{◌<◌, true, false, [], ◌∷◌, inl, inr, refl, arith, lit<, lit≤}
 use Rattle.std.proofs.lemmas.Bool.{eqb-false}
 use Rattle.usb_setup.specs.declared.setup.Setup.{Setup}
 use Rattle.tmc_wire.specs.declared.header.OutHeader.TheVariants.{Message}

@@ -1,8 +1,7 @@
 -- the status byte is read, step by step
-use Rattle.std.proofs.Common.{◌≡◌, ℕ, Bool, true, false, List, [], ◌∷◌, refl, arith, lit<, lit≤}
+use Rattle.std.proofs.Common.{true, false, [], ◌∷◌, refl, arith, lit<, lit≤}
 use Rattle.tmc_wire.specs.declared.class_request.ClassRequest.TheVariants.{ReadStatus}
 use Rattle.tmc_wire.specs.ControlTable.{row}
-use Rattle.instr_plain.specs.declared.log.LogEntry.TheVariants as entry
 use Rattle.instr_plain.specs.Standing.{at_power_on}
 use Rattle.tmc_law.specs.Endpoint.{Control, ends}
 use Rattle.tmc_law.specs.State.{State, Pending, start, arrived, StatusPacket}
@@ -11,7 +10,7 @@ use Rattle.tmc_law.specs.Control.{Asks}
 use Rattle.tmc_law.specs.Queues.{Polled}
 use Rattle.tmc_law.specs.Status.{IsStatusTag, BadTag, Busy, DoesPoll, PolledNow, PolledBefore, Gives, NoRoom}
 use Rattle.tmc_law.specs.Class.{DoesPollFirst}
-use Rattle.tmc_law.specs.Step.{Steps, Answer, Poll, Notify}
+use Rattle.tmc_law.specs.Step.{Steps, Answer, Poll}
 use Rattle.tmc_law.specs.Run.{Runs}
 use Rattle.tmc_law.specs.WorkedSession.{notify_submit, answered}
 use Rattle.tmc_law.specs.WorkedStatus.{status_submit, status_asked, answer_first, packet_first, unlink_behind_poll, no_room, wrong_submit, early_submit, statuses, status_log}

@@ -1,11 +1,9 @@
 -- transfers that one packet of a submit carries whole
-use Rattle.std.proofs.Common.{◌≡◌, ◌≢◌, ℕ, ◌≤◌, Bool, true, false, List, [], ◌∷◌, ◌++◌, length, Some, None, refl}
+use Rattle.std.proofs.Common.{◌≡◌, ◌≢◌, List, [], ◌∷◌, length, None, refl}
 use Rattle.tmc_wire.specs.declared.header.OutHeader.{OutHeader}
-use Rattle.tmc_wire.specs.declared.header.OutHeader.TheVariants.{Message, Request}
-use Rattle.tmc_wire.specs.Transfer.{OutText}
 use Rattle.tmc_law.specs.State.{State, Pending, Plugged}
 use Rattle.tmc_law.specs.Put.{ended, success}
-use Rattle.tmc_law.specs.BulkOut.{TakesEffect, TransferEnds, Moves, DoesMove, Last, Interrupts, wants, packets_of}
+use Rattle.tmc_law.specs.BulkOut.{TakesEffect, TransferEnds, Moves, wants, packets_of}
 use Rattle.tmc_law.specs.Step.{Steps, Take}
 use Rattle.tmc_law.proofs.WorkedUnspoiled.{IsGood, begun, begins, unspoiled, fits_whole}
 

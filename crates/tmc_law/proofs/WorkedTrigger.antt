@@ -1,5 +1,5 @@
 -- a trigger, step by step
-use Rattle.std.proofs.Common.{◌≡◌, ℕ, List, [], ◌∷◌, inl, refl, lit<, lit≤}
+use Rattle.std.proofs.Common.{[], ◌∷◌, inl, refl, lit<, lit≤}
 use Rattle.std.proofs.lemmas.Bool.{eqb-false}
 use Rattle.tmc_wire.specs.declared.header.OutHeader.TheVariants.{Trigger}
 use Rattle.instr_plain.specs.Standing.{power_on, at_power_on}

@@ -1,8 +1,7 @@
 -- the submit with the first packet of a response is unlinked
-use Rattle.std.proofs.Common.{◌≡◌, List, [], ◌∷◌, inl, refl, lit<, lit≤}
-use Rattle.std.proofs.lemmas.Bool.{eqb-false}
+use Rattle.std.proofs.Common.{[], ◌∷◌, inl, refl, lit<, lit≤}
 use Rattle.tmc_law.specs.Endpoint.{BulkIn}
-use Rattle.tmc_law.specs.State.{State, start, arrived, Sending}
+use Rattle.tmc_law.specs.State.{State, start, arrived}
 use Rattle.tmc_law.specs.BulkIn.{Short}
 use Rattle.tmc_law.specs.Queues.{Hits, Misses}
 use Rattle.tmc_law.specs.Run.{Runs}

@@ -1,11 +1,11 @@
 -- Bulk-OUT submits whose header and length are good
-use Rattle.std.proofs.Common.{◌≡◌, ◌≢◌, ◌⊎◌, ℕ, ◌+◌, ◌-◌, ◌%◌, ◌<◌, ◌≤◌, ◌^◌, Bool, true, false, List, [], ◌∷◌, ◌++◌, length, take, Option, Some, None, get_or, refl, inl, inr, sym, ap, subst, ◌∙◌, arith}
+use Rattle.std.proofs.Common.{◌≡◌, ◌≢◌, ◌⊎◌, ℕ, ◌+◌, ◌-◌, ◌%◌, ◌<◌, ◌≤◌, Bool, true, false, List, [], length, take, Some, None, get_or, refl, inl, inr, sym, ap, subst, ◌∙◌, arith}
 use Rattle.tmc_wire.specs.declared.header.OutHeader.{OutHeader}
 use Rattle.tmc_wire.specs.declared.header.OutHeader.TheVariants.{Message, Request, Trigger}
 use Rattle.tmc_wire.specs.declared.header_fault.HeaderFault.{HeaderFault}
 use Rattle.tmc_wire.specs.declared.header_fault.HeaderFault.TheVariants.{Length, MsgId, Tag, Inverse, Size}
-use Rattle.tmc_wire.specs.Standard.{header_size, dev_dep_msg_out, request_dev_dep_msg_in, trigger}
-use Rattle.tmc_wire.specs.Header.{prefix, sized, IsOutHeader, IsTag, IsSize, eom_bit, HasEom, IsSized}
+use Rattle.tmc_wire.specs.Standard.{header_size, trigger}
+use Rattle.tmc_wire.specs.Header.{IsOutHeader, HasEom, IsSized}
 use Rattle.tmc_wire.specs.HeaderFault as fault
 use Rattle.tmc_wire.proofs.Reading.{same_size}
 use Rattle.tmc_law.specs.State.{State, Pending, Transfer, Idle}

@@ -1,9 +1,8 @@
 -- headers that do not suit the state, step by step
-use Rattle.std.proofs.Common.{◌≡◌, ◌≢◌, ℕ, Bool, true, false, List, [], ◌∷◌, ◌++◌, codes, Some, None, inr, refl, lit<, lit≤}
+use Rattle.std.proofs.Common.{◌≢◌, true, false, [], ◌∷◌, codes, inr, refl, lit<, lit≤}
 use Rattle.std.proofs.lemmas.Bool.{eqb-false}
-use Rattle.tmc_wire.specs.declared.header.OutHeader.TheVariants.{Message, Request}
-use Rattle.instr_plain.specs.Standing.{power_on, at_power_on}
-use Rattle.tmc_law.specs.State.{State, start, arrived, Idle, Owed}
+use Rattle.tmc_wire.specs.declared.header.OutHeader.TheVariants.{Message}
+use Rattle.tmc_law.specs.State.{State, start, arrived, Idle}
 use Rattle.tmc_law.specs.Put.{success, stalled}
 use Rattle.tmc_law.specs.BulkOut.{Empty, Spoiled, ByHeader, BulkInBusy, RequestInside, TooLong, DoesMove, Part, NothingUnread}
 use Rattle.tmc_law.specs.Step.{Steps, Take}

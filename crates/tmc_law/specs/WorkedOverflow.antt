@@ -1,5 +1,5 @@
 -- a submit that a packet fills, and one that has no room for the next packet
-use Rattle.std.specs.Prelude.{ℕ, List, [], ◌∷◌}
+use Rattle.std.specs.Prelude.{List, [], ◌∷◌}
 use Rattle.tmc_law.specs.Put.{success, stalled}
 use Rattle.tmc_law.specs.Step.{Take, Exec, Begin, Fill}
 use Rattle.tmc_law.specs.Run.{Entry}

@@ -1,5 +1,5 @@
 -- a submit on each endpoint, and then the device is unplugged
-use Rattle.std.specs.Prelude.{ℕ, List, [], ◌∷◌}
+use Rattle.std.specs.Prelude.{List, [], ◌∷◌}
 use Rattle.usbip_wire.specs.declared.submit.SubmitHead.{SubmitHead}
 use Rattle.tmc_law.specs.Put.{unplugged}
 use Rattle.tmc_law.specs.Step.{Unplug}

@@ -1,7 +1,7 @@
 //! Worked runs: sessions that the law allows, and steps that it refuses. Each function does nothing, and its contract
 //! says that the run is lawful.
 
-ghost use Rattle.std.specs.Prelude.{◌≡◌, ◌≢◌, ℕ, ◌<◌, Bool, true, false, List, [], ◌∷◌, ◌++◌, length, Option, Some, None};
+ghost use Rattle.std.specs.Prelude.{◌≡◌, ◌≢◌, ℕ, ◌<◌, Bool, true, false, List, [], ◌∷◌, ◌++◌, length, Some, None};
 ghost use Rattle.tmc_base.specs.declared.field.Field.{Field};
 ghost use Rattle.usbip_wire.specs.declared.submit.SubmitHead.{SubmitHead};
 ghost use Rattle.usbip_wire.specs.Up as up;
