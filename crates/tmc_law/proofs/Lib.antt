@@ -6,7 +6,6 @@ pub mod WorkedTaking
 pub mod WorkedMessages
 pub mod WorkedQuery
 pub mod WorkedRead
-pub mod WorkedUnlink
 pub mod WorkedAnswering
 pub mod WorkedAbortOut
 pub mod WorkedClear
@@ -27,3 +26,5 @@ pub mod WorkedRefused
 pub mod WorkedUnsuited
 pub mod WorkedRemote
 pub mod WorkedChecks
+pub mod WorkedUnlink
+pub mod WorkedTold

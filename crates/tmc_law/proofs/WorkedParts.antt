@@ -16,23 +16,23 @@ use Rattle.tmc_law.proofs.WorkedUnspoiled.{IsGood, begun, begins, unspoiled, uns
 use Rattle.tmc_law.proofs.WorkedTaking.{takes_whole}
 use Rattle.tmc_law.proofs.WorkedMessages.{identifies_behind_spaces}
 
-abbrev header_bytes : List ℕ
+abbrev pub header_bytes : List ℕ
 header_bytes = 0x01 ∷ 0x01 ∷ 0xfe ∷ 0x00 ∷ 0x64 ∷ 0x00 ∷ 0x00 ∷ 0x00 ∷ 0x00 ∷ 0x00 ∷ 0x00 ∷ 0x00 ∷ []
 
-abbrev first : Pending
+abbrev pub first : Pending
 first = arrived (out_submit 1 112) spaces_text
 
-abbrev first_came : State
+abbrev pub first_came : State
 first_came = record start { bulk_out = first ∷ [] }
 
 -- one packet was taken
-abbrev later : Pending
+abbrev pub later : Pending
 later = record first { left = replicate 48 32; moved = header_bytes ++ replicate 52 32 }
 
-abbrev inside : State
+abbrev pub inside : State
 inside = record start { bulk_out = later ∷ []; transfer = Some (record { header = Message 1 100 false; taken = header_bytes ++ replicate 52 32 }) }
 
-abbrev part : State
+abbrev pub part : State
 part = record start { part = replicate 100 32 }
 
 abbrev last_came : State
@@ -44,7 +44,7 @@ waits = record start { waiting = Some (record { seq = 2; message = spaced }) }
 abbrev done : State
 done = record start { log = parts_log; standing = record at_power_on { unread = identity } }
 
-spaces_good : IsGood first_came spaces_text (Message 1 100 false)
+pub spaces_good : IsGood first_came spaces_text (Message 1 100 false)
 spaces_good = record {
   idle = refl;
   fine = record { long = lit≤ tt; known = refl; tagged = eqb-false _ _ refl; inverse = refl; counted = inr (eqb-false _ _ refl) };
@@ -55,7 +55,7 @@ spaces_good = record {
 some_spaces : replicate {A = ℕ} 48 32 ≢ []
 some_spaces e = cc
 
-takes_first : Steps first_came (Take 1) [] inside
+pub takes_first : Steps first_came (Take 1) [] inside
 takes_first = record {
   plugged = refl;
   leads = (
@@ -66,7 +66,7 @@ takes_first = record {
   );
 }
 
-some_moved : later.moved ≢ []
+pub some_moved : later.moved ≢ []
 some_moved e = cc
 
 takes_second : Steps inside (Take 1) (answered (out_submit 1 112) success 112 [] ∷ []) part

@@ -63,7 +63,7 @@ query_good s idle none = record {
   suits = rw none (lit≤ tt);
 }
 
-takes_query : Steps came (Take 1) (answered query_submit success 20 [] ∷ []) waits
+pub takes_query : Steps came (Take 1) (answered query_submit success 20 [] ∷ []) waits
 takes_query =
     takes_whole came waits (arrived query_submit query_text) (arrived request_submit request_text ∷ []) (Message 1 5 true)
     (record { plugged = refl; none_waits = refl; none_runs = refl; first = refl; good = query_good came refl refl; some = eqb-false _ _ refl; one = refl; moves = DoesMove refl refl; fits = refl; full = refl })
@@ -71,7 +71,7 @@ takes_query =
     (record { head = 0x01 ∷ 0x01 ∷ 0xfe ∷ 0x00 ∷ 0x05 ∷ 0x00 ∷ 0x00 ∷ 0x00 ∷ 0x01 ∷ 0x00 ∷ 0x00 ∷ 0x00 ∷ []; alignment = 0x00 ∷ 0x00 ∷ 0x00 ∷ []; headed = (query_good came refl refl).headed; counted = refl; least = lit< tt; aligned = refl; layout = refl })
     (NothingUnread refl refl) refl)
 
-executes_query : Steps waits Exec [] executed
+pub executes_query : Steps waits Exec [] executed
 executes_query = record {
   plugged = refl;
   leads = (DoesExecute 1 (codes "*IDN?") refl (record { standing = record at_power_on { unread = identity }; after = (identifies _, refl); is = refl }), refl);
@@ -88,20 +88,20 @@ request_good s idle none = record {
 pub some_identity : identity ≢ []
 some_identity e = cc
 
-takes_request : Steps executed (Take 1) (answered request_submit success 12 [] ∷ []) requested
+pub takes_request : Steps executed (Take 1) (answered request_submit success 12 [] ∷ []) requested
 takes_request =
     takes_whole executed requested (arrived request_submit request_text) [] (Request 2 4000)
     (record { plugged = refl; none_waits = refl; none_runs = refl; first = refl; good = request_good executed refl refl; some = eqb-false _ _ refl; one = refl; moves = DoesMove refl refl; fits = refl; full = refl })
     (Requests 2 4000 refl some_identity refl)
 
-begins_response : Steps requested (Begin 19) [] sends
+pub begins_response : Steps requested (Begin 19) [] sends
 unfolding in_header_bytes
 begins_response = record {
   plugged = refl;
   leads = (DoesBegin 2 4000 refl tt (lit≤ tt) (lit≤ tt) (record { standing = at_power_on; after = refl; is = refl }), refl);
 }
 
-fills_response : Steps sends (Fill 1) (answered response_submit success 32 response_text ∷ []) done
+pub fills_response : Steps sends (Fill 1) (answered response_submit success 32 response_text ∷ []) done
 fills_response = record {
   plugged = refl;
   leads = Short (arrived response_submit []) [] (record { tag = 2; size = 19; left = response_text }) 0 refl refl tt refl (inl refl) (lit≤ tt) (lit< tt) (lit≤ tt) refl refl;

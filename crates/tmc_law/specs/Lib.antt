@@ -19,7 +19,6 @@ pub mod Laws
 pub mod WorkedSession
 pub mod WorkedQuery
 pub mod WorkedRead
-pub mod WorkedUnlink
 pub mod WorkedClear
 pub mod WorkedAbortIn
 pub mod WorkedHalt
@@ -39,3 +38,5 @@ pub mod WorkedRefused
 pub mod WorkedUnsuited
 pub mod WorkedRemote
 pub mod WorkedChecks
+pub mod WorkedUnlink
+pub mod WorkedTold

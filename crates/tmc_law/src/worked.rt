@@ -1,7 +1,7 @@
 //! Worked runs: sessions that the law allows, and steps that it refuses. Each function does nothing, and its contract
 //! says that the run is lawful.
 
-ghost use Rattle.std.specs.Prelude.{◌≡◌, ◌≢◌, ℕ, ◌<◌, Bool, true, false, List, [], ◌∷◌, ◌++◌, length, Some, None};
+ghost use Rattle.std.specs.Prelude.{◌≡◌, ◌≢◌, ℕ, ◌<◌, Bool, true, false, List, [], ◌∷◌, ◌++◌, length, replicate, Some, None};
 ghost use Rattle.tmc_base.specs.declared.field.Field.{Field};
 ghost use Rattle.usbip_wire.specs.declared.submit.SubmitHead.{SubmitHead};
 ghost use Rattle.usbip_wire.specs.Up as up;
@@ -17,7 +17,9 @@ ghost use Rattle.tmc_law.specs.Step.{Move, Comes, Take, Begin, Fill, Pend, Poll,
 ghost use Rattle.tmc_law.specs.Run.{Runs, outputs, SpellsPut};
 ghost use Rattle.tmc_law.specs.WorkedQuery.{asking, answering, query_log, query_down, identity};
 ghost use Rattle.tmc_law.specs.WorkedRead.{reading, read_log};
-ghost use Rattle.tmc_law.specs.WorkedUnlink.{unlinking};
+ghost use Rattle.tmc_law.specs.WorkedUnlink.{unlinking, unlinking_out};
+ghost use Rattle.tmc_law.specs.WorkedTold.{told_query};
+ghost use Rattle.tmc_law.specs.Told.{Tells};
 ghost use Rattle.tmc_law.specs.WorkedClear.{clearing, clear_log};
 ghost use Rattle.tmc_law.specs.WorkedAbortIn.{aborting_in};
 ghost use Rattle.tmc_law.specs.WorkedAbortOut.{aborting_out};
@@ -46,10 +48,20 @@ pub fn a_query_is_answered()
     ensures spelled { InRow SpellsPut (outputs (asking ++ answering)) query_down [] }
 {}
 
+/// The same as bytes, step by step.
+pub fn a_query_is_told()
+    ensures { Tells start told_query (record start { log = query_log }) }
+{}
+
 /// An unlink hits a Bulk-IN submit with a packet in it, and a second one misses. The packet is lost, and the next
 /// submit has the rest of the response.
 pub fn an_unlink_loses_packets()
     ensures { Runs start (reading ++ unlinking) (record start { log = read_log }) }
+{}
+
+/// An unlink of a Bulk-OUT submit keeps the packets that were taken: the next submit has the rest of the transfer.
+pub fn an_unlink_keeps_taken_packets()
+    ensures { Runs start unlinking_out (record start { part = replicate 100 32 }) }
 {}
 
 /// A message in two submits is aborted between them, checked, and Bulk-OUT made usable again. Nothing is left of it.
