@@ -1,11 +1,11 @@
 -- how control submits are answered (USB 2.0, sections 8.5.3 and 9.3)
-use Rattle.std.specs.Prelude.{◌≡◌, ℕ, min, List, [], ◌∷◌, length, take}
+use Rattle.std.specs.Prelude.{◌≡◌, ℕ, min, List, [], take}
 use Rattle.usbip_wire.specs.declared.urb.Dir.{Dir}
 use Rattle.usbip_wire.specs.declared.urb.Dir.TheVariants.{Out, In}
 use Rattle.usb_setup.specs.declared.setup.Setup.{Setup}
 use Rattle.usb_setup.specs.Setup.{setup_layout, Fits}
-use Rattle.tmc_law.specs.State.{State, Pending}
-use Rattle.tmc_law.specs.Put.{Put, answer_of, ended, success}
+use Rattle.tmc_law.specs.State.{Pending}
+use Rattle.tmc_law.specs.Put.{Put, answer_of, success}
 
 -- the submit carries this setup packet
 pub record Asks (submit : Pending) (setup : Setup) : Type 0 where

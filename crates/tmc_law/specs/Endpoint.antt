@@ -1,5 +1,5 @@
 -- the endpoints of the instrument (USB 2.0, section 5.3.1, and the descriptors of section 9.6.6)
-use Rattle.std.specs.Prelude.{ℕ, nat_lt, if◌then◌else◌, Option, Some}
+use Rattle.std.specs.Prelude.{ℕ, nat_lt, if◌then◌else◌, Some}
 use Rattle.usb_setup.specs.declared.ends.Ends.{Ends}
 use Rattle.usb_setup.specs.Identity as identity
 use Rattle.usbip_wire.specs.declared.urb.Dir.{Dir}

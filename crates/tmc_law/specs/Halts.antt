@@ -1,7 +1,7 @@
 -- halts and unplugging (USB 2.0, sections 5.3.2, 5.8.5 and 9.1)
-use Rattle.std.specs.Prelude.{◌≡◌, ◌≢◌, ℤ, false, true, List, [], ◌∷◌, ◌++◌, map, Option, None}
+use Rattle.std.specs.Prelude.{◌≡◌, ◌≢◌, ℤ, false, true, List, [], ◌∷◌, ◌++◌, map, None}
 use Rattle.tmc_law.specs.Endpoint.{Endpoint, Control, BulkOut, BulkIn, InterruptIn}
-use Rattle.tmc_law.specs.State.{State, Pending, Idle, Unplugged, queue_of, with_queue, pending, with_halt, is_halted}
+use Rattle.tmc_law.specs.State.{State, Pending, Idle, Unplugged, queue_of, with_queue, with_halt, is_halted}
 use Rattle.tmc_law.specs.Put.{Put, answer_of, ended, stalled, unplugged}
 
 -- the first submit of a queue ends with the bytes that it had, and the others have none

@@ -1,15 +1,15 @@
 -- what the laws speak of
-use Rattle.std.specs.Prelude.{◌≡◌, ◌≢◌, ◌⊎◌, ℕ, ◌+◌, Bool, true, false, ◌==◌, ◌||◌, if◌then◌else◌, List, [], ◌∷◌, ◌++◌}
+use Rattle.std.specs.Prelude.{◌≡◌, ◌≢◌, ℕ, ◌+◌, Bool, false, ◌==◌, ◌||◌, if◌then◌else◌, List, [], ◌∷◌, ◌++◌}
 use Rattle.usbip_wire.specs.declared.dirs.Outstanding.{Outstanding}
 use Rattle.usbip_wire.specs.declared.dirs.Outstanding.TheVariants as outstanding
 use Rattle.usbip_wire.specs.Dirs.{others}
 use Rattle.usbip_wire.specs.Down as down
 use Rattle.usbip_wire.specs.Up as up
 use Rattle.instr_plain.specs.declared.log.LogEntry.{LogEntry}
-use Rattle.instr_plain.specs.declared.log.LogEntry.TheVariants.{Exec, Took, Interrupt, Bare, Trigger, Poll, Clear, Remote}
+use Rattle.instr_plain.specs.declared.log.LogEntry.TheVariants.{Exec, Took, Clear}
 use Rattle.tmc_law.specs.State.{Pending}
 use Rattle.tmc_law.specs.Put.{Put, Submitted, Unlinked}
-use Rattle.tmc_law.specs.Run.{Entry, taken, inputs}
+use Rattle.tmc_law.specs.Run.{Entry, taken}
 
 -- the number of a message
 abbrev pub number_of : up.Message → ℕ

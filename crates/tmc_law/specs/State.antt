@@ -1,5 +1,5 @@
 -- the states of a lawful device
-use Rattle.std.specs.Prelude.{◌≢◌, ℕ, ◌-◌, ◌+◌, min, Bool, true, false, List, [], ◌∷◌, ◌++◌, length, Option, None}
+use Rattle.std.specs.Prelude.{◌≢◌, ℕ, ◌-◌, ◌+◌, min, Bool, false, List, [], ◌∷◌, ◌++◌, length, Option, None}
 use Rattle.tmc_base.specs.declared.field.Field.{Field}
 use Rattle.usbip_wire.specs.declared.submit.SubmitHead.{SubmitHead}
 use Rattle.tmc_wire.specs.declared.header.OutHeader.{OutHeader}

@@ -1,5 +1,5 @@
 -- READ_STATUS_BYTE, and the packets on Interrupt-IN (USB488 1.0, sections 3.4 and 4.3.1)
-use Rattle.std.specs.Prelude.{◌≡◌, ◌≢◌, ◌⊎◌, ℕ, ◌+◌, ◌<◌, ◌≤◌, Bool, true, false, List, [], ◌∷◌, ◌++◌}
+use Rattle.std.specs.Prelude.{◌≡◌, ℕ, ◌+◌, ◌<◌, ◌≤◌, Bool, true, false, List, [], ◌∷◌, ◌++◌}
 use Rattle.instr_plain.specs.declared.log.LogEntry.TheVariants as entry
 use Rattle.instr_plain.specs.Standing.{polled_byte}
 use Rattle.tmc_law.specs.Endpoint.{InterruptIn}

@@ -1,5 +1,5 @@
 -- the steps of a lawful device: what may happen to it and what it may do, from a state to a state
-use Rattle.std.specs.Prelude.{◌≡◌, ◌≢◌, ◌⊎◌, ℕ, ◌<◌, ◌≤◌, true, false, List, [], ◌∷◌, ◌++◌, length, Option, None}
+use Rattle.std.specs.Prelude.{◌≡◌, ℕ, ◌<◌, ◌≤◌, List, [], ◌++◌, length, None}
 use Rattle.tmc_base.specs.declared.field.Field.{Field}
 use Rattle.tmc_base.specs.declared.field.Layer.TheVariants.{Urb}
 use Rattle.tmc_base.specs.declared.field.Name.TheVariants as name

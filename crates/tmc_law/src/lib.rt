@@ -2,7 +2,8 @@
 //!
 //! The definitions in `specs/` are the law: the states of a device, its steps and its runs, by USB 2.0, USBTMC 1.0,
 //! USB488 1.0 and IEEE 488.2. A device is proved against them, and a host is proved over every device that keeps
-//! them. The functions of `laws` do nothing; each contract says what holds of all lawful runs.
+//! them. The functions of `laws`, `layouts` and `worked` do nothing; each contract says what holds of all lawful runs,
+//! or that a run is one.
 //!
 //! The types here are the data that a device and its users share.
 #![tactic(auto)]
@@ -15,6 +16,7 @@ mod log;
 mod output;
 #[cfg(test)]
 mod tests;
+mod worked;
 
 pub use dev_event::DevEvent;
 pub use input::Input;
@@ -29,3 +31,18 @@ pub use layouts::{
 };
 pub use log::Log;
 pub use output::Output;
+pub use worked::{
+    a_bare_request_is_aborted, a_busy_device_takes_no_header, a_halt_drops_a_response,
+    a_halted_endpoint_takes_nothing, a_message_comes_in_parts, a_message_interrupts_a_response,
+    a_packet_without_room_stays, a_polled_request_is_answered, a_query_is_answered,
+    a_query_is_told, a_remote_act_is_logged, a_response_is_aborted, a_response_is_cleared,
+    a_response_overflows, a_response_requests_service, a_split_message_is_aborted,
+    a_status_comes_before_or_behind, a_trigger_is_counted, aborts_are_declined,
+    an_aborted_piece_gives_nothing, an_unlink_keeps_taken_packets, an_unlink_loses_packets,
+    checks_may_be_pending, control_requests_are_answered, headers_have_to_suit,
+    no_number_comes_twice, no_packet_without_a_piece, no_piece_begins_in_an_abort,
+    no_piece_is_longer_than_the_response, no_request_is_polled_twice, nothing_follows_a_refusal,
+    nothing_follows_unplugging, nothing_is_pending_where_nothing_runs,
+    nothing_is_taken_while_a_message_waits, refused_bytes_close, spoiled_submits_halt,
+    statuses_may_fail, unplugging_answers_all,
+};

@@ -1,0 +1,43 @@
+-- bytes at which the device closes, step by step
+use Rattle.std.proofs.Common.{[], ◌∷◌, refl, lit<, lit≤}
+use Rattle.usbip_wire.specs.Urb.{fields}
+use Rattle.usbip_wire.specs.Submit.{submit_bytes}
+use Rattle.tmc_law.specs.State.{State, start, arrived, Closed, pending, Avoids}
+use Rattle.tmc_law.specs.Step.{Steps, Refuses, Twice, ByField, ByPending}
+use Rattle.tmc_law.specs.Run.{Runs}
+use Rattle.tmc_law.specs.WorkedSession.{in_submit}
+use Rattle.tmc_law.specs.WorkedRefused.{again_text, number_field, command_field, coming_twice, coming_wrong}
+use Rattle.tmc_law.proofs.WorkedSpelling.{submit_spells}
+use Rattle.tmc_law.proofs.WorkedComing.{in_comes}
+
+abbrev came : State
+came = record start { bulk_in = arrived (in_submit 1 4096) [] ∷ [] }
+
+not_free : Avoids 1 (pending came) → ⊥
+not_free free = free.0 refl
+
+refuses_number : Steps came (Refuses again_text number_field) [] (record came { presence = Closed number_field })
+unfolding submit_bytes fields
+refuses_number = record {
+  plugged = refl;
+  leads = (
+    ByPending (in_submit 1 4096) [] again_text [] refl
+        (submit_spells (in_submit 1 4096) [] (record { imported = refl; number = lit< tt; endpoint = lit≤ tt; short = lit≤ tt; setup = refl; carried = refl }))
+        (Twice (lit< tt) not_free refl),
+    refl,
+    refl,
+  );
+}
+
+pub comes_twice : Runs start coming_twice (record came { presence = Closed number_field })
+comes_twice = (
+  came,
+  in_comes start 1 4096 (record { plugged = refl; free = refl; few = refl }) (lit< tt) (lit≤ tt) refl,
+  (record came { presence = Closed number_field }, refuses_number, refl),
+)
+
+refuses_command : Steps start (Refuses (0x00 ∷ 0x00 ∷ 0x00 ∷ 0x07 ∷ []) command_field) [] (record start { presence = Closed command_field })
+refuses_command = record { plugged = refl; leads = (ByField (7, [], lit< tt, refl, refl), refl, refl) }
+
+pub comes_wrong : Runs start coming_wrong (record start { presence = Closed command_field })
+comes_wrong = (record start { presence = Closed command_field }, refuses_command, refl)

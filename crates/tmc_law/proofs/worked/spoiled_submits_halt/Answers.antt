@@ -1,0 +1,8 @@
+use Rattle.tmc_law.proofs.WorkedSpoiled.{sends_unknown, sends_long}
+use Rattle.tmc_law.proofs.worked.spoiled_submits_halt.Goals as goal
+
+pub returns-clause-header : goal.returns-clause-header
+returns-clause-header c = sends_unknown
+
+pub returns-clause-size : goal.returns-clause-size
+returns-clause-size c = sends_long

@@ -1,0 +1,31 @@
+-- bytes at which the device closes
+use Rattle.std.specs.Prelude.{ℕ, List, [], ◌∷◌}
+use Rattle.tmc_base.specs.declared.field.Field.{Field}
+use Rattle.tmc_base.specs.declared.field.Layer.TheVariants.{Urb}
+use Rattle.tmc_base.specs.declared.field.Name.TheVariants as name
+use Rattle.tmc_law.specs.Step.{Refuses}
+use Rattle.tmc_law.specs.Run.{Entry}
+use Rattle.tmc_law.specs.WorkedSession.{in_submit, submits, step}
+
+-- a submit of 4096 bytes on Bulk-IN, with number 1
+abbrev pub again_text : List ℕ
+again_text =
+    0x00 ∷ 0x00 ∷ 0x00 ∷ 0x01 ∷ 0x00 ∷ 0x00 ∷ 0x00 ∷ 0x01 ∷ 0x00 ∷ 0x01 ∷ 0x00 ∷ 0x02 ∷ 0x00 ∷ 0x00 ∷ 0x00 ∷ 0x01
+    ∷ 0x00 ∷ 0x00 ∷ 0x00 ∷ 0x02 ∷ 0x00 ∷ 0x00 ∷ 0x00 ∷ 0x00 ∷ 0x00 ∷ 0x00 ∷ 0x10 ∷ 0x00 ∷ 0x00 ∷ 0x00 ∷ 0x00 ∷ 0x00
+    ∷ 0xff ∷ 0xff ∷ 0xff ∷ 0xff ∷ 0x00 ∷ 0x00 ∷ 0x00 ∷ 0x00 ∷ 0x00 ∷ 0x00 ∷ 0x00 ∷ 0x00 ∷ 0x00 ∷ 0x00 ∷ 0x00 ∷ 0x00
+    ∷ []
+
+-- a field of a URB message
+abbrev pub number_field : Field
+number_field = record { layer = Urb; name = name.Seqnum; offset = 4 }
+
+abbrev pub command_field : Field
+command_field = record { layer = Urb; name = name.Command; offset = 0 }
+
+-- the number is that of a pending submit
+abbrev pub coming_twice : List Entry
+coming_twice = submits (in_submit 1 4096) [] ∷ step (Refuses again_text number_field) [] ∷ []
+
+-- there is no message 7
+abbrev pub coming_wrong : List Entry
+coming_wrong = step (Refuses (0x00 ∷ 0x00 ∷ 0x00 ∷ 0x07 ∷ []) command_field) [] ∷ []

@@ -1,0 +1,36 @@
+-- bytes that are no header, and a submit that is too long for its transfer
+use Rattle.std.specs.Prelude.{ℕ, List, [], ◌∷◌, ◌++◌}
+use Rattle.usbip_wire.specs.declared.submit.SubmitHead.{SubmitHead}
+use Rattle.tmc_law.specs.Put.{success, stalled}
+use Rattle.tmc_law.specs.Step.{Take, Answer}
+use Rattle.tmc_law.specs.Run.{Entry}
+use Rattle.tmc_law.specs.WorkedSession.{out_submit, telling_submit, submits, step, answered}
+use Rattle.tmc_law.specs.WorkedQuery.{query_text}
+
+-- MsgID 3 is none of Bulk-OUT
+abbrev pub unknown_text : List ℕ
+unknown_text = 0x03 ∷ 0x01 ∷ 0xfe ∷ 0x00 ∷ 0x05 ∷ 0x00 ∷ 0x00 ∷ 0x00 ∷ 0x01 ∷ 0x00 ∷ 0x00 ∷ 0x00 ∷ []
+
+-- the transfer has 20 bytes
+abbrev pub long_text : List ℕ
+long_text = query_text ++ 0x00 ∷ 0x00 ∷ 0x00 ∷ 0x00 ∷ []
+
+-- CLEAR_FEATURE of the halt of Bulk-OUT
+abbrev pub usable_submit : SubmitHead
+usable_submit = telling_submit 2 (0x02 ∷ 0x01 ∷ 0x00 ∷ 0x00 ∷ 0x01 ∷ 0x00 ∷ 0x00 ∷ 0x00 ∷ [])
+
+abbrev pub sending_unknown : List Entry
+sending_unknown =
+    submits (out_submit 1 12) unknown_text
+    ∷ step (Take 1) (answered (out_submit 1 12) stalled 0 [] ∷ [])
+    ∷ submits usable_submit []
+    ∷ step Answer (answered usable_submit success 0 [] ∷ [])
+    ∷ []
+
+abbrev pub sending_long : List Entry
+sending_long =
+    submits (out_submit 1 24) long_text
+    ∷ step (Take 1) (answered (out_submit 1 24) stalled 0 [] ∷ [])
+    ∷ submits usable_submit []
+    ∷ step Answer (answered usable_submit success 0 [] ∷ [])
+    ∷ []
