@@ -1,5 +1,5 @@
 -- aborts that do not begin, step by step
-use Rattle.std.proofs.Common.{◌≢◌, ℕ, ◌<◌, true, false, [], ◌∷◌, Some, inr, refl, lit<, lit≤}
+use Rattle.std.proofs.Common.{◌≢◌, ℕ, true, false, [], ◌∷◌, Some, inr, refl, lit<, lit≤}
 use Rattle.std.proofs.lemmas.Bool.{eqb-false}
 use Rattle.tmc_wire.specs.declared.header.OutHeader.TheVariants.{Message}
 use Rattle.tmc_wire.specs.declared.class_request.ClassRequest.TheVariants.{AbortOut}

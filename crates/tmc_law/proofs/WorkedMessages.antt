@@ -1,5 +1,5 @@
 -- program messages, and what they do
-use Rattle.std.proofs.Common.{◌≡◌, ℕ, ◌<◌, true, false, List, [], ◌∷◌, ◌++◌, pos, codes, decimal, inl, inr, refl, sym, ap, ◌∙◌, lit<, lit≤}
+use Rattle.std.proofs.Common.{◌≡◌, ℕ, true, false, List, [], ◌∷◌, ◌++◌, pos, codes, decimal, inl, inr, refl, sym, ap, ◌∙◌, lit<, lit≤}
 use Rattle.std.specs.List.{range_with_len}
 use Rattle.std.proofs.lemmas.Fmt.{decimal_digit, decimal_step}
 use Rattle.ieee_syntax.specs.declared.nrf.Nrf.{Nrf}
