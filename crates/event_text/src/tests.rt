@@ -406,3 +406,19 @@ fn takes_65536_lines(rt: HostRuntime) -> Result<(), Fail> {
     assert_eq!(rt; text.as_str(), "");
     Ok(())
 }
+
+/// The header of a submit of 70,000 bytes to the device.
+const LONG_SUBMIT: &[u8] =
+    b"0000000100000001000100020000000000000001000000000001117000000000ffffffff000000000102030405060708";
+
+#[test]
+fn takes_a_long_submit_byte_by_byte(rt: HostRuntime) -> Result<(), Fail> {
+    let mut source = in_pieces(rt.alloc(), "phase urb\n", &[LONG_SUBMIT])?;
+    for _ in 0..65_534 {
+        source.extend_from_slice(b"bytes 61\n")?;
+    }
+    let (answer, text) = show(rt.alloc(), Dir::Out, &source)?;
+    assert_eq!(rt; answer, Ok(()));
+    assert_eq!(rt; text.as_str(), "more 65582\n");
+    Ok(())
+}
