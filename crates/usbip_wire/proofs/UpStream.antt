@@ -1,5 +1,6 @@
 -- pieces are one stream
-use Rattle.std.proofs.Common.{◌≡◌, ℕ, ◌<◌, true, false, Option, Some, None, List, [], ◌∷◌, ◌++◌, length, take, refl, sym, ap, subst, ◌∙◌, append_assoc, append-nil, take_all, arith}
+use Rattle.std.proofs.Common.{◌≡◌, ℕ, ◌<◌, true, false, Option, Some, None, List, [], ◌∷◌, ◌++◌, length, take, drop, refl, sym, ap, subst, ◌∙◌, append_assoc, append-nil, take_all, arith}
+use Rattle.std.proofs.lemmas.List.{take-append-drop}
 use Rattle.tmc_base.specs.declared.field.Field.{Field}
 use Rattle.usbip_wire.specs.declared.op_request.OpRequest.{OpRequest}
 use Rattle.usbip_wire.specs.declared.op_request.OpRequest.TheVariants.{DevList, Import}
@@ -13,9 +14,11 @@ use Rattle.usbip_wire.specs.Submit.{submit_bytes}
 use Rattle.usbip_wire.specs.Unlink.{unlink_bytes}
 use Rattle.usbip_wire.specs.Urb.{fields}
 use Rattle.usbip_wire.specs.Up.{Message, Submit, Unlink, Spells}
-use Rattle.usbip_wire.specs.Stream.{InRow, NoneWhole}
-use Rattle.usbip_wire.specs.UpFed.{Held, Answers, kept, data_of}
+use Rattle.usbip_wire.specs.Laws.{AreAlone}
+use Rattle.usbip_wire.specs.Stream.{InRow, NoneWhole, Reads}
+use Rattle.usbip_wire.specs.UpFed.{Held, Answers, BadAt, kept, data_of}
 use Rattle.usbip_wire.specs.UpPieces.{Call, Calls, begun, used_bytes, given, request_in, message_in}
+use Rattle.usbip_wire.proofs.Alone.{request_alone, urb_alone}
 
 -- rows behind one another are one row
 pub join : {M : Type 0} (S : M → List ℕ → Type 0) (ms ns : List M) (a b mid rest : List ℕ) → InRow S ms a mid → InRow S ns (mid ++ b) rest
@@ -27,7 +30,7 @@ join {M} S (m ∷ ms) ns a b mid rest (front, after, e, s, p) q =
 -- what one call gives, by its phase
 pub record Kind {M : Type 0} (phase : UpPhase) (S : M → List ℕ → Type 0) (what_in : Up → List ℕ → List M) : Type 0 where
   pub step : (start piece : List ℕ) (used : ℕ) (what : Up) (new : Held) → Answers phase start piece used what new
-      → InRow S (what_in what (data_of new)) (start ++ take used piece) (kept new) × (new.phase ≡ phase) × (new.bad ≡ None → NoneWhole S (kept new))
+      → InRow S (what_in what (data_of new)) (start ++ take used piece) (kept new) × (new.phase ≡ phase) × NoneWhole S (kept new)
   pub silent : (f : Field) (told : List ℕ) → what_in (up.Bad f) told ≡ []
 
 -- after a refusal nothing is used or given
@@ -46,14 +49,16 @@ stuck {M} what_in silent old f (call ∷ calls) end bad (fed, more) =
 -- the calls from here on
 rows : {M : Type 0} (phase : UpPhase) (S : M → List ℕ → Type 0) (what_in : Up → List ℕ → List M) → Kind phase S what_in
     → (old : Held) (calls : List Call) (end : Held) → Calls old calls end → old.phase ≡ phase → old.bad ≡ None → NoneWhole S (kept old)
-    → InRow S (given what_in calls) (kept old ++ used_bytes calls) (kept end) × (end.bad ≡ None → NoneWhole S (kept end))
-rows {M} phase S what_in kind old [] end calls same good none =
-    (append-nil (kept old) ∙ ap kept (sym calls), λ fine. subst (λ (h : Held). NoneWhole S (kept h)) (sym calls) none)
+    → Reads S (kept old ++ used_bytes calls) (given what_in calls) (kept end)
+rows {M} phase S what_in kind old [] end calls same good none = record {
+  row = append-nil (kept old) ∙ ap kept (sym calls);
+  none_whole = subst (λ (h : Held). NoneWhole S (kept h)) (sym calls) none;
+}
 rows {M} phase S what_in kind old (call ∷ calls) end (fed, more) same good none =
     let answers : Answers phase (kept old) call.piece call.step.used call.step.what call.held =
     subst (λ (p : UpPhase). Answers p (kept old) call.piece call.step.used call.step.what call.held) same (fed.fresh good) in
     let step = kind.step (kept old) call.piece call.step.used call.step.what call.held answers in
-    by_bad step (λ fine. rows phase S what_in kind call.held calls end more step.1 fine (step.2 fine)) call.held.bad refl
+    behind step (by_bad step.2 (λ fine. rows phase S what_in kind call.held calls end more step.1 fine step.2) call.held.bad refl)
   where
     bit : List ℕ
     bit = take call.step.used call.piece
@@ -61,28 +66,28 @@ rows {M} phase S what_in kind old (call ∷ calls) end (fed, more) same good non
     first : List M
     first = what_in call.step.what (data_of call.held)
 
-    by_bad : InRow S first (kept old ++ bit) (kept call.held) × (call.held.phase ≡ phase) × (call.held.bad ≡ None → NoneWhole S (kept call.held))
-        → (call.held.bad ≡ None → InRow S (given what_in calls) (kept call.held ++ used_bytes calls) (kept end) × (end.bad ≡ None → NoneWhole S (kept end)))
-        → (b : Option Field) → call.held.bad ≡ b
-        → InRow S (first ++ given what_in calls) (kept old ++ (bit ++ used_bytes calls)) (kept end) × (end.bad ≡ None → NoneWhole S (kept end))
-    by_bad step go None fine = (
-      subst (λ (l : List ℕ). InRow S (first ++ given what_in calls) l (kept end)) (append_assoc (kept old) bit (used_bytes calls))
-          (join S first (given what_in calls) (kept old ++ bit) (used_bytes calls) (kept call.held) (kept end) step.0 (go fine).0),
-      (go fine).1,
-    )
-    by_bad step go (Some f) refused =
+    -- the further calls, also where a field is refused now
+    by_bad : NoneWhole S (kept call.held) → (call.held.bad ≡ None → Reads S (kept call.held ++ used_bytes calls) (given what_in calls) (kept end))
+        → (b : Option Field) → call.held.bad ≡ b → Reads S (kept call.held ++ used_bytes calls) (given what_in calls) (kept end)
+    by_bad none_now go None fine = go fine
+    by_bad none_now go (Some f) refused =
         let over = stuck what_in kind.silent call.held f calls end refused more in
-        let none_more : InRow S (given what_in calls) (kept call.held ++ used_bytes calls) (kept end) =
-        subst (λ (ms : List M). InRow S ms (kept call.held ++ used_bytes calls) (kept end)) (sym over.1)
-        (subst (λ (l : List ℕ). kept call.held ++ l ≡ kept end) (sym over.0) (append-nil (kept call.held) ∙ ap kept (sym over.2))) in
-        let impossible : (end.bad ≡ None) → NoneWhole S (kept end) = λ fine. absurd (clash (sym refused ∙ (ap (λ (h : Held). h.bad) (sym over.2) ∙ fine))) in (
+        record {
+          row =
+              subst (λ (ms : List M). InRow S ms (kept call.held ++ used_bytes calls) (kept end)) (sym over.1)
+              (subst (λ (l : List ℕ). kept call.held ++ l ≡ kept end) (sym over.0) (append-nil (kept call.held) ∙ ap kept (sym over.2)));
+          none_whole = subst (λ (h : Held). NoneWhole S (kept h)) (sym over.2) none_now;
+        }
+
+    behind : InRow S first (kept old ++ bit) (kept call.held) × (call.held.phase ≡ phase) × NoneWhole S (kept call.held)
+        → Reads S (kept call.held ++ used_bytes calls) (given what_in calls) (kept end)
+        → Reads S (kept old ++ (bit ++ used_bytes calls)) (first ++ given what_in calls) (kept end)
+    behind step rest = record {
+      row =
           subst (λ (l : List ℕ). InRow S (first ++ given what_in calls) l (kept end)) (append_assoc (kept old) bit (used_bytes calls))
-              (join S first (given what_in calls) (kept old ++ bit) (used_bytes calls) (kept call.held) (kept end) step.0 none_more),
-          impossible,
-        )
-      where
-        clash : Some f ≡ None → ⊥
-        clash e = cc
+          (join S first (given what_in calls) (kept old ++ bit) (used_bytes calls) (kept call.held) (kept end) step.0 rest.row);
+      none_whole = rest.none_whole;
+    }
 
 -- nothing is the front of nothing
 pub no_front : (front tail : List ℕ) → [] ≡ front ++ tail → length front ≡ 0
@@ -117,38 +122,45 @@ no_urb devid m front tail s e = omega (arith, no_front front tail e, submit_long
 -- what each kind of answer gives
 more_step : {M : Type 0} (S : M → List ℕ → Type 0) (phase : UpPhase) (start piece : List ℕ) (used : ℕ) (new : Held)
     → used ≡ length piece → NoneWhole S (start ++ piece) → new ≡ record { phase = phase; rest = start ++ piece; whole = false; bad = None }
-    → InRow S [] (start ++ take used piece) (kept new) × (new.phase ≡ phase) × (new.bad ≡ None → NoneWhole S (kept new))
+    → InRow S [] (start ++ take used piece) (kept new) × (new.phase ≡ phase) × NoneWhole S (kept new)
 more_step {M} S phase start piece used new all none is = (
   ap (λ (l : List ℕ). start ++ l) (take_all used piece (omega (arith, all))) ∙ sym (ap kept is),
   ap (λ (h : Held). h.phase) is,
-  λ fine. subst (λ (l : List ℕ). NoneWhole S l) (sym (ap kept is)) none,
+  subst (λ (l : List ℕ). NoneWhole S l) (sym (ap kept is)) none,
 )
 
-bad_step : {M : Type 0} (S : M → List ℕ → Type 0) (phase : UpPhase) (start piece : List ℕ) (used : ℕ) (f : Field) (new : Held)
-    → new ≡ record { phase = phase; rest = start ++ take used piece; whole = false; bad = Some f }
-    → InRow S [] (start ++ take used piece) (kept new) × (new.phase ≡ phase) × (new.bad ≡ None → NoneWhole S (kept new))
-bad_step {M} S phase start piece used f new is =
-    (sym (ap kept is), ap (λ (h : Held). h.phase) is, λ fine. absurd (clash (sym (ap (λ (h : Held). h.bad) is) ∙ fine)))
-  where
-    clash : Some f ≡ None → ⊥
-    clash e = cc
+-- where no message is whole, none is in what is kept of it
+none_kept : {M : Type 0} (S : M → List ℕ → Type 0) (start piece : List ℕ) (used : ℕ) → NoneWhole S (start ++ piece) → NoneWhole S (start ++ take used piece)
+none_kept {M} S start piece used none m front tail s e =
+    none m front (tail ++ drop used piece) s
+    (ap (λ (l : List ℕ). start ++ l) (sym (take-append-drop used piece)) ∙ (sym (append_assoc start (take used piece) (drop used piece))
+    ∙ (ap (λ (l : List ℕ). l ++ drop used piece) e ∙ append_assoc front tail (drop used piece))))
+
+bad_step : {M : Type 0} (S : M → List ℕ → Type 0) (phase : UpPhase) → AreAlone S (BadAt phase) → (start piece : List ℕ) (used : ℕ) (f : Field) (new : Held)
+    → BadAt phase (start ++ piece) f → new ≡ record { phase = phase; rest = start ++ take used piece; whole = false; bad = Some f }
+    → InRow S [] (start ++ take used piece) (kept new) × (new.phase ≡ phase) × NoneWhole S (kept new)
+bad_step {M} S phase alone start piece used f new bad is = (
+  sym (ap kept is),
+  ap (λ (h : Held). h.phase) is,
+  subst (λ (l : List ℕ). NoneWhole S l) (sym (ap kept is)) (none_kept S start piece used (alone (start ++ piece) f bad).0),
+)
 
 whole_step : {M : Type 0} (S : M → List ℕ → Type 0) (phase : UpPhase) (start piece : List ℕ) (used : ℕ) (m : M) (new : Held)
     → S m (start ++ take used piece) → NoneWhole S [] → new ≡ record { phase = phase; rest = start ++ take used piece; whole = true; bad = None }
-    → InRow S (m ∷ []) (start ++ take used piece) (kept new) × (new.phase ≡ phase) × (new.bad ≡ None → NoneWhole S (kept new))
+    → InRow S (m ∷ []) (start ++ take used piece) (kept new) × (new.phase ≡ phase) × NoneWhole S (kept new)
 whole_step {M} S phase start piece used m new means none is = (
   (start ++ take used piece, [], sym (append-nil (start ++ take used piece)), means, sym (ap kept is)),
   ap (λ (h : Held). h.phase) is,
-  λ fine. subst (λ (l : List ℕ). NoneWhole S l) (sym (ap kept is)) none,
+  subst (λ (l : List ℕ). NoneWhole S l) (sym (ap kept is)) none,
 )
 
 ops_kind : Kind Ops SpellsRequest request_in
 ops_kind = record { step = step; silent = λ f told. refl }
   where
     step : (start piece : List ℕ) (used : ℕ) (what : Up) (new : Held) → Answers Ops start piece used what new
-        → InRow SpellsRequest (request_in what (data_of new)) (start ++ take used piece) (kept new) × (new.phase ≡ Ops) × (new.bad ≡ None → NoneWhole SpellsRequest (kept new))
+        → InRow SpellsRequest (request_in what (data_of new)) (start ++ take used piece) (kept new) × (new.phase ≡ Ops) × NoneWhole SpellsRequest (kept new)
     step start piece used up.More new (all, none, calm, is) = more_step SpellsRequest Ops start piece used new all none is
-    step start piece used (up.Bad f) new (within, bad, is) = bad_step SpellsRequest Ops start piece used f new is
+    step start piece used (up.Bad f) new (within, bad, is) = bad_step SpellsRequest Ops request_alone start piece used f new bad is
     step start piece used (up.Op request) new (within, means, calm, is) = whole_step SpellsRequest Ops start piece used request new means no_request is
     step start piece used (up.Submit head) new (within, means, calm, is) = absurd means
     step start piece used (up.Unlink head) new (within, means, calm, is) = absurd means
@@ -157,9 +169,9 @@ urbs_kind : (devid : ℕ) → Kind (Urbs devid) (Spells devid) message_in
 urbs_kind devid = record { step = step; silent = λ f told. refl }
   where
     step : (start piece : List ℕ) (used : ℕ) (what : Up) (new : Held) → Answers (Urbs devid) start piece used what new
-        → InRow (Spells devid) (message_in what (data_of new)) (start ++ take used piece) (kept new) × (new.phase ≡ Urbs devid) × (new.bad ≡ None → NoneWhole (Spells devid) (kept new))
+        → InRow (Spells devid) (message_in what (data_of new)) (start ++ take used piece) (kept new) × (new.phase ≡ Urbs devid) × NoneWhole (Spells devid) (kept new)
     step start piece used up.More new (all, none, calm, is) = more_step (Spells devid) (Urbs devid) start piece used new all none is
-    step start piece used (up.Bad f) new (within, bad, is) = bad_step (Spells devid) (Urbs devid) start piece used f new is
+    step start piece used (up.Bad f) new (within, bad, is) = bad_step (Spells devid) (Urbs devid) (urb_alone devid) start piece used f new bad is
     step start piece used (up.Op request) new (within, means, calm, is) = absurd means
     step start piece used (up.Submit head) new (within, means, calm, is) =
         whole_step (Spells devid) (Urbs devid) start piece used (Submit head (data_of new)) new
@@ -168,9 +180,9 @@ urbs_kind devid = record { step = step; silent = λ f told. refl }
         whole_step (Spells devid) (Urbs devid) start piece used (Unlink head) new means (no_urb devid) is
 
 pub ops_stream : (calls : List Call) (end : Held) → Calls (begun Ops) calls end
-    → InRow SpellsRequest (given request_in calls) (used_bytes calls) (kept end) × (end.bad ≡ None → NoneWhole SpellsRequest (kept end))
+    → Reads SpellsRequest (used_bytes calls) (given request_in calls) (kept end)
 ops_stream calls end run = rows Ops SpellsRequest request_in ops_kind (begun Ops) calls end run refl refl no_request
 
 pub urbs_stream : (devid : ℕ) (calls : List Call) (end : Held) → Calls (begun (Urbs devid)) calls end
-    → InRow (Spells devid) (given message_in calls) (used_bytes calls) (kept end) × (end.bad ≡ None → NoneWhole (Spells devid) (kept end))
+    → Reads (Spells devid) (used_bytes calls) (given message_in calls) (kept end)
 urbs_stream devid calls end run = rows (Urbs devid) (Spells devid) message_in (urbs_kind devid) (begun (Urbs devid)) calls end run refl refl (no_urb devid)

@@ -19,7 +19,7 @@ ghost use Rattle.usbip_wire.specs.JudgedFields.{op_fields, part_fields, urb_fiel
 ghost use Rattle.usbip_wire.specs.Laws.{ArePrefixFree, AreDetermined, AreReadAgain, RefusedAt, IsFirstRefused, CanGoOn, GoesOn, AreAlone};
 ghost use Rattle.usbip_wire.specs.OpRequest.{SpellsRequest};
 ghost use Rattle.usbip_wire.specs.Up.{Spells};
-ghost use Rattle.usbip_wire.specs.Stream.{InRow, Reads};
+ghost use Rattle.usbip_wire.specs.Stream.{Reads};
 ghost use Rattle.usbip_wire.specs.UpFed as up_fed;
 ghost use Rattle.usbip_wire.specs.UpPieces as up_pieces;
 ghost use Rattle.usbip_wire.specs.Urb.{fields};
@@ -126,17 +126,13 @@ pub fn bad_fields_are_alone()
 {}
 
 /// Pieces are one stream: whatever pieces a client's bytes were fed in, the messages that a reader gave, with
-/// their data, are those of the bytes used, in their order, and what it keeps is the rest behind them. Until a
-/// field is refused no message is whole in that rest.
+/// their data, are those of the bytes used, in their order, and what it keeps is the rest behind them. No message is
+/// whole in that rest, also where a field was refused.
 pub fn client_pieces_are_one_stream()
     ensures ops { (calls : List up_pieces.Call) (end : up_fed.Held) → up_pieces.Calls (up_pieces.begun up_phase.Ops) calls end
-        → InRow SpellsRequest (up_pieces.given up_pieces.request_in calls) (up_pieces.used_bytes calls) (up_fed.kept end) }
-    ensures ops_read { (calls : List up_pieces.Call) (end : up_fed.Held) → up_pieces.Calls (up_pieces.begun up_phase.Ops) calls end → end.bad ≡ None
         → Reads SpellsRequest (up_pieces.used_bytes calls) (up_pieces.given up_pieces.request_in calls) (up_fed.kept end) }
     ensures urbs { (devid : ℕ) (calls : List up_pieces.Call) (end : up_fed.Held) → up_pieces.Calls (up_pieces.begun (up_phase.Urbs devid)) calls end
-        → InRow (Spells devid) (up_pieces.given up_pieces.message_in calls) (up_pieces.used_bytes calls) (up_fed.kept end) }
-    ensures urbs_read { (devid : ℕ) (calls : List up_pieces.Call) (end : up_fed.Held) → up_pieces.Calls (up_pieces.begun (up_phase.Urbs devid)) calls end
-        → end.bad ≡ None → Reads (Spells devid) (up_pieces.used_bytes calls) (up_pieces.given up_pieces.message_in calls) (up_fed.kept end) }
+        → Reads (Spells devid) (up_pieces.used_bytes calls) (up_pieces.given up_pieces.message_in calls) (up_fed.kept end) }
 {}
 
 /// The same of a device's bytes, where the entry of an answer stands while a part of the answer is held: each
