@@ -24,3 +24,4 @@ pub mod Alone
 pub mod Listed
 pub mod UpStream
 pub mod DownStream
+pub mod Readings

@@ -97,7 +97,7 @@ no_front (x ∷ front) tail e = absurd (clash e)
     clash : [] ≡ x ∷ (front ++ tail) → ⊥
     clash e = cc
 
-request_long : (request : OpRequest) (status : ℕ) → 0 < length (request_bytes request status)
+pub request_long : (request : OpRequest) (status : ℕ) → 0 < length (request_bytes request status)
 unfolding op_header
 request_long DevList status = lit
   where
@@ -111,7 +111,7 @@ request_long (Import busid) status = lit
 no_request : NoneWhole SpellsRequest []
 no_request m front tail s e = omega (arith, no_front front tail e, ap length s.layout, request_long m s.status)
 
-submit_long : (devid : ℕ) (m : Message) (front : List ℕ) → Spells devid m front → 0 < length front
+pub submit_long : (devid : ℕ) (m : Message) (front : List ℕ) → Spells devid m front → 0 < length front
 unfolding submit_bytes unlink_bytes fields
 submit_long devid (Submit head transferred) front s = rw s.layout (omega arith)
 submit_long devid (Unlink head) front s = rw s.layout (omega arith)

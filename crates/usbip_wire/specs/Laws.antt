@@ -1,6 +1,7 @@
 -- what holds of spellings
 use Rattle.std.specs.Prelude.{◌≡◌, ◌≢◌, ◌⊎◌, ℕ, ◌<◌, List, [], ◌∷◌, ◌++◌, length, Contains}
 use Rattle.tmc_base.specs.declared.field.Field.{Field}
+use Rattle.usbip_wire.specs.Given.{IsBytes}
 use Rattle.usbip_wire.specs.JudgedFields.{field_size}
 use Rattle.usbip_wire.specs.Stream.{NoneWhole, Reads}
 
@@ -13,6 +14,10 @@ ArePrefixFree {M} Spells =
 abbrev pub AreDetermined : {M : Type 0} → (M → List ℕ → Type 0) → Type 0
 AreDetermined {M} Spells =
     (bytes : List ℕ) (ms ns : List M) (rest other : List ℕ) → Reads Spells bytes ms rest → Reads Spells bytes ns other → (ms ≡ ns) × (rest ≡ other)
+
+-- bytes are messages in a row, and then a rest in which no message is whole
+abbrev pub AreRead : {M : Type 0} → (M → List ℕ → Type 0) → Type 0
+AreRead {M} Spells = (bytes : List ℕ) → IsBytes bytes → (messages : List M) × (rest : List ℕ) × Reads Spells bytes messages rest
 
 -- a spelling is read again, whatever follows it
 abbrev pub AreReadAgain : {M : Type 0} → (M → List ℕ → Type 0) → Type 0

@@ -16,7 +16,7 @@ ghost use Rattle.usbip_wire.specs.DownFed as down_fed;
 ghost use Rattle.usbip_wire.specs.DownPieces as down_pieces;
 ghost use Rattle.usbip_wire.specs.Given.{IsBytes};
 ghost use Rattle.usbip_wire.specs.JudgedFields.{op_fields, part_fields, urb_fields, answer_fields};
-ghost use Rattle.usbip_wire.specs.Laws.{ArePrefixFree, AreDetermined, AreReadAgain, RefusedAt, IsFirstRefused, CanGoOn, GoesOn, AreAlone};
+ghost use Rattle.usbip_wire.specs.Laws.{ArePrefixFree, AreDetermined, AreRead, AreReadAgain, RefusedAt, IsFirstRefused, CanGoOn, GoesOn, AreAlone};
 ghost use Rattle.usbip_wire.specs.OpRequest.{SpellsRequest};
 ghost use Rattle.usbip_wire.specs.Up.{Spells};
 ghost use Rattle.usbip_wire.specs.Stream.{Reads};
@@ -64,6 +64,13 @@ pub fn answers_are_determined()
     ensures free { (entries : List Outstanding) → ArePrefixFree (SpellsAnswer entries) }
     ensures determined { (entries : List Outstanding) → AreDetermined (SpellsAnswer entries) }
     ensures again { (entries : List Outstanding) → AreReadAgain (SpellsAnswer entries) }
+{}
+
+/// Each list of bytes has a reading: it is requests in a row, or submits and unlinks to one device, and then a rest
+/// in which no message is whole.
+pub fn streams_are_read()
+    ensures requests { AreRead SpellsRequest }
+    ensures urbs { (devid : ℕ) → AreRead (Spells devid) }
 {}
 
 /// A bad field stands whole at its offset, and no spelling that begins with the bytes before it has its
