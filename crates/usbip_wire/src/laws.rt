@@ -142,8 +142,9 @@ pub fn client_pieces_are_one_stream()
         → Reads (Spells devid) (up_pieces.used_bytes calls) (up_pieces.given up_pieces.message_in calls) (up_fed.kept end) }
 {}
 
-/// The same of a device's bytes, where the entry of an answer stands while a part of the answer is held: each
-/// message is one of the phase that the one before it led to, by what was outstanding at its call.
+/// A device's bytes are one stream too, where the entry of an answer stands while a part of the answer is held: each
+/// message is one of the phase that the one before it led to, by what was outstanding at its call. Until a field is
+/// refused no message is whole in the rest, by what was outstanding at the last call.
 pub fn device_pieces_are_one_stream()
     ensures row { (phase : DownPhase) (calls : List down_pieces.Call) (end : down_fed.Held) → down_pieces.Calls (down_pieces.begun phase) calls end
         → down_pieces.InTurn phase (down_pieces.given calls) (down_pieces.used_bytes calls) (down_fed.kept end) }
