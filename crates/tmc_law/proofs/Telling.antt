@@ -5,7 +5,8 @@ use Rattle.tmc_base.specs.Told as bytes
 use Rattle.tmc_base.specs.Told.{in_bytes, out_bytes}
 use Rattle.usbip_wire.specs.Up.{Message}
 use Rattle.usbip_wire.specs.Stream.{InRow, Reads}
-use Rattle.usbip_wire.specs.Laws.{ArePrefixFree}
+use Rattle.usbip_wire.specs.Given.{IsBytes}
+use Rattle.usbip_wire.specs.Laws.{ArePrefixFree, AreRead}
 use Rattle.tmc_law.specs.State.{State}
 use Rattle.tmc_law.specs.Step.{Spells}
 use Rattle.tmc_law.specs.Run.{Entry, Runs, taken, inputs, outputs, SpellsPut, IsFront, Fits}
@@ -44,18 +45,21 @@ pub took : ArePrefixFree Spells → (run : List Entry) (bytes more rest : List �
 took free run bytes more rest messages ins reads = front Spells free (inputs run) messages bytes more rest ins reads.row reads.none_whole
 
 -- a run that was told fits what its steps fit
-pub fits : ArePrefixFree Spells → (run : List Entry) (steps : List RunStep) (sent received rest : List ℕ) (messages : List Message)
-    → SpellAll Spells (inputs run) (in_bytes steps) → SpellAll SpellsPut (outputs run) (out_bytes steps) → bytes.Fits sent received steps
-    → Reads Spells sent messages rest → Fits run sent received
-fits free run steps sent received rest messages ins outs fit reads = record {
-  messages = messages;
-  rest = rest;
-  reads = reads;
-  took = took free run (in_bytes steps) fit.inputs.0 rest messages ins (subst (λ (l : List ℕ). Reads Spells l messages rest) fit.inputs.1 reads);
-  text = out_bytes steps;
-  spelled = outs;
-  put = fit.outputs;
-}
+pub fits : ArePrefixFree Spells → AreRead Spells → (run : List Entry) (steps : List RunStep) (sent received : List ℕ)
+    → SpellAll Spells (inputs run) (in_bytes steps) → SpellAll SpellsPut (outputs run) (out_bytes steps) → IsBytes sent → bytes.Fits sent received steps
+    → Fits run sent received
+fits free read run steps sent received ins outs are fit =
+    let of = read sent are in
+    let reads : Reads Spells sent of.0 of.1 = of.2 in
+    record {
+      messages = of.0;
+      rest = of.1;
+      reads = reads;
+      took = took free run (in_bytes steps) fit.inputs.0 of.1 of.0 ins (subst (λ (l : List ℕ). Reads Spells l of.0 of.1) fit.inputs.1 reads);
+      text = out_bytes steps;
+      spelled = outs;
+      put = fit.outputs;
+    }
 
 -- a run that fits is told by steps that fit
 pub fits_told : (run : List Entry) (s t : State) (sent received : List ℕ) → Runs s run t → Fits run sent received

@@ -5,6 +5,7 @@ ghost use Rattle.tmc_base.specs.declared.run_step.RunStep.{RunStep};
 ghost use Rattle.usbip_wire.specs.declared.unlink.UnlinkHead.{UnlinkHead};
 ghost use Rattle.tmc_base.specs.Told as told;
 ghost use Rattle.tmc_base.specs.Told.{in_bytes, out_bytes};
+ghost use Rattle.usbip_wire.specs.Given.{IsBytes};
 ghost use Rattle.usbip_wire.specs.Up as up;
 ghost use Rattle.usbip_wire.specs.Stream.{Reads};
 ghost use Rattle.instr_plain.specs.declared.log.LogEntry.{LogEntry};
@@ -19,7 +20,7 @@ ghost use Rattle.tmc_law.specs.Told.{Tells, SpellAll};
 ghost use Rattle.tmc_law.specs.Laws.{NoneArrives, NoneAnswers, NoneAgain, AreInOrder, answers_to, NoneRenews, bytes_taken, IsAccepted, AreNumbered};
 
 use instr_plain::{keeps_responses, one_response};
-use usbip_wire::urbs_are_determined;
+use usbip_wire::{streams_are_read, urbs_are_determined};
 
 /// A run's fronts are runs, and two runs of which the second starts where the first ended join end to end. The
 /// same holds of told runs.
@@ -41,13 +42,14 @@ pub fn told_runs_are_lawful()
         → (steps : List RunStep) × Tells s steps t × (in_bytes steps ≡ took) × (out_bytes steps ≡ put) }
     ensures took { (run : List Entry) (bytes more rest : List ℕ) (messages : List up.Message)
         → SpellAll Spells (inputs run) bytes → Reads Spells (bytes ++ more) messages rest → IsFront (inputs run) messages }
-    ensures fits { (run : List Entry) (steps : List RunStep) (sent received rest : List ℕ) (messages : List up.Message)
+    ensures fits { (run : List Entry) (steps : List RunStep) (sent received : List ℕ)
         → SpellAll Spells (inputs run) (in_bytes steps) → SpellAll SpellsPut (outputs run) (out_bytes steps)
-        → told.Fits sent received steps → Reads Spells sent messages rest → Fits run sent received }
+        → IsBytes sent → told.Fits sent received steps → Fits run sent received }
     ensures fits_told { (run : List Entry) (s t : State) (sent received : List ℕ) → Runs s run t → Fits run sent received
         → (steps : List RunStep) × Tells s steps t × told.Fits sent received steps }
 {
     urbs_are_determined();
+    streams_are_read();
 }
 
 /// The log only grows, a device's instrument stands for its log, and no later entry changes an earlier response.

@@ -12,7 +12,7 @@ pub returns-clause-took : goal.returns-clause-took
 returns-clause-took c = took (c.urbs_are_determined.ensures.free devid)
 
 pub returns-clause-fits : goal.returns-clause-fits
-returns-clause-fits c = fits (c.urbs_are_determined.ensures.free devid)
+returns-clause-fits c = fits (c.urbs_are_determined.ensures.free devid) (c.streams_are_read.ensures.urbs devid)
 
 pub returns-clause-fits_told : goal.returns-clause-fits_told
 returns-clause-fits_told c = fits_told
