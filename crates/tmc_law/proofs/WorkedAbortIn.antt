@@ -22,14 +22,14 @@ abbrev abort_came : State
 abort_came = record half { control = arrived abort_submit [] ∷ [] }
 
 -- the packet of length 0 is to come
-abbrev aborted : State
+abbrev pub aborted : State
 aborted = record half { side = Sending (record { tag = 2; size = 65; left = [] }); running = AbortsIn true 52 }
 
 abbrev early_came : State
 early_came = record aborted { control = arrived (check_submit 5) [] ∷ [] }
 
 -- it came
-abbrev ended : State
+abbrev pub ended : State
 ended = record start { running = AbortsIn false 52; log = read_log }
 
 abbrev late_came : State
@@ -41,7 +41,7 @@ done = record start { log = read_log }
 abort_asks : Asks (arrived abort_submit []) (row ends (AbortIn 2))
 abort_asks = record { fits = record { request_type = lit< tt; request = lit< tt; value = lit< tt; index = lit< tt; length = lit< tt }; layout = refl }
 
-check_asks : (seqnum : ℕ) → Asks (arrived (check_submit seqnum) []) (row ends CheckIn)
+pub check_asks : (seqnum : ℕ) → Asks (arrived (check_submit seqnum) []) (row ends CheckIn)
 check_asks seqnum = record { fits = record { request_type = lit< tt; request = lit< tt; value = lit< tt; index = lit< tt; length = lit< tt }; layout = refl }
 
 aborts : Steps abort_came Answer (answered abort_submit success 2 (0x01 ∷ 0x02 ∷ []) ∷ []) aborted
@@ -51,7 +51,7 @@ aborts = answers_class abort_came (arrived abort_submit []) [] (AbortIn 2) (reco
 checks_early : Steps early_came Answer (answered (check_submit 5) success 8 (0x02 ∷ 0x01 ∷ 0x00 ∷ 0x00 ∷ 0x34 ∷ 0x00 ∷ 0x00 ∷ 0x00 ∷ []) ∷ []) aborted
 checks_early = answers_class early_came (arrived (check_submit 5) []) [] CheckIn (checked_in aborted) refl refl (check_asks 5) tt refl
 
-ends_transfer : Steps aborted (Fill 1) (answered response_submit success 64 first_packet ∷ []) ended
+pub ends_transfer : Steps aborted (Fill 1) (answered response_submit success 64 first_packet ∷ []) ended
 ends_transfer = record { plugged = refl; leads = Ends part_filled [] 52 refl refl refl refl refl }
 
 checks_late : Steps late_came Answer (answered (check_submit 6) success 8 (0x01 ∷ 0x00 ∷ 0x00 ∷ 0x00 ∷ 0x34 ∷ 0x00 ∷ 0x00 ∷ 0x00 ∷ []) ∷ []) done

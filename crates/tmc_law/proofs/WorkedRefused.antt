@@ -1,12 +1,16 @@
 -- bytes at which the device closes, step by step
-use Rattle.std.proofs.Common.{[], ◌∷◌, refl, lit<, lit≤}
+use Rattle.std.proofs.Common.{◌≡◌, ℕ, ◌≤◌, List, [], ◌∷◌, ◌++◌, length, refl, arith, lit<, lit≤}
+use Rattle.usbip_wire.specs.declared.submit.SubmitHead.{SubmitHead}
+use Rattle.usbip_wire.specs.Up as up
 use Rattle.usbip_wire.specs.Urb.{fields}
 use Rattle.usbip_wire.specs.Submit.{submit_bytes}
-use Rattle.tmc_law.specs.State.{State, start, arrived, Closed, pending, Avoids}
-use Rattle.tmc_law.specs.Step.{Steps, Refuses, Twice, ByField, ByPending}
+use Rattle.tmc_law.specs.State.{State, start, arrived, Plugged, Closed, pending, Avoids}
+use Rattle.tmc_law.specs.Put.{Put}
+use Rattle.tmc_law.specs.Queues.{pending_most}
+use Rattle.tmc_law.specs.Step.{Steps, Comes, Refuses, Spells, TooMany, Twice, ByField, ByPending}
 use Rattle.tmc_law.specs.Run.{Runs}
 use Rattle.tmc_law.specs.WorkedSession.{in_submit}
-use Rattle.tmc_law.specs.WorkedRefused.{again_text, number_field, command_field, coming_twice, coming_wrong}
+use Rattle.tmc_law.specs.WorkedRefused.{again_text, number_field, command_field, pending_field, coming_twice, coming_wrong}
 use Rattle.tmc_law.proofs.WorkedSpelling.{submit_spells}
 use Rattle.tmc_law.proofs.WorkedComing.{in_comes}
 
@@ -41,3 +45,13 @@ refuses_command = record { plugged = refl; leads = (ByField (7, [], lit< tt, ref
 
 pub comes_wrong : Runs start coming_wrong (record start { presence = Closed command_field })
 comes_wrong = (record start { presence = Closed command_field }, refuses_command, refl)
+
+pub refuses_more : (s : State) (head : SubmitHead) (transferred bytes rest : List ℕ) → s.presence ≡ Plugged → pending_most ≤ length (pending s) → Spells (up.Submit head transferred) bytes
+    → Steps s (Refuses (bytes ++ rest) pending_field) [] (record s { presence = Closed pending_field })
+refuses_more s head transferred bytes rest plugged many spelled = record {
+  plugged = plugged;
+  leads = (ByPending head transferred bytes rest refl spelled (TooMany many refl), refl, refl);
+}
+
+pub no_more_come : (s t : State) (head : SubmitHead) (transferred : List ℕ) (puts : List Put) → pending_most ≤ length (pending s) → Steps s (Comes (up.Submit head transferred)) puts t → ⊥
+no_more_come s t head transferred puts many steps = omega (arith, many, steps.leads.2)

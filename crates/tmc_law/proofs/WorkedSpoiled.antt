@@ -15,7 +15,7 @@ use Rattle.tmc_law.specs.Standard.{ClearHalt}
 use Rattle.tmc_law.specs.Step.{Steps, Take, Answer}
 use Rattle.tmc_law.specs.Run.{Runs}
 use Rattle.tmc_law.specs.WorkedSession.{out_submit, answered}
-use Rattle.tmc_law.specs.WorkedSpoiled.{unknown_text, long_text, usable_submit, sending_unknown, sending_long}
+use Rattle.tmc_law.specs.WorkedSpoiled.{unknown_text, long_text, short_text, usable_submit, sending_unknown, sending_long, sending_short}
 use Rattle.tmc_law.proofs.WorkedComing.{out_comes, telling_comes}
 use Rattle.tmc_law.proofs.WorkedUnspoiled.{IsGood, begun, begins}
 use Rattle.tmc_law.proofs.WorkedAnswering.{answers_standard}
@@ -25,6 +25,9 @@ unknown_came = record start { bulk_out = arrived (out_submit 1 12) unknown_text 
 
 abbrev long_came : State
 long_came = record start { bulk_out = arrived (out_submit 1 24) long_text ∷ [] }
+
+abbrev short_came : State
+short_came = record start { bulk_out = arrived (out_submit 1 16) short_text ∷ [] }
 
 abbrev halted : State
 halted = record start { halted = record { bulk_out = true; bulk_in = false; interrupt_in = false } }
@@ -67,6 +70,25 @@ spoils_size = record {
   );
 }
 
+short_good : IsGood short_came short_text (Message 1 5 true)
+short_good = record {
+  idle = refl;
+  fine = record { long = lit≤ tt; known = refl; tagged = eqb-false _ _ refl; inverse = refl; counted = inr (eqb-false _ _ refl) };
+  headed = record { reserved = 0; attributes = 1; ninth = 0; tenth = 0; eleventh = 0; tagged = (lit< tt, lit< tt); counted = (lit< tt, lit< tt); accepted = refl; layout = refl };
+  suits = lit≤ tt;
+}
+
+spoils_short : Steps short_came (Take 1) (answered (out_submit 1 16) stalled 0 [] ∷ []) halted
+spoils_short = record {
+  plugged = refl;
+  leads = (
+    refl,
+    Spoiled (arrived (out_submit 1 16) short_text) [] refl (eqb-false _ _ refl) (lit≤ tt) (lit≤ tt)
+        (ByLength (begun (Message 1 5 true)) (begins short_came (arrived (out_submit 1 16) short_text) (Message 1 5 true) refl short_good) refl (inr (lit< tt, eqb-false _ _ refl)))
+        refl refl,
+  );
+}
+
 -- CLEAR_FEATURE
 abbrev usable_setup : Setup
 usable_setup = record { request_type = 0x02; request = 1; value = 0; index = 1; length = 0 }
@@ -99,6 +121,21 @@ sends_long = (
   (
     halted,
     spoils_size,
+    (
+      usable_came,
+      telling_comes halted 2 0x02 _ (record { plugged = refl; free = refl; few = refl }) (lit< tt) refl refl,
+      (start, becomes_usable, refl),
+    ),
+  ),
+)
+
+pub sends_short : Runs start sending_short start
+sends_short = (
+  short_came,
+  out_comes start 1 16 short_text (record { plugged = refl; free = refl; few = refl }) (lit< tt) (lit≤ tt) refl refl,
+  (
+    halted,
+    spoils_short,
     (
       usable_came,
       telling_comes halted 2 0x02 _ (record { plugged = refl; free = refl; few = refl }) (lit< tt) refl refl,

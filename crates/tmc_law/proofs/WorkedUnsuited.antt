@@ -4,13 +4,14 @@ use Rattle.std.proofs.lemmas.Bool.{eqb-false}
 use Rattle.tmc_wire.specs.declared.header.OutHeader.TheVariants.{Message}
 use Rattle.tmc_law.specs.State.{State, start, arrived, Idle}
 use Rattle.tmc_law.specs.Put.{success, stalled}
-use Rattle.tmc_law.specs.BulkOut.{Empty, Spoiled, ByHeader, BulkInBusy, RequestInside, TooLong, DoesMove, Part, NothingUnread}
+use Rattle.tmc_law.specs.BulkOut.{Empty, Spoiled, ByHeader, BulkInBusy, RequestInside, TriggerInside, TooLong, DoesMove, Part, NothingUnread}
 use Rattle.tmc_law.specs.Step.{Steps, Take}
 use Rattle.tmc_law.specs.Run.{Runs}
 use Rattle.tmc_law.specs.WorkedSession.{out_submit, answered}
 use Rattle.tmc_law.specs.WorkedQuery.{request_text}
 use Rattle.tmc_law.specs.WorkedInterrupt.{second_text}
-use Rattle.tmc_law.specs.WorkedUnsuited.{part_text, long_text, sending_nothing, sending_inside, sending_while_owed, sending_too_much}
+use Rattle.tmc_law.specs.WorkedTrigger.{trigger_text}
+use Rattle.tmc_law.specs.WorkedUnsuited.{part_text, long_text, sending_nothing, sending_inside, triggering_inside, sending_while_owed, sending_too_much}
 use Rattle.tmc_law.proofs.WorkedComing.{out_comes}
 use Rattle.tmc_law.proofs.WorkedUnspoiled.{IsGood}
 use Rattle.tmc_law.proofs.WorkedTaking.{takes_whole}
@@ -81,6 +82,38 @@ sends_inside = (
       request_came,
       out_comes part_taken 2 12 request_text (record { plugged = refl; free = refl; few = refl }) (lit< tt) (lit≤ tt) refl refl,
       (halted, spoils_request, refl),
+    ),
+  ),
+)
+
+-- a trigger inside a message
+abbrev trigger_came : State
+trigger_came = record part_taken { bulk_out = arrived (out_submit 2 12) trigger_text ∷ [] }
+
+spoils_trigger : Steps trigger_came (Take 1) (answered (out_submit 2 12) stalled 0 [] ∷ []) halted
+spoils_trigger = record {
+  plugged = refl;
+  leads = (
+    refl,
+    Spoiled (arrived (out_submit 2 12) trigger_text) [] refl (eqb-false _ _ refl) (lit≤ tt) (lit≤ tt)
+        (ByHeader refl (TriggerInside 1
+        (record { reserved = 0; ignored = 0 ∷ 0 ∷ 0 ∷ 0 ∷ 0 ∷ 0 ∷ 0 ∷ 0 ∷ []; tagged = (lit< tt, lit< tt); eight = refl; layout = refl })
+        some_part))
+        refl refl,
+  );
+}
+
+pub triggers_inside : Runs start triggering_inside halted
+triggers_inside = (
+  part_came,
+  out_comes start 1 16 part_text (record { plugged = refl; free = refl; few = refl }) (lit< tt) (lit≤ tt) refl refl,
+  (
+    part_taken,
+    takes_part,
+    (
+      trigger_came,
+      out_comes part_taken 2 12 trigger_text (record { plugged = refl; free = refl; few = refl }) (lit< tt) (lit≤ tt) refl refl,
+      (halted, spoils_trigger, refl),
     ),
   ),
 )

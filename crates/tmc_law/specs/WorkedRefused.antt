@@ -19,6 +19,9 @@ again_text =
 abbrev pub number_field : Field
 number_field = record { layer = Urb; name = name.Seqnum; offset = 4 }
 
+abbrev pub pending_field : Field
+pending_field = record { layer = Urb; name = name.Pending; offset = 4 }
+
 abbrev pub command_field : Field
 command_field = record { layer = Urb; name = name.Command; offset = 0 }
 

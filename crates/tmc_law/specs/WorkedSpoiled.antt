@@ -1,5 +1,5 @@
--- bytes that are no header, and a submit that is too long for its transfer
-use Rattle.std.specs.Prelude.{ℕ, List, [], ◌∷◌, ◌++◌}
+-- bytes that are no header, and submits that are too long or too short for their transfer
+use Rattle.std.specs.Prelude.{ℕ, List, [], ◌∷◌, ◌++◌, take}
 use Rattle.usbip_wire.specs.declared.submit.SubmitHead.{SubmitHead}
 use Rattle.tmc_law.specs.Put.{success, stalled}
 use Rattle.tmc_law.specs.Step.{Take, Answer}
@@ -14,6 +14,9 @@ unknown_text = 0x03 ∷ 0x01 ∷ 0xfe ∷ 0x00 ∷ 0x05 ∷ 0x00 ∷ 0x00 ∷ 0x
 -- the transfer has 20 bytes
 abbrev pub long_text : List ℕ
 long_text = query_text ++ 0x00 ∷ 0x00 ∷ 0x00 ∷ 0x00 ∷ []
+
+abbrev pub short_text : List ℕ
+short_text = take 16 query_text
 
 -- CLEAR_FEATURE of the halt of Bulk-OUT
 abbrev pub usable_submit : SubmitHead
@@ -31,6 +34,15 @@ abbrev pub sending_long : List Entry
 sending_long =
     submits (out_submit 1 24) long_text
     ∷ step (Take 1) (answered (out_submit 1 24) stalled 0 [] ∷ [])
+    ∷ submits usable_submit []
+    ∷ step Answer (answered usable_submit success 0 [] ∷ [])
+    ∷ []
+
+-- 16 bytes are less than the transfer, and end in a short packet
+abbrev pub sending_short : List Entry
+sending_short =
+    submits (out_submit 1 16) short_text
+    ∷ step (Take 1) (answered (out_submit 1 16) stalled 0 [] ∷ [])
     ∷ submits usable_submit []
     ∷ step Answer (answered usable_submit success 0 [] ∷ [])
     ∷ []

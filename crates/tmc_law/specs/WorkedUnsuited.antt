@@ -6,6 +6,7 @@ use Rattle.tmc_law.specs.Run.{Entry}
 use Rattle.tmc_law.specs.WorkedSession.{out_submit, submits, step, answered}
 use Rattle.tmc_law.specs.WorkedQuery.{request_text}
 use Rattle.tmc_law.specs.WorkedInterrupt.{second_text}
+use Rattle.tmc_law.specs.WorkedTrigger.{trigger_text}
 
 -- DEV_DEP_MSG_OUT, tag 1, 4 bytes of a message that goes on
 abbrev pub part_text : List ℕ
@@ -24,6 +25,15 @@ sending_inside =
     submits (out_submit 1 16) part_text
     ∷ step (Take 1) (answered (out_submit 1 16) success 16 [] ∷ [])
     ∷ submits (out_submit 2 12) request_text
+    ∷ step (Take 1) (answered (out_submit 2 12) stalled 0 [] ∷ [])
+    ∷ []
+
+-- a trigger inside a message
+abbrev pub triggering_inside : List Entry
+triggering_inside =
+    submits (out_submit 1 16) part_text
+    ∷ step (Take 1) (answered (out_submit 1 16) success 16 [] ∷ [])
+    ∷ submits (out_submit 2 12) trigger_text
     ∷ step (Take 1) (answered (out_submit 2 12) stalled 0 [] ∷ [])
     ∷ []
 

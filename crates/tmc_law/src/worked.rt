@@ -1,19 +1,20 @@
 //! Worked runs: sessions that the law allows, and steps that it refuses. Each function does nothing, and its contract
 //! says that the run is lawful.
 
-ghost use Rattle.std.specs.Prelude.{◌≡◌, ◌≢◌, ℕ, ◌<◌, Bool, true, false, List, [], ◌∷◌, ◌++◌, length, replicate, Some, None};
+ghost use Rattle.std.specs.Prelude.{◌≡◌, ◌≢◌, ℕ, ◌<◌, ◌≤◌, Bool, true, false, List, [], ◌∷◌, ◌++◌, length, replicate, Some, None};
 ghost use Rattle.tmc_base.specs.declared.field.Field.{Field};
 ghost use Rattle.usbip_wire.specs.declared.submit.SubmitHead.{SubmitHead};
 ghost use Rattle.usbip_wire.specs.Up as up;
 ghost use Rattle.usbip_wire.specs.Stream.{InRow};
 ghost use Rattle.instr_plain.specs.Standing.{power_on, at_power_on};
 ghost use Rattle.tmc_law.specs.Endpoint.{Endpoint, BulkOut, number_of};
-ghost use Rattle.tmc_law.specs.State.{State, Pending, Waiting, Piece, start, arrived, pending, Avoids, is_halted, Unplugged, Closed, Idle, Owed, Sending, Nothing, AbortsOut, AbortsIn, StatusPacket};
+ghost use Rattle.tmc_law.specs.State.{State, Pending, Waiting, Piece, start, arrived, pending, Avoids, is_halted, Plugged, Unplugged, Closed, Idle, Owed, Sending, Nothing, AbortsOut, AbortsIn, StatusPacket};
 ghost use Rattle.tmc_law.specs.Logging.{unread};
 ghost use Rattle.tmc_law.specs.Halts.{halts, halt_answers};
 ghost use Rattle.tmc_law.specs.BulkIn.{NoPacketWanted};
 ghost use Rattle.tmc_law.specs.Put.{Put, answer_of, ended, success, stalled};
-ghost use Rattle.tmc_law.specs.Step.{Move, Comes, Take, Begin, Fill, Pend, Poll, Steps};
+ghost use Rattle.tmc_law.specs.Queues.{pending_most};
+ghost use Rattle.tmc_law.specs.Step.{Move, Spells, Comes, Refuses, Take, Begin, Fill, Pend, Poll, Steps};
 ghost use Rattle.tmc_law.specs.Run.{Runs, outputs, SpellsPut};
 ghost use Rattle.tmc_law.specs.WorkedQuery.{asking, answering, query_log, query_down, identity};
 ghost use Rattle.tmc_law.specs.WorkedRead.{reading, read_log};
@@ -26,13 +27,14 @@ ghost use Rattle.tmc_law.specs.WorkedAbortOut.{aborting_out};
 ghost use Rattle.tmc_law.specs.WorkedHalt.{halting};
 ghost use Rattle.tmc_law.specs.WorkedStatus.{status_asked, answer_first, packet_first, unlink_behind_poll, no_room, statuses, status_log};
 ghost use Rattle.tmc_law.specs.WorkedOverflow.{overflowing};
-ghost use Rattle.tmc_law.specs.WorkedUnsuited.{sending_nothing, sending_inside, sending_while_owed, sending_too_much};
+ghost use Rattle.tmc_law.specs.WorkedUnsuited.{sending_nothing, sending_inside, triggering_inside, sending_while_owed, sending_too_much};
 ghost use Rattle.tmc_law.specs.WorkedRemote.{operating, remote_log};
 ghost use Rattle.tmc_law.specs.WorkedChecks.{checking, check_log};
 ghost use Rattle.instr_plain.specs.declared.remote.RemoteState.TheVariants.{Remote};
 ghost use Rattle.tmc_law.specs.WorkedControl.{asking_control};
 ghost use Rattle.tmc_law.specs.WorkedDeclined.{declining};
-ghost use Rattle.tmc_law.specs.WorkedRefused.{number_field, command_field, coming_twice, coming_wrong};
+ghost use Rattle.tmc_law.specs.WorkedDeclinedIn.{declining_in};
+ghost use Rattle.tmc_law.specs.WorkedRefused.{number_field, command_field, pending_field, coming_twice, coming_wrong};
 ghost use Rattle.tmc_law.specs.WorkedSession.{in_submit};
 ghost use Rattle.tmc_law.specs.WorkedService.{requesting, service_log};
 ghost use Rattle.tmc_law.specs.WorkedInterrupt.{interrupting, interrupt_log};
@@ -40,7 +42,7 @@ ghost use Rattle.tmc_law.specs.WorkedUnplug.{unplugging};
 ghost use Rattle.tmc_law.specs.WorkedParts.{sending_parts, parts_log};
 ghost use Rattle.tmc_law.specs.WorkedBare.{requesting_nothing, bare_log};
 ghost use Rattle.tmc_law.specs.WorkedTrigger.{triggering, trigger_log};
-ghost use Rattle.tmc_law.specs.WorkedSpoiled.{sending_unknown, sending_long};
+ghost use Rattle.tmc_law.specs.WorkedSpoiled.{sending_unknown, sending_long, sending_short};
 
 /// The query `*IDN?`, from its arrival to the last packet of its response, and the bytes of the answers.
 pub fn a_query_is_answered()
@@ -135,10 +137,12 @@ pub fn a_trigger_is_counted()
     }) }
 {}
 
-/// A header that is none, or a submit that is too long for its transfer, halts Bulk-OUT until its halt is cleared.
+/// A header that is none, or a submit that is too long for its transfer or ends inside it with a short packet, halts
+/// Bulk-OUT until its halt is cleared.
 pub fn spoiled_submits_halt()
     ensures header { Runs start sending_unknown start }
     ensures size { Runs start sending_long start }
+    ensures short { Runs start sending_short start }
 {}
 
 /// A packet that fills its submit ends it, and one that does not fit halts Bulk-IN.
@@ -170,10 +174,11 @@ pub fn control_requests_are_answered()
 
 /// An abort does not begin where no transfer is in progress, another one is, or an abort runs.
 pub fn aborts_are_declined()
-    ensures { Runs start declining (record start {
+    ensures bulk_out { Runs start declining (record start {
       halted = record { bulk_out = true; bulk_in = false; interrupt_in = false };
       running = AbortsOut;
     }) }
+    ensures bulk_in { Runs start (reading ++ declining_in) (record start { log = read_log }) }
 {}
 
 /// The device closes at a number that is pending, and at a message that there is not.
@@ -185,11 +190,14 @@ pub fn refused_bytes_close()
     ensures command { Runs start coming_wrong (record start { presence = Closed command_field }) }
 {}
 
-/// A submit of no bytes is answered. A header that does not suit the state halts Bulk-OUT: a request inside a message, a
-/// message while a response is owed, and one that would be too long.
+/// A submit of no bytes is answered. A header that does not suit the state halts Bulk-OUT: a request or a trigger inside
+/// a message, a message while a response is owed, and one that would be too long.
 pub fn headers_have_to_suit()
     ensures nothing { Runs start sending_nothing start }
     ensures inside { Runs start sending_inside (record start {
+      halted = record { bulk_out = true; bulk_in = false; interrupt_in = false };
+    }) }
+    ensures trigger { Runs start triggering_inside (record start {
       halted = record { bulk_out = true; bulk_in = false; interrupt_in = false };
     }) }
     ensures owed { Runs start sending_while_owed (record start {
@@ -244,6 +252,15 @@ pub fn nothing_follows_a_refusal()
 pub fn no_number_comes_twice()
     ensures { (s t : State) (head : SubmitHead) (transferred : List ℕ) (puts : List Put) → (Avoids head.seqnum (pending s) → ⊥)
         → Steps s (Comes (up.Submit head transferred)) puts t → ⊥ }
+{}
+
+/// Where 256 submits are pending, no other one comes: its bytes are refused.
+pub fn no_more_come_than_may_be_pending()
+    ensures none { (s t : State) (head : SubmitHead) (transferred : List ℕ) (puts : List Put) → pending_most ≤ length (pending s)
+        → Steps s (Comes (up.Submit head transferred)) puts t → ⊥ }
+    ensures refused { (s : State) (head : SubmitHead) (transferred bytes rest : List ℕ) → s.presence ≡ Plugged
+        → pending_most ≤ length (pending s) → Spells (up.Submit head transferred) bytes
+        → Steps s (Refuses (bytes ++ rest) pending_field) [] (record s { presence = Closed pending_field }) }
 {}
 
 /// A submit on a halted endpoint is turned away, and nothing else happens.

@@ -1,4 +1,4 @@
-use Rattle.tmc_law.proofs.WorkedSpoiled.{sends_unknown, sends_long}
+use Rattle.tmc_law.proofs.WorkedSpoiled.{sends_unknown, sends_long, sends_short}
 use Rattle.tmc_law.proofs.worked.spoiled_submits_halt.Goals as goal
 
 pub returns-clause-header : goal.returns-clause-header
@@ -6,3 +6,6 @@ returns-clause-header c = sends_unknown
 
 pub returns-clause-size : goal.returns-clause-size
 returns-clause-size c = sends_long
+
+pub returns-clause-short : goal.returns-clause-short
+returns-clause-short c = sends_short
