@@ -54,6 +54,7 @@ pub mod WorkedControl
 pub mod WorkedDeclined
 pub mod WorkedDeclinedIn
 pub mod WorkedRefused
+pub mod WorkedMany
 pub mod WorkedUnsuited
 pub mod WorkedRemote
 pub mod WorkedChecks

@@ -24,11 +24,11 @@ use Rattle.tmc_law.proofs.WorkedAnswering.{answers_class, answers_standard}
 abbrev first : Pending
 first = arrived (out_submit 1 64) first_text
 
-abbrev first_came : State
+abbrev pub first_came : State
 first_came = record start { bulk_out = first ∷ [] }
 
 -- the transfer goes on
-abbrev split : State
+abbrev pub split : State
 split = record start { transfer = Some (record { header = Message 1 100 true; taken = first_text }) }
 
 abbrev second_came : State
@@ -58,7 +58,7 @@ first_good = record {
   suits = lit≤ tt;
 }
 
-takes_first : Steps first_came (Take 1) (answered (out_submit 1 64) success 64 [] ∷ []) split
+pub takes_first : Steps first_came (Take 1) (answered (out_submit 1 64) success 64 [] ∷ []) split
 takes_first = record {
   plugged = refl;
   leads = (

@@ -1,5 +1,5 @@
 -- submits that halt Bulk-OUT, step by step
-use Rattle.std.proofs.Common.{◌<◌, true, false, [], ◌∷◌, inl, inr, refl, arith, lit<, lit≤}
+use Rattle.std.proofs.Common.{◌<◌, true, false, [], ◌∷◌, inl, inr, replicate, refl, arith, lit<, lit≤}
 use Rattle.std.proofs.lemmas.Bool.{eqb-false}
 use Rattle.usb_setup.specs.declared.setup.Setup.{Setup}
 use Rattle.tmc_wire.specs.declared.header.OutHeader.TheVariants.{Message}
@@ -9,16 +9,18 @@ use Rattle.tmc_wire.specs.HeaderFault.{IsOutFault, HasFault, is_out_message, pla
 use Rattle.tmc_law.specs.Endpoint.{BulkOut}
 use Rattle.tmc_law.specs.State.{State, start, arrived}
 use Rattle.tmc_law.specs.Put.{success, stalled}
-use Rattle.tmc_law.specs.BulkOut.{Spoiled, NoHeader, ByHeader, ByLength}
+use Rattle.tmc_law.specs.BulkOut.{Spoiled, NoHeader, ByHeader, ByLength, InProgress}
 use Rattle.tmc_law.specs.Control.{Asks}
 use Rattle.tmc_law.specs.Standard.{ClearHalt}
 use Rattle.tmc_law.specs.Step.{Steps, Take, Answer}
 use Rattle.tmc_law.specs.Run.{Runs}
 use Rattle.tmc_law.specs.WorkedSession.{out_submit, answered}
-use Rattle.tmc_law.specs.WorkedSpoiled.{unknown_text, long_text, short_text, usable_submit, sending_unknown, sending_long, sending_short}
+use Rattle.tmc_law.specs.WorkedAbortOut.{first_text}
+use Rattle.tmc_law.specs.WorkedSpoiled.{unknown_text, long_text, short_text, usable_submit, sending_unknown, sending_long, sending_short, sending_rest}
 use Rattle.tmc_law.proofs.WorkedComing.{out_comes, telling_comes}
 use Rattle.tmc_law.proofs.WorkedUnspoiled.{IsGood, begun, begins}
 use Rattle.tmc_law.proofs.WorkedAnswering.{answers_standard}
+use Rattle.tmc_law.proofs.WorkedAbortOut.{first_came, split, takes_first}
 
 abbrev unknown_came : State
 unknown_came = record start { bulk_out = arrived (out_submit 1 12) unknown_text ∷ [] }
@@ -140,6 +142,36 @@ sends_short = (
       usable_came,
       telling_comes halted 2 0x02 _ (record { plugged = refl; free = refl; few = refl }) (lit< tt) refl refl,
       (start, becomes_usable, refl),
+    ),
+  ),
+)
+
+-- the rest of a transfer, too short
+abbrev rest_came : State
+rest_came = record split { bulk_out = arrived (out_submit 2 40) (replicate 40 32) ∷ [] }
+
+spoils_rest : Steps rest_came (Take 1) (answered (out_submit 2 40) stalled 0 [] ∷ []) halted
+spoils_rest = record {
+  plugged = refl;
+  leads = (
+    refl,
+    Spoiled (arrived (out_submit 2 40) (replicate 40 32)) [] refl (eqb-false _ _ refl) (lit≤ tt) (lit≤ tt)
+        (ByLength (record { header = Message 1 100 true; taken = first_text }) (InProgress refl) refl (inr (lit< tt, eqb-false _ _ refl)))
+        refl refl,
+  );
+}
+
+pub sends_rest : Runs start sending_rest halted
+sends_rest = (
+  first_came,
+  out_comes start 1 64 first_text (record { plugged = refl; free = refl; few = refl }) (lit< tt) (lit≤ tt) refl refl,
+  (
+    split,
+    takes_first,
+    (
+      rest_came,
+      out_comes split 2 40 (replicate 40 32) (record { plugged = refl; free = refl; few = refl }) (lit< tt) (lit≤ tt) refl refl,
+      (halted, spoils_rest, refl),
     ),
   ),
 )

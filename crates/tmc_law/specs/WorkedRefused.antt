@@ -1,8 +1,10 @@
 -- bytes at which the device closes
-use Rattle.std.specs.Prelude.{ℕ, List, [], ◌∷◌}
+use Rattle.std.specs.Prelude.{ℕ, List, [], ◌∷◌, ◌++◌, map}
+use Rattle.std.specs.List.{range_with_len}
 use Rattle.tmc_base.specs.declared.field.Field.{Field}
 use Rattle.tmc_base.specs.declared.field.Layer.TheVariants.{Urb}
 use Rattle.tmc_base.specs.declared.field.Name.TheVariants as name
+use Rattle.tmc_law.specs.State.{Pending, arrived}
 use Rattle.tmc_law.specs.Step.{Refuses}
 use Rattle.tmc_law.specs.Run.{Entry}
 use Rattle.tmc_law.specs.WorkedSession.{in_submit, submits, step}
@@ -32,3 +34,22 @@ coming_twice = submits (in_submit 1 4096) [] ∷ step (Refuses again_text number
 -- there is no message 7
 abbrev pub coming_wrong : List Entry
 coming_wrong = step (Refuses (0x00 ∷ 0x00 ∷ 0x00 ∷ 0x07 ∷ []) command_field) [] ∷ []
+
+-- a submit of 4096 bytes on Bulk-IN, with number 257
+abbrev pub many_text : List ℕ
+many_text =
+    0x00 ∷ 0x00 ∷ 0x00 ∷ 0x01 ∷ 0x00 ∷ 0x00 ∷ 0x01 ∷ 0x01 ∷ 0x00 ∷ 0x01 ∷ 0x00 ∷ 0x02 ∷ 0x00 ∷ 0x00 ∷ 0x00 ∷ 0x01
+    ∷ 0x00 ∷ 0x00 ∷ 0x00 ∷ 0x02 ∷ 0x00 ∷ 0x00 ∷ 0x00 ∷ 0x00 ∷ 0x00 ∷ 0x00 ∷ 0x10 ∷ 0x00 ∷ 0x00 ∷ 0x00 ∷ 0x00 ∷ 0x00
+    ∷ 0xff ∷ 0xff ∷ 0xff ∷ 0xff ∷ 0x00 ∷ 0x00 ∷ 0x00 ∷ 0x00 ∷ 0x00 ∷ 0x00 ∷ 0x00 ∷ 0x00 ∷ 0x00 ∷ 0x00 ∷ 0x00 ∷ 0x00
+    ∷ []
+
+-- a submit with this number comes, and is pending
+abbrev pub one_comes : (seqnum : ℕ) → Entry
+one_comes seqnum = submits (in_submit seqnum 4096) []
+
+abbrev pub one_came : (seqnum : ℕ) → Pending
+one_came seqnum = arrived (in_submit seqnum 4096) []
+
+-- 256 submits are as many as may be pending
+abbrev pub coming_many : List Entry
+coming_many = map one_comes (range_with_len 1 256) ++ step (Refuses many_text pending_field) [] ∷ []

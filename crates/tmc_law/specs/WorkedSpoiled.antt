@@ -1,11 +1,12 @@
 -- bytes that are no header, and submits that are too long or too short for their transfer
-use Rattle.std.specs.Prelude.{ℕ, List, [], ◌∷◌, ◌++◌, take}
+use Rattle.std.specs.Prelude.{ℕ, List, [], ◌∷◌, ◌++◌, take, replicate}
 use Rattle.usbip_wire.specs.declared.submit.SubmitHead.{SubmitHead}
 use Rattle.tmc_law.specs.Put.{success, stalled}
 use Rattle.tmc_law.specs.Step.{Take, Answer}
 use Rattle.tmc_law.specs.Run.{Entry}
 use Rattle.tmc_law.specs.WorkedSession.{out_submit, telling_submit, submits, step, answered}
 use Rattle.tmc_law.specs.WorkedQuery.{query_text}
+use Rattle.tmc_law.specs.WorkedAbortOut.{first_text}
 
 -- MsgID 3 is none of Bulk-OUT
 abbrev pub unknown_text : List ℕ
@@ -45,4 +46,13 @@ sending_short =
     ∷ step (Take 1) (answered (out_submit 1 16) stalled 0 [] ∷ [])
     ∷ submits usable_submit []
     ∷ step Answer (answered usable_submit success 0 [] ∷ [])
+    ∷ []
+
+-- 40 bytes are less than the 48 that the transfer in progress still wants
+abbrev pub sending_rest : List Entry
+sending_rest =
+    submits (out_submit 1 64) first_text
+    ∷ step (Take 1) (answered (out_submit 1 64) success 64 [] ∷ [])
+    ∷ submits (out_submit 2 40) (replicate 40 32)
+    ∷ step (Take 1) (answered (out_submit 2 40) stalled 0 [] ∷ [])
     ∷ []

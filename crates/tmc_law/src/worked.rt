@@ -1,7 +1,8 @@
 //! Worked runs: sessions that the law allows, and steps that it refuses. Each function does nothing, and its contract
 //! says that the run is lawful.
 
-ghost use Rattle.std.specs.Prelude.{◌≡◌, ◌≢◌, ℕ, ◌<◌, ◌≤◌, Bool, true, false, List, [], ◌∷◌, ◌++◌, length, replicate, Some, None};
+ghost use Rattle.std.specs.Prelude.{◌≡◌, ◌≢◌, ℕ, ◌<◌, ◌≤◌, Bool, true, false, List, [], ◌∷◌, ◌++◌, length, map, replicate, Some, None};
+ghost use Rattle.std.specs.List.{range_with_len};
 ghost use Rattle.tmc_base.specs.declared.field.Field.{Field};
 ghost use Rattle.usbip_wire.specs.declared.submit.SubmitHead.{SubmitHead};
 ghost use Rattle.usbip_wire.specs.Up as up;
@@ -34,7 +35,7 @@ ghost use Rattle.instr_plain.specs.declared.remote.RemoteState.TheVariants.{Remo
 ghost use Rattle.tmc_law.specs.WorkedControl.{asking_control};
 ghost use Rattle.tmc_law.specs.WorkedDeclined.{declining};
 ghost use Rattle.tmc_law.specs.WorkedDeclinedIn.{declining_in};
-ghost use Rattle.tmc_law.specs.WorkedRefused.{number_field, command_field, pending_field, coming_twice, coming_wrong};
+ghost use Rattle.tmc_law.specs.WorkedRefused.{number_field, command_field, pending_field, coming_twice, coming_wrong, coming_many, one_came};
 ghost use Rattle.tmc_law.specs.WorkedSession.{in_submit};
 ghost use Rattle.tmc_law.specs.WorkedService.{requesting, service_log};
 ghost use Rattle.tmc_law.specs.WorkedInterrupt.{interrupting, interrupt_log};
@@ -42,7 +43,7 @@ ghost use Rattle.tmc_law.specs.WorkedUnplug.{unplugging};
 ghost use Rattle.tmc_law.specs.WorkedParts.{sending_parts, parts_log};
 ghost use Rattle.tmc_law.specs.WorkedBare.{requesting_nothing, bare_log};
 ghost use Rattle.tmc_law.specs.WorkedTrigger.{triggering, trigger_log};
-ghost use Rattle.tmc_law.specs.WorkedSpoiled.{sending_unknown, sending_long, sending_short};
+ghost use Rattle.tmc_law.specs.WorkedSpoiled.{sending_unknown, sending_long, sending_short, sending_rest};
 
 /// The query `*IDN?`, from its arrival to the last packet of its response, and the bytes of the answers.
 pub fn a_query_is_answered()
@@ -143,6 +144,9 @@ pub fn spoiled_submits_halt()
     ensures header { Runs start sending_unknown start }
     ensures size { Runs start sending_long start }
     ensures short { Runs start sending_short start }
+    ensures rest { Runs start sending_rest (record start {
+      halted = record { bulk_out = true; bulk_in = false; interrupt_in = false };
+    }) }
 {}
 
 /// A packet that fills its submit ends it, and one that does not fit halts Bulk-IN.
@@ -181,17 +185,21 @@ pub fn aborts_are_declined()
     ensures bulk_in { Runs start (reading ++ declining_in) (record start { log = read_log }) }
 {}
 
-/// The device closes at a number that is pending, and at a message that there is not.
+/// The device closes at a number that is pending, at a message that there is not, and at a submit behind 256 others.
 pub fn refused_bytes_close()
     ensures number { Runs start coming_twice (record start {
       bulk_in = arrived (in_submit 1 4096) [] ∷ [];
       presence = Closed number_field;
     }) }
     ensures command { Runs start coming_wrong (record start { presence = Closed command_field }) }
+    ensures many { Runs start coming_many (record start {
+      bulk_in = map one_came (range_with_len 1 256);
+      presence = Closed pending_field;
+    }) }
 {}
 
-/// A submit of no bytes is answered. A header that does not suit the state halts Bulk-OUT: a request or a trigger inside
-/// a message, a message while a response is owed, and one that would be too long.
+/// A submit of no bytes is answered. A header that does not suit the state halts Bulk-OUT: a request or a trigger
+/// inside a message, a message while a response is owed, and one that would be too long.
 pub fn headers_have_to_suit()
     ensures nothing { Runs start sending_nothing start }
     ensures inside { Runs start sending_inside (record start {
