@@ -51,6 +51,7 @@ pub mod WorkedTrigger
 pub mod WorkedSpoiled
 pub mod WorkedOverflow
 pub mod WorkedControl
+pub mod WorkedStandard
 pub mod WorkedDeclined
 pub mod WorkedDeclinedIn
 pub mod WorkedRefused

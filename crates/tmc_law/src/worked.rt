@@ -23,16 +23,17 @@ ghost use Rattle.tmc_law.specs.WorkedUnlink.{unlinking, unlinking_out};
 ghost use Rattle.tmc_law.specs.WorkedTold.{told_query};
 ghost use Rattle.tmc_law.specs.Told.{Tells};
 ghost use Rattle.tmc_law.specs.WorkedClear.{clearing, clear_log};
-ghost use Rattle.tmc_law.specs.WorkedAbortIn.{aborting_in};
+ghost use Rattle.tmc_law.specs.WorkedAbortIn.{aborting_in, checking_in};
 ghost use Rattle.tmc_law.specs.WorkedAbortOut.{aborting_out};
 ghost use Rattle.tmc_law.specs.WorkedHalt.{halting};
 ghost use Rattle.tmc_law.specs.WorkedStatus.{status_asked, answer_first, packet_first, unlink_behind_poll, no_room, statuses, status_log};
 ghost use Rattle.tmc_law.specs.WorkedOverflow.{overflowing};
 ghost use Rattle.tmc_law.specs.WorkedUnsuited.{sending_nothing, sending_inside, triggering_inside, sending_while_owed, sending_too_much};
-ghost use Rattle.tmc_law.specs.WorkedRemote.{operating, remote_log};
+ghost use Rattle.tmc_law.specs.WorkedRemote.{operating, remote_log, locking, locked_log, releasing, released_log};
 ghost use Rattle.tmc_law.specs.WorkedChecks.{checking, check_log};
-ghost use Rattle.instr_plain.specs.declared.remote.RemoteState.TheVariants.{Remote};
+ghost use Rattle.instr_plain.specs.declared.remote.RemoteState.TheVariants.{Remote, LocalLockout};
 ghost use Rattle.tmc_law.specs.WorkedControl.{asking_control};
+ghost use Rattle.tmc_law.specs.WorkedStandard.{asking_device, asking_interface, asking_configuration, asking_languages, asking_maker, asking_product, asking_configured, asking_alternate, setting_configuration, setting_interface};
 ghost use Rattle.tmc_law.specs.WorkedDeclined.{declining};
 ghost use Rattle.tmc_law.specs.WorkedDeclinedIn.{declining_in};
 ghost use Rattle.tmc_law.specs.WorkedRefused.{number_field, command_field, pending_field, coming_twice, coming_wrong, coming_many, one_came};
@@ -176,6 +177,24 @@ pub fn control_requests_are_answered()
     ensures { Runs start asking_control start }
 {}
 
+/// Status, descriptors and settings are told. A string is sent whole where more is wanted, and in part where less is.
+pub fn standard_requests_are_answered()
+    ensures device { Runs start asking_device start }
+    ensures interface { Runs start asking_interface start }
+    ensures configuration { Runs start asking_configuration start }
+    ensures languages { Runs start asking_languages start }
+    ensures maker { Runs start asking_maker start }
+    ensures product { Runs start asking_product start }
+    ensures configured { Runs start asking_configured start }
+    ensures alternate { Runs start asking_alternate start }
+{}
+
+/// A configuration or an interface that is set ends the halts of all endpoints.
+pub fn settings_end_halts()
+    ensures configuration { Runs start setting_configuration start }
+    ensures interface { Runs start setting_interface start }
+{}
+
 /// An abort does not begin where no transfer is in progress, another one is, or an abort runs.
 pub fn aborts_are_declined()
     ensures bulk_out { Runs start declining (record start {
@@ -224,20 +243,28 @@ pub fn statuses_may_fail()
     ensures { Runs start statuses (record start { packets = StatusPacket 5 0 ∷ []; log = status_log }) }
 {}
 
-/// The instrument is operated from remote, and says what it can.
+/// The instrument is operated from remote, and says what it can. Local operation is locked out, and allowed again when
+/// remote control ends. An indicator pulse changes nothing.
 pub fn a_remote_act_is_logged()
-    ensures { Runs start operating (record start {
+    ensures remote { Runs start operating (record start {
       log = remote_log;
       standing = record at_power_on { state = record power_on { remote = Remote } };
     }) }
+    ensures locked { Runs start locking (record start {
+      log = locked_log;
+      standing = record at_power_on { state = record power_on { remote = LocalLockout } };
+    }) }
+    ensures released { Runs start (locking ++ releasing) (record start { log = released_log }) }
 {}
 
-/// A check where nothing runs says so, and one of what runs may be answered with PENDING first.
+/// A check where nothing runs says so, and one of what runs may be answered with PENDING first. An abort of Bulk-IN is
+/// pending while its packet is still to be read, and may be behind it.
 pub fn checks_may_be_pending()
-    ensures { Runs start checking (record start {
+    ensures clear { Runs start checking (record start {
       halted = record { bulk_out = true; bulk_in = false; interrupt_in = false };
       log = check_log;
     }) }
+    ensures bulk_in { Runs start (reading ++ checking_in) (record start { log = read_log }) }
 {}
 
 /// Nothing happens to a device that is unplugged.
