@@ -52,6 +52,7 @@ pub mod WorkedSpoiled
 pub mod WorkedOverflow
 pub mod WorkedControl
 pub mod WorkedStandard
+pub mod WorkedUnknown
 pub mod WorkedDeclined
 pub mod WorkedDeclinedIn
 pub mod WorkedRefused

@@ -1,19 +1,19 @@
--- a short descriptor, and a request that the device does not know, step by step
+-- a short descriptor, short capabilities, and a request that the device does not know, step by step
 use Rattle.std.proofs.Common.{◌≡◌, true, false, [], ◌∷◌, refl, ap, arith, lit<, lit≤}
 use Rattle.usb_setup.specs.declared.setup.Setup.{Setup}
 use Rattle.tmc_wire.specs.declared.class_request.ClassRequest.{ClassRequest}
 use Rattle.tmc_wire.specs.declared.class_request.ClassRequest.TheVariants.{AbortOut, CheckOut, AbortIn, CheckIn, Clear, CheckClear, Capabilities, Pulse, ReadStatus, Ren, GoLocal, Lockout}
-use Rattle.tmc_wire.specs.ControlTable.{IsRow}
+use Rattle.tmc_wire.specs.ControlTable.{IsRow, fields}
 use Rattle.tmc_law.specs.Endpoint.{ends}
 use Rattle.tmc_law.specs.State.{State, start, arrived}
 use Rattle.tmc_law.specs.Put.{success, stalled}
 use Rattle.tmc_law.specs.Control.{Asks}
 use Rattle.tmc_law.specs.Standard.{Standard, IsStandard, GetDeviceStatus, GetInterfaceStatus, GetEndpointStatus, ClearHalt, GetDeviceDescriptor, GetConfigurationDescriptor, GetString, GetConfiguration, SetConfiguration, GetInterface, SetInterface}
-use Rattle.tmc_law.specs.Class.{Unknown}
+use Rattle.tmc_law.specs.Class.{ByClass, Unknown, capabilities_layout}
 use Rattle.tmc_law.specs.Step.{Steps, Answer}
 use Rattle.tmc_law.specs.Run.{Runs}
 use Rattle.tmc_law.specs.WorkedSession.{answered}
-use Rattle.tmc_law.specs.WorkedControl.{descriptor_submit, unknown_submit, asking_control}
+use Rattle.tmc_law.specs.WorkedControl.{descriptor_submit, unknown_submit, asking_control, part_submit, asking_part}
 use Rattle.tmc_law.proofs.WorkedComing.{asking_comes}
 use Rattle.tmc_law.proofs.WorkedAnswering.{answers_standard}
 
@@ -89,4 +89,24 @@ asks_control = (
       (start, stalls, refl),
     ),
   ),
+)
+
+abbrev part_came : State
+part_came = record start { control = arrived part_submit [] ∷ [] }
+
+part_asks : Asks (arrived part_submit []) (fields 0xA1 7 0 0 4)
+part_asks = record { fits = record { request_type = lit< tt; request = lit< tt; value = lit< tt; index = lit< tt; length = lit< tt }; layout = refl }
+
+tells_part : Steps part_came Answer (answered part_submit success 4 (0x01 ∷ 0x00 ∷ 0x00 ∷ 0x01 ∷ []) ∷ []) start
+tells_part = record {
+  plugged = refl;
+  leads = ByClass (arrived part_submit []) [] (fields 0xA1 7 0 0 4) Capabilities (record { layout = capabilities_layout; behind = []; state = start })
+      refl part_asks (record { fits = tt; is = refl }) refl refl refl;
+}
+
+pub asks_part : Runs start asking_part start
+asks_part = (
+  part_came,
+  asking_comes start 1 24 0xA1 _ (record { plugged = refl; free = refl; few = refl }) (lit< tt) (lit≤ tt) refl refl,
+  (start, tells_part, refl),
 )

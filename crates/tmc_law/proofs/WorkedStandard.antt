@@ -7,11 +7,11 @@ use Rattle.tmc_law.specs.Endpoint.{Control, BulkOut, BulkIn, InterruptIn}
 use Rattle.tmc_law.specs.State.{State, start, arrived}
 use Rattle.tmc_law.specs.Halts.{DoesHalt}
 use Rattle.tmc_law.specs.Control.{Asks, control_answer}
-use Rattle.tmc_law.specs.Standard.{Standard, IsStandard, standard_layout, standard_effect, GetDeviceStatus, GetInterfaceStatus, GetConfigurationDescriptor, GetString, GetConfiguration, SetConfiguration, GetInterface, SetInterface}
+use Rattle.tmc_law.specs.Standard.{Standard, IsStandard, standard_layout, standard_effect, GetDeviceStatus, GetInterfaceStatus, GetEndpointStatus, ClearHalt, GetConfigurationDescriptor, GetString, GetConfiguration, SetConfiguration, GetInterface, SetInterface}
 use Rattle.tmc_law.specs.Step.{Answer}
 use Rattle.tmc_law.specs.Run.{Runs}
 use Rattle.tmc_law.specs.WorkedSession.{asking_submit, submits, step}
-use Rattle.tmc_law.specs.WorkedStandard.{asking_device, asking_interface, asking_configuration, asking_languages, asking_maker, asking_product, asking_configured, asking_alternate, halting_all, asked, configure_submit, select_submit, setting_configuration, setting_interface}
+use Rattle.tmc_law.specs.WorkedStandard.{asking_device, asking_interface, asking_configuration, asking_languages, asking_maker, asking_product, asking_configured, asking_alternate, halting_all, asked, configure_submit, select_submit, setting_configuration, setting_interface, asking_endpoint, endpoint_submit, usable_submit, clearing_interrupt}
 use Rattle.tmc_law.proofs.WorkedJoined.{joined}
 use Rattle.tmc_law.proofs.WorkedComing.{asking_comes, telling_comes}
 use Rattle.tmc_law.proofs.WorkedAnswering.{answers_standard}
@@ -71,6 +71,21 @@ asks_configured = asks 1 0x80 _ (fields 0x80 8 0 0 1) GetConfiguration (lit≤ t
 
 pub asks_alternate : Runs start asking_alternate start
 asks_alternate = asks 1 0x81 _ (fields 0x81 10 0 0 1) GetInterface (lit≤ tt) refl refl
+    (record { fits = record { request_type = lit< tt; request = lit< tt; value = lit< tt; index = lit< tt; length = lit< tt }; layout = refl })
+    (record { request_type = refl; request = refl; value = refl; index = refl })
+
+pub asks_control : Runs start (asking_endpoint 0x00) start
+asks_control = asks 2 0x82 _ (fields 0x82 0 0 0x00 2) (GetEndpointStatus Control) (lit≤ tt) refl refl
+    (record { fits = record { request_type = lit< tt; request = lit< tt; value = lit< tt; index = lit< tt; length = lit< tt }; layout = refl })
+    (record { request_type = refl; request = refl; value = refl; index = refl })
+
+pub asks_bulk_out : Runs start (asking_endpoint 0x01) start
+asks_bulk_out = asks 2 0x82 _ (fields 0x82 0 0 0x01 2) (GetEndpointStatus BulkOut) (lit≤ tt) refl refl
+    (record { fits = record { request_type = lit< tt; request = lit< tt; value = lit< tt; index = lit< tt; length = lit< tt }; layout = refl })
+    (record { request_type = refl; request = refl; value = refl; index = refl })
+
+pub asks_interrupt_in : Runs start (asking_endpoint 0x83) start
+asks_interrupt_in = asks 2 0x82 _ (fields 0x82 0 0 0x83 2) (GetEndpointStatus InterruptIn) (lit≤ tt) refl refl
     (record { fits = record { request_type = lit< tt; request = lit< tt; value = lit< tt; index = lit< tt; length = lit< tt }; layout = refl })
     (record { request_type = refl; request = refl; value = refl; index = refl })
 
@@ -135,3 +150,40 @@ select_ends_halts = (
 
 pub sets_interface : Runs start setting_interface start
 sets_interface = joined halting_all (asked select_submit 0 []) start halted start halts_all select_ends_halts
+
+-- Interrupt-IN alone is halted
+abbrev interrupt_halted : State
+interrupt_halted = record start { halted = record { bulk_out = false; bulk_in = false; interrupt_in = true } }
+
+abbrev endpoint_came : State
+endpoint_came = record interrupt_halted { control = arrived (endpoint_submit 1 0x83) [] ∷ [] }
+
+abbrev usable_came : State
+usable_came = record interrupt_halted { control = arrived usable_submit [] ∷ [] }
+
+pub clears_interrupt : Runs start clearing_interrupt start
+clears_interrupt = (
+  interrupt_halted,
+  record { plugged = refl; leads = DoesHalt interrupt_no_control refl refl refl },
+  (
+    endpoint_came,
+    asking_comes interrupt_halted 1 2 0x82 _ (record { plugged = refl; free = refl; few = refl }) (lit< tt) (lit≤ tt) refl refl,
+    (
+      interrupt_halted,
+      answers_standard endpoint_came (arrived (endpoint_submit 1 0x83) []) [] (fields 0x82 0 0 0x83 2) (GetEndpointStatus InterruptIn) refl refl
+          (record { fits = record { request_type = lit< tt; request = lit< tt; value = lit< tt; index = lit< tt; length = lit< tt }; layout = refl })
+          (record { request_type = refl; request = refl; value = refl; index = refl }),
+      (
+        usable_came,
+        telling_comes interrupt_halted 2 0x02 _ (record { plugged = refl; free = refl; few = refl }) (lit< tt) refl refl,
+        (
+          start,
+          answers_standard usable_came (arrived usable_submit []) [] (fields 0x02 1 0 0x83 0) (ClearHalt InterruptIn) refl refl
+              (record { fits = record { request_type = lit< tt; request = lit< tt; value = lit< tt; index = lit< tt; length = lit< tt }; layout = refl })
+              (record { request_type = refl; request = refl; value = refl; index = refl }),
+          refl,
+        ),
+      ),
+    ),
+  ),
+)

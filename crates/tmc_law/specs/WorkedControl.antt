@@ -1,4 +1,4 @@
--- a descriptor that is wanted in part, and a request that the device does not know
+-- a descriptor and capabilities that are wanted in part, and a request that the device does not know
 use Rattle.std.specs.Prelude.{List, [], ◌∷◌}
 use Rattle.usbip_wire.specs.declared.submit.SubmitHead.{SubmitHead}
 use Rattle.tmc_law.specs.Put.{success, stalled}
@@ -21,3 +21,10 @@ asking_control =
     ∷ submits unknown_submit []
     ∷ step Answer (answered unknown_submit stalled 0 [] ∷ [])
     ∷ []
+
+-- GET_CAPABILITIES, of which the setup wants 4 bytes
+abbrev pub part_submit : SubmitHead
+part_submit = asking_submit 1 24 (0xA1 ∷ 0x07 ∷ 0x00 ∷ 0x00 ∷ 0x00 ∷ 0x00 ∷ 0x04 ∷ 0x00 ∷ [])
+
+abbrev pub asking_part : List Entry
+asking_part = submits part_submit [] ∷ step Answer (answered part_submit success 4 (0x01 ∷ 0x00 ∷ 0x00 ∷ 0x01 ∷ []) ∷ []) ∷ []

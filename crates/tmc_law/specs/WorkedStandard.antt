@@ -75,6 +75,13 @@ alternate_submit = asking_submit 1 1 (0x81 ∷ 0x0a ∷ 0x00 ∷ 0x00 ∷ 0x00 �
 abbrev pub asking_alternate : List Entry
 asking_alternate = asked alternate_submit 1 (0x00 ∷ [])
 
+-- GET_STATUS of the endpoints 0, 1 and 3, which are not halted
+abbrev pub endpoint_submit : (seqnum address : ℕ) → SubmitHead
+endpoint_submit seqnum address = asking_submit seqnum 2 (0x82 ∷ 0x00 ∷ 0x00 ∷ 0x00 ∷ address ∷ 0x00 ∷ 0x02 ∷ 0x00 ∷ [])
+
+abbrev pub asking_endpoint : (address : ℕ) → List Entry
+asking_endpoint address = asked (endpoint_submit 1 address) 2 (0x00 ∷ 0x00 ∷ [])
+
 -- the endpoints 1 to 3 halt
 abbrev pub halting_all : List Entry
 halting_all = step (Halt BulkOut) [] ∷ step (Halt BulkIn) [] ∷ step (Halt InterruptIn) [] ∷ []
@@ -92,3 +99,10 @@ select_submit = telling_submit 1 (0x01 ∷ 0x0b ∷ 0x00 ∷ 0x00 ∷ 0x00 ∷ 0
 
 abbrev pub setting_interface : List Entry
 setting_interface = halting_all ++ asked select_submit 0 []
+
+-- CLEAR_FEATURE of the halt of Interrupt-IN
+abbrev pub usable_submit : SubmitHead
+usable_submit = telling_submit 2 (0x02 ∷ 0x01 ∷ 0x00 ∷ 0x00 ∷ 0x83 ∷ 0x00 ∷ 0x00 ∷ 0x00 ∷ [])
+
+abbrev pub clearing_interrupt : List Entry
+clearing_interrupt = step (Halt InterruptIn) [] ∷ asked (endpoint_submit 1 0x83) 2 (0x01 ∷ 0x00 ∷ []) ++ asked usable_submit 0 []

@@ -32,8 +32,9 @@ ghost use Rattle.tmc_law.specs.WorkedUnsuited.{sending_nothing, sending_inside, 
 ghost use Rattle.tmc_law.specs.WorkedRemote.{operating, remote_log, locking, locked_log, releasing, released_log};
 ghost use Rattle.tmc_law.specs.WorkedChecks.{checking, check_log};
 ghost use Rattle.instr_plain.specs.declared.remote.RemoteState.TheVariants.{Remote, LocalLockout};
-ghost use Rattle.tmc_law.specs.WorkedControl.{asking_control};
-ghost use Rattle.tmc_law.specs.WorkedStandard.{asking_device, asking_interface, asking_configuration, asking_languages, asking_maker, asking_product, asking_configured, asking_alternate, setting_configuration, setting_interface};
+ghost use Rattle.tmc_law.specs.WorkedControl.{asking_control, asking_part};
+ghost use Rattle.tmc_law.specs.WorkedStandard.{asking_device, asking_interface, asking_configuration, asking_languages, asking_maker, asking_product, asking_configured, asking_alternate, asking_endpoint, setting_configuration, setting_interface, clearing_interrupt};
+ghost use Rattle.tmc_law.specs.WorkedUnknown.{stalling, string_submit, configure_submit, select_submit, pulse_submit};
 ghost use Rattle.tmc_law.specs.WorkedDeclined.{declining};
 ghost use Rattle.tmc_law.specs.WorkedDeclinedIn.{declining_in};
 ghost use Rattle.tmc_law.specs.WorkedRefused.{number_field, command_field, pending_field, coming_twice, coming_wrong, coming_many, one_came};
@@ -172,15 +173,19 @@ pub fn a_packet_without_room_stays()
     }) }
 {}
 
-/// A descriptor is sent in part where less is wanted, and an unknown request stalls.
+/// A descriptor is sent in part where less is wanted, and so are the capabilities. An unknown request stalls.
 pub fn control_requests_are_answered()
-    ensures { Runs start asking_control start }
+    ensures standard { Runs start asking_control start }
+    ensures class { Runs start asking_part start }
 {}
 
 /// Status, descriptors and settings are told. A string is sent whole where more is wanted, and in part where less is.
 pub fn standard_requests_are_answered()
     ensures device { Runs start asking_device start }
     ensures interface { Runs start asking_interface start }
+    ensures control { Runs start (asking_endpoint 0x00) start }
+    ensures bulk_out { Runs start (asking_endpoint 0x01) start }
+    ensures interrupt_in { Runs start (asking_endpoint 0x83) start }
     ensures configuration { Runs start asking_configuration start }
     ensures languages { Runs start asking_languages start }
     ensures maker { Runs start asking_maker start }
@@ -189,10 +194,19 @@ pub fn standard_requests_are_answered()
     ensures alternate { Runs start asking_alternate start }
 {}
 
-/// A configuration or an interface that is set ends the halts of all endpoints.
+/// A configuration or an interface that is set ends the halts of all endpoints, and a halt of one can be cleared.
 pub fn settings_end_halts()
     ensures configuration { Runs start setting_configuration start }
     ensures interface { Runs start setting_interface start }
+    ensures endpoint { Runs start clearing_interrupt start }
+{}
+
+/// A request for a string, a configuration, an alternate setting or an interface that there is not stalls.
+pub fn near_requests_stall()
+    ensures string { Runs start (stalling string_submit) start }
+    ensures configuration { Runs start (stalling configure_submit) start }
+    ensures alternate { Runs start (stalling select_submit) start }
+    ensures pulse { Runs start (stalling pulse_submit) start }
 {}
 
 /// An abort does not begin where no transfer is in progress, another one is, or an abort runs.
