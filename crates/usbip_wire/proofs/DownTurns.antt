@@ -1,16 +1,19 @@
 -- parts of the operations in turn are determined, and a device list is read again
-use Rattle.std.proofs.Common.{◌≡◌, ℕ, ◌-◌, List, [], ◌∷◌, ◌++◌, length, take, drop, refl, sym, ap, subst, ◌∙◌, append_assoc, arith}
+use Rattle.std.proofs.Common.{◌≡◌, ℕ, ◌-◌, None, List, [], ◌∷◌, ◌++◌, length, take, drop, refl, sym, ap, subst, ◌∙◌, append_assoc, arith}
 use Rattle.std.proofs.lemmas.List.{length-take, length-drop}
 use Rattle.usbip_wire.specs.declared.device.DeviceRecord.{DeviceRecord}
+use Rattle.usbip_wire.specs.declared.dirs.Outstanding.{Outstanding}
 use Rattle.usbip_wire.specs.declared.down.Down.{Down}
 use Rattle.usbip_wire.specs.declared.down.Down.TheVariants as down
 use Rattle.usbip_wire.specs.declared.down.DownPhase.{DownPhase}
 use Rattle.usbip_wire.specs.declared.down.DownPhase.TheVariants.{Ops, Urbs}
 use Rattle.usbip_wire.specs.DevList.{interfaces_of, interfaces_told, devices_told, list_bytes, list_told}
-use Rattle.usbip_wire.specs.DownFed.{Means, NoneWhole, SpellsParts}
+use Rattle.usbip_wire.specs.DownFed.{Held, Means, NoneWhole, SpellsParts, kept}
 use Rattle.usbip_wire.specs.DownForm.{after}
-use Rattle.usbip_wire.specs.DownTurns.{IsList, ReadsInTurn, awaited}
+use Rattle.usbip_wire.specs.DownPieces.{Call, Calls, Given, InTurn, begun, given, last_entries, used_bytes}
+use Rattle.usbip_wire.specs.DownTurns.{IsList, ReadsInTurn, awaited, whats_of}
 use Rattle.usbip_wire.specs.Laws.{ArePrefixFree}
+use Rattle.usbip_wire.proofs.DownStream.{phase_behind, stream}
 use Rattle.usbip_wire.proofs.Free.{parts_free}
 use Rattle.usbip_wire.proofs.Listed.{list_spelled}
 
@@ -132,3 +135,63 @@ pub list_again : (status : ℕ) (ds : List DeviceRecord) (is : List (List ℕ)) 
 list_again status ds is tail whats rest l p =
     let r = turns_again (Ops 0 0) (list_told status ds is) (list_bytes status ds is) tail whats rest (spelled_list status ds is l) p in
     (r.0, r.1, subst (λ (q : DownPhase). ReadsInTurn q tail r.0 rest) (list_end status ds is l) r.2)
+
+-- ---- what a reader gave is a reading
+
+abbrev IsOps : DownPhase → Type 0
+IsOps (Ops devices interfaces) = Unit {0}
+IsOps Urbs = ⊥
+
+ops_after : (phase : DownPhase) (what : Down) → IsOps phase → IsOps (after phase what)
+ops_after Urbs what o = absurd o
+ops_after (Ops devices interfaces) (down.Count status number) o = tt
+ops_after (Ops devices interfaces) (down.Device device) o = tt
+ops_after (Ops devices interfaces) (down.Interface class subclass protocol) o = tt
+ops_after (Ops devices interfaces) (down.Import status device) o = tt
+ops_after (Ops devices interfaces) (down.RetSubmit head) o = tt
+ops_after (Ops devices interfaces) (down.RetUnlink head) o = tt
+ops_after (Ops devices interfaces) down.More o = tt
+ops_after (Ops devices interfaces) (down.Bad f) o = tt
+
+ops_awaited : (phase : DownPhase) (whats : List Down) → IsOps phase → IsOps (awaited phase whats)
+ops_awaited phase [] o = o
+ops_awaited phase (what ∷ whats) o = ops_awaited (after phase what) whats (ops_after phase what o)
+
+-- what is outstanding is no matter of the operations
+means_alike : (phase : DownPhase) (entries : List Outstanding) (what : Down) (front : List ℕ) → IsOps phase → Means phase entries what front → Means phase [] what front
+means_alike (Ops devices interfaces) entries what front o s = s
+means_alike Urbs entries what front o s = absurd o
+
+none_alike : (phase : DownPhase) (entries : List Outstanding) (rest : List ℕ) → IsOps phase → NoneWhole phase entries rest → NoneWhole phase [] rest
+none_alike (Ops devices interfaces) entries rest o u = u
+none_alike Urbs entries rest o u = absurd o
+
+turns_of : (phase : DownPhase) (messages : List Given) (bytes rest : List ℕ) → IsOps phase → InTurn phase messages bytes rest
+    → (front : List ℕ) × (bytes ≡ front ++ rest) × SpellsParts phase (whats_of messages) front
+turns_of phase [] bytes rest o e = ([], e, refl)
+turns_of phase (m ∷ messages) bytes rest o (front, behind, e, s, carried, p) =
+    let r = turns_of (after phase m.what) messages behind rest (ops_after phase m.what o) p in (
+      front ++ r.0,
+      e ∙ (ap (λ (l : List ℕ). front ++ l) r.1 ∙ sym (append_assoc front r.0 rest)),
+      (front, r.0, refl, means_alike phase m.entries m.what front o s, r.2),
+    )
+
+awaited_behind : (phase : DownPhase) (messages : List Given) → phase_behind phase messages ≡ awaited phase (whats_of messages)
+awaited_behind phase [] = refl
+awaited_behind phase (m ∷ messages) = awaited_behind (after phase m.what) messages
+
+pub given_turns : (devices interfaces : ℕ) (calls : List Call) (end : Held) → Calls (begun (Ops devices interfaces)) calls end → end.bad ≡ None
+    → ReadsInTurn (Ops devices interfaces) (used_bytes calls) (whats_of (given calls)) (kept end)
+given_turns devices interfaces calls end run fine =
+    let phase : DownPhase = Ops devices interfaces in
+    let s = stream phase [] calls end run in
+    let r = turns_of phase (given calls) (used_bytes calls) (kept end) tt s.0 in
+    let leads : end.phase ≡ awaited phase (whats_of (given calls)) = s.2 ∙ awaited_behind phase (given calls) in
+    let none : NoneWhole (awaited phase (whats_of (given calls))) (last_entries [] calls) (kept end) =
+    subst (λ (p : DownPhase). NoneWhole p (last_entries [] calls) (kept end)) leads (s.1 fine) in
+    record {
+      front = r.0;
+      holds = r.1;
+      spelled = r.2;
+      none_whole = none_alike (awaited phase (whats_of (given calls))) (last_entries [] calls) (kept end) (ops_awaited phase (whats_of (given calls)) tt) none;
+    }

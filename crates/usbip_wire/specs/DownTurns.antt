@@ -6,6 +6,7 @@ use Rattle.usbip_wire.specs.declared.down.DownPhase.{DownPhase}
 use Rattle.usbip_wire.specs.DevList.{AreRecords, AreTriples, interfaces_of}
 use Rattle.usbip_wire.specs.DownFed.{SpellsParts, NoneWhole}
 use Rattle.usbip_wire.specs.DownForm.{after}
+use Rattle.usbip_wire.specs.DownPieces.{Given}
 
 -- what is awaited behind these parts
 abbrev pub awaited : DownPhase → List Down → DownPhase
@@ -18,6 +19,11 @@ pub record ReadsInTurn (phase : DownPhase) (bytes : List ℕ) (whats : List Down
   pub holds : bytes ≡ front ++ rest
   pub spelled : SpellsParts phase whats front
   pub none_whole : NoneWhole (awaited phase whats) [] rest
+
+-- what was given
+abbrev pub whats_of : List Given → List Down
+whats_of [] = []
+whats_of (message ∷ messages) = message.what ∷ whats_of messages
 
 -- a status, devices and interfaces that put_device_list writes
 pub record IsList (status : ℕ) (devices : List DeviceRecord) (interfaces : List (List ℕ)) : Type 0 where

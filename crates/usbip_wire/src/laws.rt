@@ -16,7 +16,7 @@ ghost use Rattle.usbip_wire.specs.Dirs.{find, submit_of, is_unlink};
 ghost use Rattle.usbip_wire.specs.Down.{SpellsAnswer, SpellsAnyAnswer};
 ghost use Rattle.usbip_wire.specs.DownFed as down_fed;
 ghost use Rattle.usbip_wire.specs.DownPieces as down_pieces;
-ghost use Rattle.usbip_wire.specs.DownTurns.{IsList, ReadsInTurn, awaited};
+ghost use Rattle.usbip_wire.specs.DownTurns.{IsList, ReadsInTurn, awaited, whats_of};
 ghost use Rattle.usbip_wire.specs.Given.{IsBytes};
 ghost use Rattle.usbip_wire.specs.JudgedFields.{op_fields, part_fields, urb_fields, answer_fields};
 ghost use Rattle.usbip_wire.specs.Laws.{ArePrefixFree, AreDetermined, AreRead, AreReadAgain, RefusedAt, IsFirstRefused, CanGoOn, GoesOn, AreAlone};
@@ -71,7 +71,8 @@ pub fn answers_are_determined()
 
 /// The parts of an operation's answer one after another, each where what the one before it left is awaited: the bytes
 /// determine the parts and the rest, and parts that were written are read again, whatever follows them. So is a whole
-/// device list; behind it nothing more of it is awaited.
+/// device list; behind it nothing more of it is awaited. What a reader gave of an operation's answer, in whatever
+/// pieces it came, is such a reading.
 pub fn device_lists_are_determined()
     ensures determined { (devices interfaces : ℕ) (bytes : List ℕ) (whats others : List Down) (rest other : List ℕ)
         → ReadsInTurn (down_phase.Ops devices interfaces) bytes whats rest → ReadsInTurn (down_phase.Ops devices interfaces) bytes others other
@@ -85,6 +86,9 @@ pub fn device_lists_are_determined()
     ensures list_again { (status : ℕ) (devices : List DeviceRecord) (interfaces : List (List ℕ)) (tail : List ℕ) (all : List Down) (rest : List ℕ)
         → IsList status devices interfaces → ReadsInTurn (down_phase.Ops 0 0) (list_bytes status devices interfaces ++ tail) all rest
         → (others : List Down) × (all ≡ list_told status devices interfaces ++ others) × ReadsInTurn (down_phase.Ops 0 0) tail others rest }
+    ensures given { (devices interfaces : ℕ) (calls : List down_pieces.Call) (end : down_fed.Held)
+        → down_pieces.Calls (down_pieces.begun (down_phase.Ops devices interfaces)) calls end → end.bad ≡ None
+        → ReadsInTurn (down_phase.Ops devices interfaces) (down_pieces.used_bytes calls) (whats_of (down_pieces.given calls)) (down_fed.kept end) }
 {}
 
 /// Each list of bytes has a reading: it is requests in a row, or submits and unlinks to one device, and then a rest
