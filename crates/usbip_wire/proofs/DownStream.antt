@@ -19,7 +19,7 @@ use Rattle.usbip_wire.specs.DownPieces.{Call, Calls, Given, begun, used_bytes, l
 use Rattle.usbip_wire.proofs.UpStream.{no_front}
 
 -- the phase behind some messages
-abbrev phase_behind : DownPhase → List Given → DownPhase
+abbrev pub phase_behind : DownPhase → List Given → DownPhase
 phase_behind phase [] = phase
 phase_behind phase (message ∷ messages) = phase_behind (after phase message.what) messages
 
@@ -29,6 +29,10 @@ join : (phase : DownPhase) (ms ns : List Given) (a b mid rest : List ℕ) → In
 join phase [] ns a b mid rest p q = subst (λ (l : List ℕ). InTurn phase ns (l ++ b) rest) (sym p) q
 join phase (m ∷ ms) ns a b mid rest (front, behind, e, s, d, p) q =
     (front, behind ++ b, ap (λ (l : List ℕ). l ++ b) e ∙ append_assoc front behind b, s, d, join (after phase m.what) ms ns behind b mid rest p q)
+
+phase_join : (phase : DownPhase) (ms ns : List Given) → phase_behind phase (ms ++ ns) ≡ phase_behind (phase_behind phase ms) ns
+phase_join phase [] ns = refl
+phase_join phase (m ∷ ms) ns = phase_join (after phase m.what) ms ns
 
 -- ---- no message is empty
 
@@ -141,11 +145,12 @@ stuck old f (call ∷ calls) end bad (premise, fed, more) =
 abbrev Streams : Held → List Outstanding → List Call → Held → Type 0
 Streams old entries calls end =
     InTurn old.phase (given calls) (kept old ++ used_bytes calls) (kept end) × (end.bad ≡ None → NoneWhole end.phase (last_entries entries calls) (kept end))
+    × (end.phase ≡ phase_behind old.phase (given calls))
 
 rows : (old : Held) (entries : List Outstanding) (calls : List Call) (end : Held) → Calls old calls end → old.bad ≡ None → NoneWhole old.phase entries (kept old)
     → Streams old entries calls end
 rows old entries [] end calls good none =
-    (append-nil (kept old) ∙ ap kept (sym calls), λ fine. subst (λ (h : Held). NoneWhole h.phase entries (kept h)) (sym calls) none)
+    (append-nil (kept old) ∙ ap kept (sym calls), λ fine. subst (λ (h : Held). NoneWhole h.phase entries (kept h)) (sym calls) none, ap (λ (h : Held). h.phase) calls)
 rows old entries (call ∷ calls) end (premise, fed, more) good none =
     by_bad (step old.phase call.entries (kept old) call.piece call.step.used call.step.what call.held (fed.fresh good (premise good)))
     (λ fine none_now. rows call.held call.entries calls end more fine none_now) call.held.bad refl
@@ -163,20 +168,27 @@ rows old entries (call ∷ calls) end (premise, fed, more) good none =
         (join old.phase first (given calls) (kept old ++ bit) (used_bytes calls) (kept call.held) (kept end) now.turn
         (subst (λ (p : DownPhase). InTurn p (given calls) (kept call.held ++ used_bytes calls) (kept end)) now.leads rest))
 
+    leads : Stepped old.phase call.entries (kept old ++ bit) first call.held → end.phase ≡ phase_behind call.held.phase (given calls)
+        → end.phase ≡ phase_behind old.phase (first ++ given calls)
+    leads now e = e ∙ (ap (λ (p : DownPhase). phase_behind p (given calls)) now.leads ∙ sym (phase_join old.phase first (given calls)))
+
     by_bad : Stepped old.phase call.entries (kept old ++ bit) first call.held
         → (call.held.bad ≡ None → NoneWhole call.held.phase call.entries (kept call.held) → Streams call.held call.entries calls end)
         → (b : Option Field) → call.held.bad ≡ b → Streams old entries (call ∷ calls) end
-    by_bad now go None fine = (together now (go fine (now.none fine)).0, (go fine (now.none fine)).1)
+    by_bad now go None fine = (together now (go fine (now.none fine)).0, (go fine (now.none fine)).1, leads now (go fine (now.none fine)).2)
     by_bad now go (Some f) refused =
         let over = stuck call.held f calls end refused more in
         let none_more : InTurn call.held.phase (given calls) (kept call.held ++ used_bytes calls) (kept end) =
         subst (λ (ms : List Given). InTurn call.held.phase ms (kept call.held ++ used_bytes calls) (kept end)) (sym over.1)
         (subst (λ (l : List ℕ). kept call.held ++ l ≡ kept end) (sym over.0) (append-nil (kept call.held) ∙ ap kept (sym over.2))) in
-        (together now none_more, λ fine. absurd (clash (sym refused ∙ (ap (λ (h : Held). h.bad) (sym over.2) ∙ fine))))
+        let phase_now : end.phase ≡ phase_behind call.held.phase (given calls) =
+        ap (λ (h : Held). h.phase) over.2 ∙ ap (λ (ms : List Given). phase_behind call.held.phase ms) (sym over.1) in
+        (together now none_more, λ fine. absurd (clash (sym refused ∙ (ap (λ (h : Held). h.bad) (sym over.2) ∙ fine))), leads now phase_now)
       where
         clash : Some f ≡ None → ⊥
         clash e = cc
 
 pub stream : (phase : DownPhase) (entries : List Outstanding) (calls : List Call) (end : Held) → Calls (begun phase) calls end
     → InTurn phase (given calls) (used_bytes calls) (kept end) × (end.bad ≡ None → NoneWhole end.phase (last_entries entries calls) (kept end))
+    × (end.phase ≡ phase_behind phase (given calls))
 stream phase entries calls end run = rows (begun phase) entries calls end run refl (no_message phase entries)

@@ -25,3 +25,4 @@ pub mod Listed
 pub mod UpStream
 pub mod DownStream
 pub mod Readings
+pub mod DownTurns

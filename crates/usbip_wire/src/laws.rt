@@ -1,19 +1,22 @@
 //! What holds of the spellings. Each function does nothing, and its contract is the law.
 
-ghost use Rattle.std.specs.Prelude.{◌≡◌, ◌↔◌, ℕ, ◌<◌, ◌≤◌, ◌^◌, true, None, is_some, List, [], ◌∷◌, length};
+ghost use Rattle.std.specs.Prelude.{◌≡◌, ◌↔◌, ℕ, ◌<◌, ◌≤◌, ◌^◌, true, None, is_some, List, [], ◌∷◌, ◌++◌, length};
 ghost use Rattle.tmc_base.specs.declared.field.Field.{Field};
+ghost use Rattle.usbip_wire.specs.declared.device.DeviceRecord.{DeviceRecord};
 ghost use Rattle.usbip_wire.specs.declared.dirs.Outstanding.{Outstanding};
+ghost use Rattle.usbip_wire.specs.declared.down.Down.{Down};
 ghost use Rattle.usbip_wire.specs.declared.fields.TheConstants.{COMMAND};
 ghost use Rattle.usbip_wire.specs.declared.op.TheConstants.{USBIP_VERSION, REQ_DEVLIST, REP_DEVLIST, REQ_IMPORT, REP_IMPORT};
 ghost use Rattle.usbip_wire.specs.declared.urb.TheConstants.{CMD_SUBMIT, CMD_UNLINK, RET_SUBMIT, RET_UNLINK, NOT_ISOCHRONOUS, ENDPOINT_MAX, URB_HEADER};
 ghost use Rattle.usbip_wire.specs.declared.up.UpPhase.TheVariants as up_phase;
 ghost use Rattle.usbip_wire.specs.declared.down.DownPhase.{DownPhase};
 ghost use Rattle.usbip_wire.specs.declared.down.DownPhase.TheVariants as down_phase;
-ghost use Rattle.usbip_wire.specs.DevList.{SpellsPart};
+ghost use Rattle.usbip_wire.specs.DevList.{SpellsPart, list_bytes, list_told};
 ghost use Rattle.usbip_wire.specs.Dirs.{find, submit_of, is_unlink};
 ghost use Rattle.usbip_wire.specs.Down.{SpellsAnswer, SpellsAnyAnswer};
 ghost use Rattle.usbip_wire.specs.DownFed as down_fed;
 ghost use Rattle.usbip_wire.specs.DownPieces as down_pieces;
+ghost use Rattle.usbip_wire.specs.DownTurns.{IsList, ReadsInTurn, awaited, whats_of};
 ghost use Rattle.usbip_wire.specs.Given.{IsBytes};
 ghost use Rattle.usbip_wire.specs.JudgedFields.{op_fields, part_fields, urb_fields, answer_fields};
 ghost use Rattle.usbip_wire.specs.Laws.{ArePrefixFree, AreDetermined, AreRead, AreReadAgain, RefusedAt, IsFirstRefused, CanGoOn, GoesOn, AreAlone};
@@ -64,6 +67,28 @@ pub fn answers_are_determined()
     ensures free { (entries : List Outstanding) → ArePrefixFree (SpellsAnswer entries) }
     ensures determined { (entries : List Outstanding) → AreDetermined (SpellsAnswer entries) }
     ensures again { (entries : List Outstanding) → AreReadAgain (SpellsAnswer entries) }
+{}
+
+/// The parts of an operation's answer one after another, each where what the one before it left is awaited: the bytes
+/// determine the parts and the rest, and parts that were written are read again, whatever follows them. So is a whole
+/// device list; behind it nothing more of it is awaited. What a reader gave of an operation's answer, in whatever
+/// pieces it came, is such a reading.
+pub fn device_lists_are_determined()
+    ensures determined { (devices interfaces : ℕ) (bytes : List ℕ) (whats others : List Down) (rest other : List ℕ)
+        → ReadsInTurn (down_phase.Ops devices interfaces) bytes whats rest → ReadsInTurn (down_phase.Ops devices interfaces) bytes others other
+        → (whats ≡ others) × (rest ≡ other) }
+    ensures again { (devices interfaces : ℕ) (whats : List Down) (front tail : List ℕ) (all : List Down) (rest : List ℕ)
+        → down_fed.SpellsParts (down_phase.Ops devices interfaces) whats front → ReadsInTurn (down_phase.Ops devices interfaces) (front ++ tail) all rest
+        → (others : List Down) × (all ≡ whats ++ others) × ReadsInTurn (awaited (down_phase.Ops devices interfaces) whats) tail others rest }
+    ensures list { (status : ℕ) (devices : List DeviceRecord) (interfaces : List (List ℕ)) (tail : List ℕ) (others : List Down) (rest : List ℕ)
+        → IsList status devices interfaces → ReadsInTurn (down_phase.Ops 0 0) tail others rest
+        → ReadsInTurn (down_phase.Ops 0 0) (list_bytes status devices interfaces ++ tail) (list_told status devices interfaces ++ others) rest }
+    ensures list_again { (status : ℕ) (devices : List DeviceRecord) (interfaces : List (List ℕ)) (tail : List ℕ) (all : List Down) (rest : List ℕ)
+        → IsList status devices interfaces → ReadsInTurn (down_phase.Ops 0 0) (list_bytes status devices interfaces ++ tail) all rest
+        → (others : List Down) × (all ≡ list_told status devices interfaces ++ others) × ReadsInTurn (down_phase.Ops 0 0) tail others rest }
+    ensures given { (devices interfaces : ℕ) (calls : List down_pieces.Call) (end : down_fed.Held)
+        → down_pieces.Calls (down_pieces.begun (down_phase.Ops devices interfaces)) calls end → end.bad ≡ None
+        → ReadsInTurn (down_phase.Ops devices interfaces) (down_pieces.used_bytes calls) (whats_of (down_pieces.given calls)) (down_fed.kept end) }
 {}
 
 /// Each list of bytes has a reading: it is requests in a row, or submits and unlinks to one device, and then a rest

@@ -33,9 +33,9 @@ pub use down_reader::DownReader;
 pub use import_reply::put_import_reply;
 pub use laws::{
     answers_are_determined, bad_fields_are_alone, bad_fields_are_refused, bad_is_the_first_refused,
-    client_pieces_are_one_stream, device_pieces_are_one_stream, good_bytes_go_on,
-    numbers_are_the_protocols, parts_are_determined, requests_are_determined, streams_are_read,
-    urbs_are_determined,
+    client_pieces_are_one_stream, device_lists_are_determined, device_pieces_are_one_stream,
+    good_bytes_go_on, numbers_are_the_protocols, parts_are_determined, requests_are_determined,
+    streams_are_read, urbs_are_determined,
 };
 pub use op_request::{OpRequest, put_op_request};
 pub use ret_submit::{RetSubmitHead, put_ret_submit};
