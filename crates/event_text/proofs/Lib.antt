@@ -14,3 +14,4 @@ pub mod Determined
 pub mod Refused
 pub mod Answered
 pub mod Plain
+pub mod Joined
