@@ -59,7 +59,7 @@ turn_on : (s : Standing) (ms ns : List Message) (middle last : Standing) → InT
 turn_on s [] ns middle last e row = subst (λ (z : Standing). InTurn z ns last) e row
 turn_on s (m ∷ ms) ns middle last (front, rest, e, spelled, row) behind = (front, rest, e, spelled, turn_on (taken s m rest) ms ns middle last row behind)
 
-turn_good : (s : Standing) (ms : List Message) (last : Standing) → InTurn s ms last → last.bad ≡ s.bad
+pub turn_good : (s : Standing) (ms : List Message) (last : Standing) → InTurn s ms last → last.bad ≡ s.bad
 turn_good s [] last e = ap (λ (z : Standing). z.bad) e
 turn_good s (m ∷ ms) last (front, rest, e, spelled, row) = turn_good (taken s m rest) ms last row
 

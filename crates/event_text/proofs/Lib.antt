@@ -15,3 +15,4 @@ pub mod Refused
 pub mod Answered
 pub mod Plain
 pub mod Joined
+pub mod Client

@@ -5,11 +5,13 @@ ghost use Rattle.std.specs.Fmt.{decimal};
 ghost use Rattle.hex.specs.Hex.{IsBytes};
 ghost use Rattle.event_text.specs.Words.{number_of, bytes_of, hex_word};
 ghost use Rattle.usbip_wire.specs.declared.urb.Dir.{Dir};
+ghost use Rattle.usbip_wire.specs.declared.urb.Dir.TheVariants.{Out};
 ghost use Rattle.event_text.specs.declared.line_fault.LineWhat.{LineWhat};
 ghost use Rattle.event_text.specs.declared.script.Line.{Line};
 ghost use Rattle.event_text.specs.declared.script.Line.TheVariants.{Bytes};
 ghost use Rattle.event_text.specs.declared.script.Phase.{Phase};
-ghost use Rattle.event_text.specs.Pieces.{merged};
+ghost use Rattle.event_text.specs.Message.{stream_of};
+ghost use Rattle.event_text.specs.Pieces.{merged, bytes_in, IsTextOf};
 ghost use Rattle.event_text.specs.Shown.{Standing, Prints, Shown, ShownOf, IsRefused};
 
 use usbip_wire::{
@@ -40,12 +42,15 @@ pub fn scripts_are_determined()
 }
 
 /// Pieces are one text: two pieces behind one another print what they print as one. So lines that differ only in
-/// how the bytes are cut into pieces have one text.
+/// how the bytes are cut into pieces have one text. A client's text is that of the bytes of all its pieces: a line of
+/// each message, and one of the rest.
 pub fn pieces_are_one_text()
     ensures joined { (old middle new : Standing) (piece more text other : List ℕ)
         → Prints old (Bytes piece) text middle → Prints middle (Bytes more) other new → Prints old (Bytes (piece ++ more)) (text ++ other) new }
     ensures cuts { (way : Dir) (phase : Phase) (lines others : List Line) (text other : List ℕ)
         → merged lines ≡ merged others → Shown way phase lines text → Shown way phase others other → text ≡ other }
+    ensures client { (phase : Phase) (lines : List Line) (text : List ℕ) → Shown Out phase lines text
+        → IsTextOf (stream_of Out phase) (bytes_in lines) text }
 {
     requests_are_determined();
     urbs_are_determined();

@@ -1,4 +1,5 @@
 use Rattle.event_text.specs.Message.{devid}
+use Rattle.event_text.proofs.Client.{client_text}
 use Rattle.event_text.proofs.Joined.{joined, cuts_one}
 use Rattle.event_text.proofs.Lawful.{Lawful}
 use Rattle.event_text.proofs.laws.pieces_are_one_text.Goals as goal
@@ -21,3 +22,6 @@ returns-clause-joined c = λ s m n p q t u first second. joined s m n p q t u fi
 
 pub returns-clause-cuts : goal.returns-clause-cuts
 returns-clause-cuts c = λ way phase lines others text other same a b. cuts_one (laws_of c) way phase lines others text other same a b
+
+pub returns-clause-client : goal.returns-clause-client
+returns-clause-client c = λ phase lines text shown. client_text (laws_of c) phase lines text shown
