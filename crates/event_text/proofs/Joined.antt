@@ -1,15 +1,12 @@
 -- pieces behind one another print what they print as one
-use Rattle.std.proofs.Common.{◌≡◌, ℕ, Bool, true, false, Option, Some, None, List, [], ◌∷◌, ◌++◌, refl, sym, ap, subst, ◌∙◌, append-nil, append_assoc}
-use Rattle.std.specs.Bool.{MatchBool}
-use Rattle.std.specs.Int.{to_be_bytes}
+use Rattle.std.proofs.Common.{◌≡◌, ℕ, Option, Some, None, List, [], ◌∷◌, ◌++◌, refl, sym, ap, subst, ◌∙◌, append-nil, append_assoc}
 use Rattle.std.specs.List.{flat_map}
 use Rattle.tmc_base.specs.declared.field.Field.{Field}
 use Rattle.usbip_wire.specs.declared.dirs.Outstanding.{Outstanding}
 use Rattle.usbip_wire.specs.declared.urb.Dir.{Dir}
 use Rattle.usbip_wire.specs.DownForm.{answer_form, ops_form}
-use Rattle.usbip_wire.specs.Form as form
-use Rattle.usbip_wire.specs.Form.{Form, Number, Judged, Block, Done, width}
 use Rattle.usbip_wire.specs.UpForm.{request_form, urb_form}
+use Rattle.usbip_wire.proofs.Forms as forms
 use Rattle.event_text.specs.declared.script.Line.{Line}
 use Rattle.event_text.specs.declared.script.Line.TheVariants.{Adds, Bytes}
 use Rattle.event_text.specs.declared.script.Phase.{Phase}
@@ -23,29 +20,11 @@ use Rattle.event_text.proofs.Lawful.{Lawful}
 
 -- ---- a bad field stays bad when more follows
 
-more_choice : (b : Bool) (P Q R : Type 0) → (P → Q) → MatchBool b P R → MatchBool b Q R
-more_choice true P Q R h x = h x
-more_choice false P Q R h x = x
-
-form_bad : {M : Type 0} (f : Form M) (bytes more : List ℕ) (field : Field) → form.BadAt f bytes field → form.BadAt f (bytes ++ more) field
-form_bad {M} (Number size next) bytes more field (n, after, below, parts, bad) =
-    (n, after ++ more, below, ap (λ (t : List ℕ). t ++ more) parts ∙ append_assoc (to_be_bytes (width size) n) after more, form_bad (next n) after more field bad)
-form_bad {M} (Judged size judged accepts next) bytes more field (n, after, below, parts, bad) = (
-  n,
-  after ++ more,
-  below,
-  ap (λ (t : List ℕ). t ++ more) parts ∙ append_assoc (to_be_bytes (width size) n) after more,
-  more_choice (accepts n) (form.BadAt (next n) after field) (form.BadAt (next n) (after ++ more) field) (field ≡ judged) (form_bad (next n) after more field) bad,
-)
-form_bad {M} (Block count next) bytes more field (block, after, long, parts, bad) =
-    (block, after ++ more, long, ap (λ (t : List ℕ). t ++ more) parts ∙ append_assoc block after more, form_bad (next block) after more field bad)
-form_bad {M} (Done message) bytes more field bad = absurd bad
-
 pub more_bad : (reading : Stream) (entries : List Outstanding) (rest more : List ℕ) (f : Field) → BadAt reading entries rest f → BadAt reading entries (rest ++ more) f
-more_bad Requests entries rest more f bad = form_bad request_form rest more f bad
-more_bad Urbs entries rest more f bad = form_bad (urb_form devid) rest more f bad
-more_bad (Parts devices interfaces) entries rest more f bad = form_bad (ops_form devices interfaces) rest more f bad
-more_bad Answers entries rest more f bad = form_bad (answer_form entries) rest more f bad
+more_bad Requests entries rest more f bad = forms.more_bad request_form rest more f bad
+more_bad Urbs entries rest more f bad = forms.more_bad (urb_form devid) rest more f bad
+more_bad (Parts devices interfaces) entries rest more f bad = forms.more_bad (ops_form devices interfaces) rest more f bad
+more_bad Answers entries rest more f bad = forms.more_bad (answer_form entries) rest more f bad
 
 -- ---- messages in turn
 
@@ -139,7 +118,7 @@ onto_prints s p (Bytes q ∷ lines) front back middle last first (next, others, 
   more,
 )
 
-merged_prints : (s : Standing) (lines : List Line) (text : List ℕ) (last : Standing) → PrintAll s lines text last → PrintAll s (merged lines) text last
+pub merged_prints : (s : Standing) (lines : List Line) (text : List ℕ) (last : Standing) → PrintAll s lines text last → PrintAll s (merged lines) text last
 merged_prints s [] text last prints = prints
 merged_prints s (Adds entry ∷ lines) text last (front, back, middle, e, first, more) = (front, back, middle, e, first, merged_prints middle lines back last more)
 merged_prints s (Bytes p ∷ lines) text last (front, back, middle, e, first, more) =

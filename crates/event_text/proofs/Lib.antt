@@ -16,3 +16,4 @@ pub mod Answered
 pub mod Plain
 pub mod Joined
 pub mod Client
+pub mod Parted

@@ -41,13 +41,15 @@ pub fn scripts_are_determined()
     bad_fields_are_alone();
 }
 
-/// Pieces are one text: two pieces behind one another print what they print as one. So lines that differ only in
-/// how the bytes are cut into pieces have one text. A client's text is that of the bytes of all its pieces: a line of
-/// each message, and one of the rest.
+/// Pieces are one text: two pieces behind one another print what they print as one. So of lines that differ only in
+/// how the bytes are cut into pieces the same text is shown, and no other. A client's text is that of the bytes of all
+/// its pieces: a line of each message, and one of the rest.
 pub fn pieces_are_one_text()
     ensures joined { (old middle new : Standing) (piece more text other : List ℕ)
         → Prints old (Bytes piece) text middle → Prints middle (Bytes more) other new → Prints old (Bytes (piece ++ more)) (text ++ other) new }
-    ensures cuts { (way : Dir) (phase : Phase) (lines others : List Line) (text other : List ℕ)
+    ensures cuts { (way : Dir) (phase : Phase) (lines others : List Line) (text : List ℕ)
+        → merged lines ≡ merged others → Shown way phase lines text → Shown way phase others text }
+    ensures one { (way : Dir) (phase : Phase) (lines others : List Line) (text other : List ℕ)
         → merged lines ≡ merged others → Shown way phase lines text → Shown way phase others other → text ≡ other }
     ensures client { (phase : Phase) (lines : List Line) (text : List ℕ) → Shown Out phase lines text
         → IsTextOf (stream_of Out phase) (bytes_in lines) text }
