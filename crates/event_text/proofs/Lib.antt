@@ -14,3 +14,6 @@ pub mod Determined
 pub mod Refused
 pub mod Answered
 pub mod Plain
+pub mod Joined
+pub mod Client
+pub mod Parted

@@ -4,3 +4,4 @@ pub mod Message
 pub mod Printed
 pub mod Shown
 pub mod Read
+pub mod Pieces

@@ -1,12 +1,18 @@
 //! What holds of scripts. No function does anything, and its contract is the law.
 
-ghost use Rattle.std.specs.Prelude.{◌≡◌, ◌↔◌, ◌<◌, ◌^◌, ℕ, List, Some};
+ghost use Rattle.std.specs.Prelude.{◌≡◌, ◌↔◌, ◌<◌, ◌^◌, ◌++◌, ℕ, List, Some};
 ghost use Rattle.std.specs.Fmt.{decimal};
 ghost use Rattle.hex.specs.Hex.{IsBytes};
 ghost use Rattle.event_text.specs.Words.{number_of, bytes_of, hex_word};
 ghost use Rattle.usbip_wire.specs.declared.urb.Dir.{Dir};
+ghost use Rattle.usbip_wire.specs.declared.urb.Dir.TheVariants.{Out};
 ghost use Rattle.event_text.specs.declared.line_fault.LineWhat.{LineWhat};
-ghost use Rattle.event_text.specs.Shown.{ShownOf, IsRefused};
+ghost use Rattle.event_text.specs.declared.script.Line.{Line};
+ghost use Rattle.event_text.specs.declared.script.Line.TheVariants.{Bytes};
+ghost use Rattle.event_text.specs.declared.script.Phase.{Phase};
+ghost use Rattle.event_text.specs.Message.{stream_of};
+ghost use Rattle.event_text.specs.Pieces.{merged, bytes_in, IsTextOf};
+ghost use Rattle.event_text.specs.Shown.{Standing, Prints, Shown, ShownOf, IsRefused};
 
 use usbip_wire::{
     answers_are_determined, bad_fields_are_alone, parts_are_determined, requests_are_determined,
@@ -20,13 +26,33 @@ pub fn words_spell_their_values()
     ensures hex { (word bytes : List ℕ) → IsBytes bytes → (bytes_of word ≡ Some bytes) ↔ (word ≡ hex_word bytes) }
 {}
 
-/// A script is shown or refused and not both, with one text, or at one line for one fault.
+/// No source is both shown and refused. It has at most one text, and at most one line that is refused, for one fault.
 pub fn scripts_are_determined()
     ensures text { (way : Dir) (source text other : List ℕ) → ShownOf way source text → ShownOf way source other → text ≡ other }
     ensures line { (way : Dir) (source : List ℕ) (number second : ℕ) (what other : LineWhat)
         → IsRefused way source number what → IsRefused way source second other → (number ≡ second) × (what ≡ other) }
     ensures either { (way : Dir) (source text : List ℕ) (number : ℕ) (what : LineWhat)
         → ShownOf way source text → IsRefused way source number what → ⊥ }
+{
+    requests_are_determined();
+    urbs_are_determined();
+    parts_are_determined();
+    answers_are_determined();
+    bad_fields_are_alone();
+}
+
+/// Pieces are one text: two pieces behind one another print what they print as one. So of lines that differ only in
+/// how the bytes are cut into pieces the same text is shown, and no other. A client's text is that of the bytes of all
+/// its pieces: a line of each message, and one of the rest.
+pub fn pieces_are_one_text()
+    ensures joined { (old middle new : Standing) (piece more text other : List ℕ)
+        → Prints old (Bytes piece) text middle → Prints middle (Bytes more) other new → Prints old (Bytes (piece ++ more)) (text ++ other) new }
+    ensures cuts { (way : Dir) (phase : Phase) (lines others : List Line) (text : List ℕ)
+        → merged lines ≡ merged others → Shown way phase lines text → Shown way phase others text }
+    ensures one { (way : Dir) (phase : Phase) (lines others : List Line) (text other : List ℕ)
+        → merged lines ≡ merged others → Shown way phase lines text → Shown way phase others other → text ≡ other }
+    ensures client { (phase : Phase) (lines : List Line) (text : List ℕ) → Shown Out phase lines text
+        → IsTextOf (stream_of Out phase) (bytes_in lines) text }
 {
     requests_are_determined();
     urbs_are_determined();

@@ -14,6 +14,6 @@ mod shown;
 mod tests;
 mod words;
 
-pub use laws::{scripts_are_determined, words_spell_their_values};
+pub use laws::{pieces_are_one_text, scripts_are_determined, words_spell_their_values};
 pub use line_fault::{LineFault, LineWhat};
 pub use shown::put_shown;

@@ -1,5 +1,3 @@
-//! The expected texts come from an independent model of the formats.
-
 use crate::{LineFault, LineWhat, put_shown};
 use std::alloc::Global;
 use std::process::Abort;
@@ -370,7 +368,7 @@ fn counts_the_bytes_of_an_unfinished_message(rt: HostRuntime) -> Result<(), Fail
     Ok(())
 }
 
-/// A line of so many bytes, which has too many words.
+/// A script whose second line is so many spaces. Its first word is empty, which is no known one.
 fn long_line(alloc: Global, count: usize) -> Result<Vec<u8>, Fail> {
     let mut line = Vec::from_slice(alloc, b"phase op\n")?;
     for _ in 0..count {
