@@ -14,7 +14,7 @@ use Rattle.tmc_law.specs.Status.{status_layout}
 use Rattle.tmc_law.specs.Aborts.{STATUS_SUCCESS}
 use Rattle.tmc_law.proofs.AnswerBytes.{success_is, stalled_is, unlinked_is, sent_back_fits}
 use Rattle.tmc_law.proofs.Outstanding.{NoneHas, find_new, find_others}
-use Rattle.tmc_law.proofs.Owing.{asked_by, IsOwed, AreOwed, avoids_at, owed_more, owed_others, owed_apart, owed_with, owed_without}
+use Rattle.tmc_law.proofs.Owing.{asked_by, IsOwed, AreOwed, avoids_at, avoids_rest, owed_more, owed_others, owed_apart, owed_with, owed_without}
 use Rattle.tmc_law.proofs.Answering.{Settles, submit_accepted, one_settles, unlink_settles}
 use Rattle.tmc_law.proofs.AnswerPlaces.{in_front, in_back, owed_here, owed_out, settles_out, placed_now, amid, around, AreWhole, whole_more, whole_without, TiesAt, LastsAt, lasts, lasts_at, none_lasts}
 
@@ -103,27 +103,35 @@ settles_around entries puts endpoint s before behind settles =
     settles_out entries puts endpoint (before ++ behind) s
     (subst (λ (l : List Pending). Settles entries puts l) (around (in_front endpoint s) before behind (in_back endpoint s)) settles)
 
+-- the submit that was to be unlinked is none of the others
+target_gone : (head : UnlinkHead) (entries : List Outstanding) (front : List Pending) (submit : Pending) (back : List Pending)
+    → submit.head.seqnum ≡ head.target → AreOwed entries (front ++ submit ∷ back) → Avoids head.target (front ++ back)
+target_gone head entries front submit back number owed =
+    subst (λ (n : ℕ). Avoids n (front ++ back)) number (avoids_rest entries front submit back owed)
+
 hit_lasts : (entries : List Outstanding) (endpoint : Endpoint) (s : State) (head : UnlinkHead) (before : List Pending) (submit : Pending) (behind : List Pending)
-    → Holds s endpoint before submit behind → head.seqnum < 2 ^ 32 → NoneHas head.seqnum entries → TiesAt entries s
+    → Holds s endpoint before submit behind → submit.head.seqnum ≡ head.target → head.seqnum < 2 ^ 32 → NoneHas head.seqnum entries → TiesAt entries s
     → LastsAt (entries ++ outstanding.Unlink head.seqnum ∷ []) (unlink_answer head unlinked ∷ []) (with_queue endpoint (before ++ behind) s)
-hit_lasts entries endpoint s head before submit behind holds wide none ties =
+hit_lasts entries endpoint s head before submit behind holds number wide none ties =
     let front = in_front endpoint s ++ before in
     let back = behind ++ in_back endpoint s in
     let all : List Outstanding = entries ++ outstanding.Unlink head.seqnum ∷ [] in
-    let left : AreOwed entries (front ++ back) = owed_without entries front submit back (owed_amid entries endpoint s before submit behind holds ties.owed) in
+    let owed : AreOwed entries (front ++ submit ∷ back) = owed_amid entries endpoint s before submit behind holds ties.owed in
+    let left : AreOwed entries (front ++ back) = owed_without entries front submit back owed in
     lasts all (unlink_answer head unlinked ∷ []) _ _
     (settles_around all (unlink_answer head unlinked ∷ []) endpoint s before behind
     (unlink_settles all head unlinked (front ++ back) unlinked_is wide
     (find_new head.seqnum entries (outstanding.Unlink head.seqnum) refl none)
     (owed_apart head.seqnum entries (front ++ back) none left)
+    (target_gone head entries front submit back number owed)
     (owed_more entries (outstanding.Unlink head.seqnum ∷ []) (front ++ back) left)))
     (whole_taken endpoint s before submit behind holds ties.whole)
 
 -- the answer to the submit comes first, and then the one to the unlink
 polled_settles : (entries : List Outstanding) (head : UnlinkHead) (front : List Pending) (submit : Pending) (back : List Pending) (moved : List ℕ)
-    → head.seqnum < 2 ^ 32 → NoneHas head.seqnum entries → length moved ≤ submit.head.length → AreOwed entries (front ++ submit ∷ back)
+    → submit.head.seqnum ≡ head.target → head.seqnum < 2 ^ 32 → NoneHas head.seqnum entries → length moved ≤ submit.head.length → AreOwed entries (front ++ submit ∷ back)
     → Settles (entries ++ outstanding.Unlink head.seqnum ∷ []) (answer_of submit.head success moved ∷ unlink_answer head success ∷ []) (front ++ back)
-polled_settles entries head front submit back moved wide none fits owed =
+polled_settles entries head front submit back moved number wide none fits owed =
     let unlink : Outstanding = outstanding.Unlink head.seqnum in
     let all : List Outstanding = entries ++ unlink ∷ [] in
     let first : Settles all (answer_of submit.head success moved ∷ []) (front ++ back) =
@@ -134,21 +142,22 @@ polled_settles entries head front submit back moved wide none fits owed =
     find_others head.seqnum submit.head.seqnum all (λ e. apart (sym e)) ∙ find_new head.seqnum entries unlink refl none in
     let then : Settles (others submit.head.seqnum all) (unlink_answer head success ∷ []) (front ++ back) =
     unlink_settles (others submit.head.seqnum all) head success (front ++ back) success_is wide found
-    (owed_apart head.seqnum entries (front ++ back) none (owed_without entries front submit back owed)) first.owed in
+    (owed_apart head.seqnum entries (front ++ back) none (owed_without entries front submit back owed))
+    (target_gone head entries front submit back number owed) first.owed in
     record { accepted = (first.accepted.0, then.accepted); owed = then.owed }
 
 pub unlinks_last : (entries : List Outstanding) (s : State) (head : UnlinkHead) (puts : List Put) (t : State)
     → head.seqnum < 2 ^ 32 → NoneHas head.seqnum entries → TiesAt entries s → Unlinks s head puts t
     → LastsAt (entries ++ outstanding.Unlink head.seqnum ∷ []) puts t
 unlinks_last entries s head puts t wide none ties (Hits endpoint before submit behind holds number polled a i) =
-    lasts_at _ puts _ t _ a i (hit_lasts entries endpoint s head before submit behind holds wide none ties)
+    lasts_at _ puts _ t _ a i (hit_lasts entries endpoint s head before submit behind holds number wide none ties)
 unlinks_last entries s head puts t wide none ties (Polled endpoint before submit behind setup tag holds number polled asks row a i) =
     let front = in_front endpoint s ++ before in
     let back = behind ++ in_back endpoint s in
     lasts_at _ puts _ t _ a i
     (lasts _ _ _ _
     (settles_around _ _ endpoint s before behind
-    (polled_settles entries head front submit back _ wide none
+    (polled_settles entries head front submit back _ number wide none
     (sent_back_fits submit.head.dir submit.head.length setup.length (status_layout STATUS_SUCCESS tag))
     (owed_amid entries endpoint s before submit behind holds ties.owed)))
     (whole_taken endpoint s before submit behind holds ties.whole))
@@ -158,5 +167,5 @@ unlinks_last entries s head puts t wide none ties (Misses avoids a i) =
     lasts_at all puts (unlink_answer head success ∷ []) t s a i
     (lasts all (unlink_answer head success ∷ []) (pending s) s.bulk_out
     (unlink_settles all head success (pending s) success_is wide (find_new head.seqnum entries unlink refl none)
-    (owed_apart head.seqnum entries (pending s) none ties.owed) (owed_more entries (unlink ∷ []) (pending s) ties.owed))
+    (owed_apart head.seqnum entries (pending s) none ties.owed) avoids (owed_more entries (unlink ∷ []) (pending s) ties.owed))
     ties.whole)

@@ -67,8 +67,8 @@ one_settles entries front submit back status moved is fits owed = record {
 
 pub unlink_settles : (entries : List Outstanding) (head : UnlinkHead) (status : ℤ) (submits : List Pending) → IsStatus status
     → head.seqnum < 2 ^ 32 → find head.seqnum entries ≡ Some (outstanding.Unlink head.seqnum) → Avoids head.seqnum submits
-    → AreOwed entries submits → Settles entries (unlink_answer head status ∷ []) submits
-unlink_settles entries head status submits is wide found avoids owed = record {
+    → Avoids head.target submits → AreOwed entries submits → Settles entries (unlink_answer head status ∷ []) submits
+unlink_settles entries head status submits is wide found avoids gone owed = record {
   accepted = (
     (
       ret_unlink_bytes (record { seqnum = head.seqnum; status = status }) unused_unlink,
@@ -76,7 +76,7 @@ unlink_settles entries head status submits is wide found avoids owed = record {
     ),
     tt,
   );
-  owed = owed_others head.seqnum entries submits avoids owed;
+  owed = owed_others head.target _ submits gone (owed_others head.seqnum entries submits avoids owed);
 }
 
 -- ---- the answers to a queue

@@ -5,8 +5,8 @@ use Rattle.std.proofs.lemmas.Bool.{ne_eqb, cases_eq}
 use Rattle.usbip_wire.specs.declared.dirs.Outstanding.{Outstanding}
 use Rattle.usbip_wire.specs.Dirs.{find, others, number_of}
 use Rattle.usbip_wire.specs.Up as up
-use Rattle.tmc_law.specs.Put.{Put}
-use Rattle.tmc_law.specs.Laws.{number_of as number_of_message, answered_number, entry_of, with_messages, without_answered, Unused, AreNumbered}
+use Rattle.tmc_law.specs.Put.{Put, Submitted, Unlinked}
+use Rattle.tmc_law.specs.Laws.{number_of as number_of_message, left_by, entry_of, with_messages, without_answered, Unused, AreNumbered}
 
 -- no entry has this number
 abbrev pub NoneHas : ℕ → List Outstanding → Type 0
@@ -92,8 +92,14 @@ fresh_others n [] messages fresh = tt
 fresh_others n (entry ∷ entries) messages fresh =
     fresh_step (number_of entry == n) entry (others n entries) messages fresh.0 (fresh_others n entries messages fresh.1)
 
+fresh_left : (put : Put) (entries : List Outstanding) (messages : List up.Message) → AreFresh entries messages
+    → AreFresh (left_by entries put) messages
+fresh_left (Submitted asked answer transferred) entries messages fresh = fresh_others answer.seqnum entries messages fresh
+fresh_left (Unlinked asked answer) entries messages fresh =
+    fresh_others asked.target (others answer.seqnum entries) messages (fresh_others answer.seqnum entries messages fresh)
+
 pub fresh_answered : (puts : List Put) (entries : List Outstanding) (messages : List up.Message) → AreFresh entries messages
     → AreFresh (without_answered entries puts) messages
 fresh_answered [] entries messages fresh = fresh
 fresh_answered (put ∷ puts) entries messages fresh =
-    fresh_answered puts (others (answered_number put) entries) messages (fresh_others (answered_number put) entries messages fresh)
+    fresh_answered puts (left_by entries put) messages (fresh_left put entries messages fresh)

@@ -16,10 +16,6 @@ abbrev pub number_of : up.Message → ℕ
 number_of (up.Submit head transferred) = head.seqnum
 number_of (up.Unlink head) = head.seqnum
 
-abbrev pub answered_number : Put → ℕ
-answered_number (Submitted asked answer transferred) = answer.seqnum
-answered_number (Unlinked asked answer) = answer.seqnum
-
 -- no submit with this number arrives
 abbrev pub NoneArrives : ℕ → List up.Message → Type 0
 NoneArrives seqnum [] = Unit {0}
@@ -86,16 +82,22 @@ abbrev pub with_messages : List Outstanding → List up.Message → List Outstan
 with_messages entries [] = entries
 with_messages entries (message ∷ messages) = with_messages (entries ++ entry_of message ∷ []) messages
 
+-- what an answer leaves outstanding: not what it answers, and behind the answer to an unlink not the submit that was to
+-- be unlinked
+abbrev pub left_by : List Outstanding → Put → List Outstanding
+left_by entries (Submitted asked answer transferred) = others answer.seqnum entries
+left_by entries (Unlinked asked answer) = others asked.target (others answer.seqnum entries)
+
 -- what is outstanding behind answers
 abbrev pub without_answered : List Outstanding → List Put → List Outstanding
 without_answered entries [] = entries
-without_answered entries (put ∷ puts) = without_answered (others (answered_number put) entries) puts
+without_answered entries (put ∷ puts) = without_answered (left_by entries put) puts
 
 -- the answers have spellings that a reader accepts, each by what is outstanding when it comes
 abbrev pub AreAccepted : List Outstanding → List Put → Type 0
 AreAccepted entries [] = Unit {0}
 AreAccepted entries (put ∷ puts) =
-    ((bytes : List ℕ) × down.SpellsAnswer entries (message_of put) bytes) × AreAccepted (others (answered_number put) entries) puts
+    ((bytes : List ℕ) × down.SpellsAnswer entries (message_of put) bytes) × AreAccepted (left_by entries put) puts
 
 -- the same of a run's answers, where what it took in is outstanding until it is answered
 abbrev pub IsAccepted : List Outstanding → List Entry → Type 0

@@ -85,8 +85,9 @@ pub fn answers_keep_order()
         → AreInOrder (answers_to (queue_of endpoint s) (outputs more)) (queue_of endpoint s) }
 {}
 
-/// What a run puts out has spellings that a reader of answers accepts, where what the run took in is outstanding until
-/// it is answered, and no two of its messages have one number.
+/// What a run puts out has spellings that a reader of answers accepts, where no two of the run's messages have one
+/// number. What is outstanding are the submits and unlinks that it took in before, less those that were answered, and
+/// less the submits whose unlink was answered.
 pub fn answers_are_accepted()
     ensures { (run : List Entry) (t : State) → Runs start run t → AreNumbered (inputs run) → IsAccepted [] run }
 {}
