@@ -1,5 +1,5 @@
 -- the answers of steps and runs are accepted
-use Rattle.std.proofs.Common.{◌≡◌, ℕ, ◌≤◌, List, [], ◌∷◌, ◌++◌, length, refl, ap, arith}
+use Rattle.std.proofs.Common.{◌≡◌, ℕ, ◌≤◌, List, [], ◌∷◌, length, refl, ap, arith}
 use Rattle.usbip_wire.specs.declared.urb.Dir.{Dir}
 use Rattle.usbip_wire.specs.declared.urb.Dir.TheVariants.{Out, In}
 use Rattle.usbip_wire.specs.declared.dirs.Outstanding.{Outstanding}
@@ -8,9 +8,9 @@ use Rattle.usbip_wire.specs.Up as up
 use Rattle.tmc_law.specs.State.{State, start, pending}
 use Rattle.tmc_law.specs.Put.{Put}
 use Rattle.tmc_law.specs.Step.{Move, Comes, Refuses, Take, Exec, Begin, Fill, Answer, Pend, Poll, Notify, Halt, Unplug, Leads}
-use Rattle.tmc_law.specs.Run.{Entry, Runs, taken, inputs}
-use Rattle.tmc_law.specs.Laws.{with_messages, without_answered, AreNumbered, IsAccepted}
-use Rattle.tmc_law.proofs.Outstanding.{AreFresh, next_new, IsLater, later_taken, fresh_answered}
+use Rattle.tmc_law.specs.Run.{Entry, Runs, taken}
+use Rattle.tmc_law.specs.Laws.{with_messages, IsAccepted, IsNew, AreNew}
+use Rattle.tmc_law.proofs.Outstanding.{none_has}
 use Rattle.tmc_law.proofs.AnswerPlaces.{TiesAt, LastsAt, lasts_at, none_lasts, ties_at}
 use Rattle.tmc_law.proofs.AnswerArrivals.{arrives_last, unlinks_last}
 use Rattle.tmc_law.proofs.AnswerBulk.{same_ties, takes_last, executes_same, begins_same, fills_last, notifies_last, halts_itself_last, unplugs_last}
@@ -23,45 +23,40 @@ carried_fits In size transferred carried = omega (arith, ap (λ (l : List ℕ). 
 quietly : (entries : List Outstanding) (puts : List Put) (s t : State) → puts ≡ [] → TiesAt entries t → LastsAt entries puts t
 quietly entries puts s t none ties = lasts_at entries puts [] t t none refl (none_lasts entries (pending t) t.bulk_out ties)
 
-leads_last : (move : Move) (entries : List Outstanding) (messages : List up.Message) (s : State) (puts : List Put) (t : State)
-    → AreFresh entries (taken move ++ messages) → TiesAt entries s → Leads s move puts t → LastsAt (with_messages entries (taken move)) puts t
-leads_last (Comes (up.Submit head transferred)) entries messages s puts t fresh ties (spelled, avoids, few, arrives) =
+leads_last : (move : Move) (entries : List Outstanding) (s : State) (puts : List Put) (t : State)
+    → IsNew entries move → TiesAt entries s → Leads s move puts t → LastsAt (with_messages entries (taken move)) puts t
+leads_last (Comes (up.Submit head transferred)) entries s puts t new ties (spelled, avoids, few, arrives) =
     arrives_last entries s head transferred puts t (record {
       wide = spelled.1.wide 1;
       sized = spelled.1.wide 6;
       carried = carried_fits head.dir head.length transferred spelled.1.carried;
-      unknown = next_new entries (up.Submit head transferred) messages fresh;
+      unknown = ties.owed.covered head.seqnum avoids;
       avoids = avoids;
     }) ties arrives
-leads_last (Comes (up.Unlink head)) entries messages s puts t fresh ties (spelled, unlinks) =
-    unlinks_last entries s head puts t (spelled.1.wide 1) (next_new entries (up.Unlink head) messages fresh) ties unlinks
-leads_last (Refuses bytes f) entries messages s puts t fresh ties (refused, none, i) =
+leads_last (Comes (up.Unlink head)) entries s puts t new ties (spelled, unlinks) =
+    unlinks_last entries s head puts t (spelled.1.wide 1) (none_has head.seqnum entries new) ties unlinks
+leads_last (Refuses bytes f) entries s puts t new ties (refused, none, i) =
     quietly entries puts s t none (ties_at entries t _ i ties)
-leads_last (Take count) entries messages s puts t fresh ties (idle, takes) = takes_last entries s count puts t ties takes
-leads_last Exec entries messages s puts t fresh ties (executes, none) =
+leads_last (Take count) entries s puts t new ties (idle, takes) = takes_last entries s count puts t ties takes
+leads_last Exec entries s puts t new ties (executes, none) =
     quietly entries puts s t none (same_ties entries s t (executes_same s t executes) ties)
-leads_last (Begin count) entries messages s puts t fresh ties (begins, none) =
+leads_last (Begin count) entries s puts t new ties (begins, none) =
     quietly entries puts s t none (same_ties entries s t (begins_same s count t begins) ties)
-leads_last (Fill count) entries messages s puts t fresh ties fills = fills_last entries s count puts t ties fills
-leads_last Answer entries messages s puts t fresh ties answers = answers_last entries s puts t ties answers
-leads_last Pend entries messages s puts t fresh ties postpones = postpones_last entries s puts t ties postpones
-leads_last Poll entries messages s puts t fresh ties (polls, none) = quietly entries puts s t none (polls_first_ties entries s t ties polls)
-leads_last Notify entries messages s puts t fresh ties notifies = notifies_last entries s puts t ties notifies
-leads_last (Halt endpoint) entries messages s puts t fresh ties halts = halts_itself_last entries s endpoint puts t ties halts
-leads_last Unplug entries messages s puts t fresh ties unplugs = unplugs_last entries s puts t ties unplugs
+leads_last (Fill count) entries s puts t new ties fills = fills_last entries s count puts t ties fills
+leads_last Answer entries s puts t new ties answers = answers_last entries s puts t ties answers
+leads_last Pend entries s puts t new ties postpones = postpones_last entries s puts t ties postpones
+leads_last Poll entries s puts t new ties (polls, none) = quietly entries puts s t none (polls_first_ties entries s t ties polls)
+leads_last Notify entries s puts t new ties notifies = notifies_last entries s puts t ties notifies
+leads_last (Halt endpoint) entries s puts t new ties halts = halts_itself_last entries s endpoint puts t ties halts
+leads_last Unplug entries s puts t new ties unplugs = unplugs_last entries s puts t ties unplugs
 
-runs_accepted : (run : List Entry) (entries : List Outstanding) (s t : State) → TiesAt entries s → IsLater entries (inputs run) → Runs s run t
+runs_accepted : (run : List Entry) (entries : List Outstanding) (s t : State) → TiesAt entries s → AreNew entries run → Runs s run t
     → IsAccepted entries run
-runs_accepted [] entries s t ties later runs = tt
-runs_accepted (entry ∷ run) entries s t ties later (mid, steps, runs) =
-    let last = leads_last entry.move entries (inputs run) s entry.puts mid later.fresh ties steps.leads in
-    let then = later_taken (taken entry.move) (inputs run) entries later in
-    let all : List Outstanding = with_messages entries (taken entry.move) in (
-      last.accepted,
-      runs_accepted run (without_answered all entry.puts) mid t last.ties
-          (record { fresh = fresh_answered entry.puts all (inputs run) then.fresh; numbered = then.numbered }) runs,
-    )
+runs_accepted [] entries s t ties new runs = tt
+runs_accepted (entry ∷ run) entries s t ties new (mid, steps, runs) =
+    let last = leads_last entry.move entries s entry.puts mid new.0 ties steps.leads in
+    (last.accepted, runs_accepted run _ mid t last.ties new.1 runs)
 
-pub accepted : (run : List Entry) (t : State) → Runs start run t → AreNumbered (inputs run) → IsAccepted [] run
-accepted run t runs numbered =
-    runs_accepted run [] start t (record { owed = tt; whole = tt }) (record { fresh = tt; numbered = numbered }) runs
+pub accepted : (run : List Entry) (t : State) → Runs start run t → AreNew [] run → IsAccepted [] run
+accepted run t runs new =
+    runs_accepted run [] start t (record { owed = record { listed = tt; covered = λ n avoids. tt }; whole = tt }) new runs

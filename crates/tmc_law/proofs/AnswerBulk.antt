@@ -13,7 +13,7 @@ use Rattle.tmc_law.specs.BulkOut.{Moves, DoesMove, Interrupts, Dropped, NothingU
 use Rattle.tmc_law.specs.BulkIn as bulk_in
 use Rattle.tmc_law.specs.Status.{packet_bytes, notified, Notifies, Gives, NoRoom}
 use Rattle.tmc_law.proofs.AnswerBytes.{success_is, unplugged_is}
-use Rattle.tmc_law.proofs.Owing.{AreOwed}
+use Rattle.tmc_law.proofs.Owed.{AreOwed}
 use Rattle.tmc_law.proofs.Answering.{Settles, settles_append, queue_settles}
 use Rattle.tmc_law.proofs.AnswerPlaces.{AreWhole, TiesAt, LastsAt, lasts, lasts_at, none_lasts, is_owed_first, first_lasts, owed_changed, halts_last}
 

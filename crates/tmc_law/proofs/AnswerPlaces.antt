@@ -9,7 +9,8 @@ use Rattle.tmc_law.specs.Put.{Put, answer_of, stalled}
 use Rattle.tmc_law.specs.Halts.{halts, halt_answers}
 use Rattle.tmc_law.specs.Laws.{AreAccepted, without_answered}
 use Rattle.tmc_law.proofs.AnswerBytes.{IsStatus, stalled_is}
-use Rattle.tmc_law.proofs.Owing.{IsOwed, AreOwed, owed_at, owed_replaced}
+use Rattle.tmc_law.proofs.Owing.{IsOwed}
+use Rattle.tmc_law.proofs.Owed.{AreOwed, owed_at, owed_replaced}
 use Rattle.tmc_law.proofs.Answering.{Settles, one_settles, queue_settles, settles_append}
 
 -- the pending submits of the endpoints before this one, and of those behind it

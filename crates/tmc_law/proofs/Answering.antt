@@ -4,7 +4,7 @@ use Rattle.std.specs.Prelude.{ℤ, map}
 use Rattle.usbip_wire.specs.declared.unlink.UnlinkHead.{UnlinkHead}
 use Rattle.usbip_wire.specs.declared.dirs.Outstanding.{Outstanding}
 use Rattle.usbip_wire.specs.declared.dirs.Outstanding.TheVariants as outstanding
-use Rattle.usbip_wire.specs.Dirs.{find, submit_of, is_unlink}
+use Rattle.usbip_wire.specs.Dirs.{find, others, submit_of, is_unlink}
 use Rattle.usbip_wire.specs.Down as down
 use Rattle.usbip_wire.specs.RetSubmit.{ret_submit_bytes, unused}
 use Rattle.usbip_wire.specs.RetUnlink.{ret_unlink_bytes, unused as unused_unlink}
@@ -14,7 +14,9 @@ use Rattle.tmc_law.specs.Halts.{all_ended}
 use Rattle.tmc_law.specs.Aborts.{part_answer, without_part}
 use Rattle.tmc_law.specs.Laws.{AreAccepted, message_of, without_answered}
 use Rattle.tmc_law.proofs.AnswerBytes.{IsStatus, success_is, head_of, submit_spelled, unlink_spelled}
-use Rattle.tmc_law.proofs.Owing.{IsOwed, AreOwed, owed_at, owed_answered, owed_others}
+use Rattle.tmc_law.proofs.Outstanding.{NoneHas}
+use Rattle.tmc_law.proofs.Owing.{IsOwed, AreListed, listed_others}
+use Rattle.tmc_law.proofs.Owed.{AreOwed, owed_at, owed_answered}
 
 -- the answers are accepted, and behind them the answers to these submits are owed
 pub record Settles (entries : List Outstanding) (puts : List Put) (submits : List Pending) : Type 0 where
@@ -67,8 +69,9 @@ one_settles entries front submit back status moved is fits owed = record {
 
 pub unlink_settles : (entries : List Outstanding) (head : UnlinkHead) (status : ℤ) (submits : List Pending) → IsStatus status
     → head.seqnum < 2 ^ 32 → find head.seqnum entries ≡ Some (outstanding.Unlink head.seqnum) → Avoids head.seqnum submits
-    → AreOwed entries submits → Settles entries (unlink_answer head status ∷ []) submits
-unlink_settles entries head status submits is wide found avoids owed = record {
+    → Avoids head.target submits → AreListed entries submits
+    → ((n : ℕ) → Avoids n submits → NoneHas n (others head.target (others head.seqnum entries))) → Settles entries (unlink_answer head status ∷ []) submits
+unlink_settles entries head status submits is wide found avoids gone listed covered = record {
   accepted = (
     (
       ret_unlink_bytes (record { seqnum = head.seqnum; status = status }) unused_unlink,
@@ -76,7 +79,10 @@ unlink_settles entries head status submits is wide found avoids owed = record {
     ),
     tt,
   );
-  owed = owed_others head.seqnum entries submits avoids owed;
+  owed = record {
+    listed = listed_others head.target (others head.seqnum entries) submits gone (listed_others head.seqnum entries submits avoids listed);
+    covered = covered;
+  };
 }
 
 -- ---- the answers to a queue

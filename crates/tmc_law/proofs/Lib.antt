@@ -6,6 +6,7 @@ pub mod Rows
 pub mod Telling
 pub mod AnswerBytes
 pub mod Outstanding
+pub mod Owed
 pub mod Owing
 pub mod Answering
 pub mod AnswerPlaces

@@ -1,12 +1,9 @@
--- the outstanding messages, and the numbers that are used
-use Rattle.std.proofs.Common.{◌≡◌, ℕ, Bool, true, false, List, [], ◌∷◌, ◌++◌, Option, Some, None, inl, inr, refl, sym, ap, ◌∙◌, eq-eqb}
+-- the outstanding messages, and their numbers
+use Rattle.std.proofs.Common.{◌≡◌, ℕ, Bool, true, false, List, [], ◌∷◌, ◌++◌, Option, Some, None, inl, inr, refl, sym, ap, subst, ◌∙◌, eq-eqb}
 use Rattle.std.specs.Prelude.{◌≢◌, ◌==◌, if◌then◌else◌}
 use Rattle.std.proofs.lemmas.Bool.{ne_eqb, cases_eq}
 use Rattle.usbip_wire.specs.declared.dirs.Outstanding.{Outstanding}
 use Rattle.usbip_wire.specs.Dirs.{find, others, number_of}
-use Rattle.usbip_wire.specs.Up as up
-use Rattle.tmc_law.specs.Put.{Put}
-use Rattle.tmc_law.specs.Laws.{number_of as number_of_message, answered_number, entry_of, with_messages, without_answered, Unused, AreNumbered}
 
 -- no entry has this number
 abbrev pub NoneHas : ℕ → List Outstanding → Type 0
@@ -17,6 +14,14 @@ append_step : (b : Bool) (x e : Outstanding) (few all : Option Outstanding) → 
     → (if b then Some x else all) ≡ Some e
 append_step true x e few all f h = f
 append_step false x e few all f h = h f
+
+some_none : (x : Outstanding) (few : Option Outstanding) (b : Bool) → b ≡ true → (if b then Some x else few) ≡ None → ⊥
+some_none x few true is none = cc
+some_none x few false is none = cc
+
+later_none : (x : Outstanding) (few : Option Outstanding) (b : Bool) → b ≡ false → (if b then Some x else few) ≡ None → few ≡ None
+later_none x few true is none = cc
+later_none x few false is none = none
 
 pub find_more : (n : ℕ) (xs ys : List Outstanding) (e : Outstanding) → find n xs ≡ Some e → find n (xs ++ ys) ≡ Some e
 find_more n [] ys e f = absurd cc
@@ -42,58 +47,41 @@ find_others k n (x ∷ xs) apart =
           rw (ne_eqb (number_of x) n differs) (ap (λ (o : Option Outstanding). if number_of x == k then Some x else o) (find_others k n xs apart))
     ]
 
--- no message of these has the number of an entry
-abbrev pub AreFresh : List Outstanding → List up.Message → Type 0
-AreFresh [] messages = Unit {0}
-AreFresh (entry ∷ entries) messages = Unused (number_of entry) messages × AreFresh entries messages
+-- ---- what no entry has
 
-number_is : (message : up.Message) → number_of (entry_of message) ≡ number_of_message message
-number_is (up.Submit head transferred) = refl
-number_is (up.Unlink head) = refl
+pub none_has : (n : ℕ) (xs : List Outstanding) → find n xs ≡ None → NoneHas n xs
+none_has n [] none = tt
+none_has n (x ∷ xs) none =
+    elim (cases_eq (number_of x) n) [
+      | inl same ↦ absurd (some_none x (find n xs) (number_of x == n) (eq-eqb (number_of x) n same) none)
+      | inr differs ↦ (differs, none_has n xs (later_none x (find n xs) (number_of x == n) (ne_eqb (number_of x) n differs) none))
+    ]
 
-pub next_new : (entries : List Outstanding) (message : up.Message) (messages : List up.Message) → AreFresh entries (message ∷ messages)
-    → NoneHas (number_of_message message) entries
-next_new [] message messages fresh = tt
-next_new (entry ∷ entries) message messages fresh =
-    (λ e. fresh.0.0 (sym e), next_new entries message messages fresh.1)
+pub none_more : (n : ℕ) (xs : List Outstanding) (e : Outstanding) → NoneHas n xs → number_of e ≢ n → NoneHas n (xs ++ e ∷ [])
+none_more n [] e none differs = (differs, tt)
+none_more n (x ∷ xs) e none differs = (none.0, none_more n xs e none.1 differs)
 
-fresh_later : (entries : List Outstanding) (message : up.Message) (messages : List up.Message) → AreFresh entries (message ∷ messages)
-    → AreFresh entries messages
-fresh_later [] message messages fresh = tt
-fresh_later (entry ∷ entries) message messages fresh = (fresh.0.1, fresh_later entries message messages fresh.1)
+others_step : (n : ℕ) (b : Bool) (x : Outstanding) (few : List Outstanding) → number_of x ≢ n → NoneHas n few
+    → NoneHas n (if b then few else x ∷ few)
+others_step n true x few differs none = none
+others_step n false x few differs none = (differs, none)
 
-fresh_append : (entries : List Outstanding) (entry : Outstanding) (messages : List up.Message) → AreFresh entries messages
-    → Unused (number_of entry) messages → AreFresh (entries ++ entry ∷ []) messages
-fresh_append [] entry messages fresh unused = (unused, tt)
-fresh_append (first ∷ entries) entry messages fresh unused = (fresh.0, fresh_append entries entry messages fresh.1 unused)
+pub none_others : (n m : ℕ) (xs : List Outstanding) → NoneHas n xs → NoneHas n (others m xs)
+none_others n m [] none = tt
+none_others n m (x ∷ xs) none = others_step n (number_of x == m) x (others m xs) none.0 (none_others n m xs none.1)
 
--- behind the messages that were taken in
-pub record IsLater (entries : List Outstanding) (messages : List up.Message) : Type 0 where
-  pub fresh : AreFresh entries messages
-  pub numbered : AreNumbered messages
+none_same : (n : ℕ) (xs : List Outstanding) → NoneHas n (others n xs)
+none_same n [] = tt
+none_same n (x ∷ xs) =
+    elim (cases_eq (number_of x) n) [
+      | inl same ↦ rw (eq-eqb (number_of x) n same) (none_same n xs)
+      | inr differs ↦ rw (ne_eqb (number_of x) n differs) (differs, none_same n xs)
+    ]
 
-pub later_taken : (taken messages : List up.Message) (entries : List Outstanding) → IsLater entries (taken ++ messages)
-    → IsLater (with_messages entries taken) messages
-later_taken [] messages entries later = later
-later_taken (message ∷ taken) messages entries later =
-    let unused : Unused (number_of (entry_of message)) (taken ++ messages) = rw (number_is message) later.numbered.0 in
-    later_taken taken messages (entries ++ entry_of message ∷ []) (record {
-      fresh = fresh_append entries (entry_of message) (taken ++ messages) (fresh_later entries message (taken ++ messages) later.fresh) unused;
-      numbered = later.numbered.1;
-    })
-
-fresh_step : (b : Bool) (entry : Outstanding) (few : List Outstanding) (messages : List up.Message) → Unused (number_of entry) messages
-    → AreFresh few messages → AreFresh (if b then few else entry ∷ few) messages
-fresh_step true entry few messages unused fresh = fresh
-fresh_step false entry few messages unused fresh = (unused, fresh)
-
-fresh_others : (n : ℕ) (entries : List Outstanding) (messages : List up.Message) → AreFresh entries messages → AreFresh (others n entries) messages
-fresh_others n [] messages fresh = tt
-fresh_others n (entry ∷ entries) messages fresh =
-    fresh_step (number_of entry == n) entry (others n entries) messages fresh.0 (fresh_others n entries messages fresh.1)
-
-pub fresh_answered : (puts : List Put) (entries : List Outstanding) (messages : List up.Message) → AreFresh entries messages
-    → AreFresh (without_answered entries puts) messages
-fresh_answered [] entries messages fresh = fresh
-fresh_answered (put ∷ puts) entries messages fresh =
-    fresh_answered puts (others (answered_number put) entries) messages (fresh_others (answered_number put) entries messages fresh)
+-- only this number may have been there
+pub none_left : (n m : ℕ) (xs : List Outstanding) → (m ≢ n → NoneHas n xs) → NoneHas n (others m xs)
+none_left n m xs none =
+    elim (cases_eq m n) [
+      | inl same ↦ subst (λ (k : ℕ). NoneHas n (others k xs)) (sym same) (none_same n xs)
+      | inr differs ↦ none_others n m xs (none differs)
+    ]

@@ -1,4 +1,4 @@
--- pending submits whose answers are owed: each is outstanding, and no two have one number
+-- pending submits: each is outstanding, and no two have one number
 use Rattle.std.proofs.Common.{◌≡◌, ℕ, ◌<◌, ◌≤◌, ◌^◌, List, [], ◌∷◌, ◌++◌, length, Some, None, sym, subst, ◌∙◌}
 use Rattle.std.specs.Prelude.{◌≢◌, Bool}
 use Rattle.usbip_wire.specs.declared.submit.SubmitHead.{SubmitHead}
@@ -18,9 +18,9 @@ pub record IsOwed (entries : List Outstanding) (submit : Pending) : Type 0 where
   pub sized : submit.head.length < 2 ^ 32
   pub fits : length submit.moved ≤ submit.head.length
 
-abbrev pub AreOwed : List Outstanding → List Pending → Type 0
-AreOwed entries [] = Unit {0}
-AreOwed entries (submit ∷ submits) = IsOwed entries submit × Avoids submit.head.seqnum submits × AreOwed entries submits
+abbrev pub AreListed : List Outstanding → List Pending → Type 0
+AreListed entries [] = Unit {0}
+AreListed entries (submit ∷ submits) = IsOwed entries submit × Avoids submit.head.seqnum submits × AreListed entries submits
 
 -- ---- numbers
 
@@ -34,16 +34,16 @@ pub avoids_at : (n : ℕ) (front : List Pending) (submit : Pending) (back : List
 avoids_at n [] submit back avoids = avoids.0
 avoids_at n (first ∷ front) submit back avoids = avoids_at n front submit back avoids.1
 
-avoids_with : (n : ℕ) (front : List Pending) (submit : Pending) (back : List Pending) → submit.head.seqnum ≢ n → Avoids n (front ++ back)
+pub avoids_with : (n : ℕ) (front : List Pending) (submit : Pending) (back : List Pending) → submit.head.seqnum ≢ n → Avoids n (front ++ back)
     → Avoids n (front ++ submit ∷ back)
 avoids_with n [] submit back differs avoids = (differs, avoids)
 avoids_with n (first ∷ front) submit back differs avoids = (avoids.0, avoids_with n front submit back differs avoids.1)
 
 -- ---- entries that come and go
 
-pub owed_more : (entries more : List Outstanding) (submits : List Pending) → AreOwed entries submits → AreOwed (entries ++ more) submits
-owed_more entries more [] owed = tt
-owed_more entries more (submit ∷ submits) owed = (
+pub listed_more : (entries more : List Outstanding) (submits : List Pending) → AreListed entries submits → AreListed (entries ++ more) submits
+listed_more entries more [] owed = tt
+listed_more entries more (submit ∷ submits) owed = (
   record {
     found = find_more submit.head.seqnum entries more (asked_by submit.head) owed.0.found;
     wide = owed.0.wide;
@@ -51,7 +51,7 @@ owed_more entries more (submit ∷ submits) owed = (
     fits = owed.0.fits;
   },
   owed.1,
-  owed_more entries more submits owed.2,
+  listed_more entries more submits owed.2,
 )
 
 is_owed_others : (n : ℕ) (entries : List Outstanding) (submit : Pending) → submit.head.seqnum ≢ n → IsOwed entries submit
@@ -63,63 +63,63 @@ is_owed_others n entries submit differs owed = record {
   fits = owed.fits;
 }
 
-pub owed_others : (n : ℕ) (entries : List Outstanding) (submits : List Pending) → Avoids n submits → AreOwed entries submits
-    → AreOwed (others n entries) submits
-owed_others n entries [] avoids owed = tt
-owed_others n entries (submit ∷ submits) avoids owed =
-    (is_owed_others n entries submit avoids.0 owed.0, owed.1, owed_others n entries submits avoids.1 owed.2)
+pub listed_others : (n : ℕ) (entries : List Outstanding) (submits : List Pending) → Avoids n submits → AreListed entries submits
+    → AreListed (others n entries) submits
+listed_others n entries [] avoids owed = tt
+listed_others n entries (submit ∷ submits) avoids owed =
+    (is_owed_others n entries submit avoids.0 owed.0, owed.1, listed_others n entries submits avoids.1 owed.2)
 
-pub owed_apart : (n : ℕ) (entries : List Outstanding) (submits : List Pending) → NoneHas n entries → AreOwed entries submits → Avoids n submits
-owed_apart n entries [] none owed = tt
-owed_apart n entries (submit ∷ submits) none owed =
+pub listed_apart : (n : ℕ) (entries : List Outstanding) (submits : List Pending) → NoneHas n entries → AreListed entries submits → Avoids n submits
+listed_apart n entries [] none owed = tt
+listed_apart n entries (submit ∷ submits) none owed =
     let differs : submit.head.seqnum ≢ n = λ e.
     let found : find n entries ≡ Some (asked_by submit.head) = subst (λ k. find k entries ≡ Some (asked_by submit.head)) e owed.0.found in
     let missing : find n entries ≡ None = find_none n entries none in
     cc in
-    (differs, owed_apart n entries submits none owed.2)
+    (differs, listed_apart n entries submits none owed.2)
 
 -- ---- submits that come and go
 
-pub owed_at : (entries : List Outstanding) (front : List Pending) (submit : Pending) (back : List Pending)
-    → AreOwed entries (front ++ submit ∷ back) → IsOwed entries submit
-owed_at entries [] submit back owed = owed.0
-owed_at entries (first ∷ front) submit back owed = owed_at entries front submit back owed.2
+pub listed_at : (entries : List Outstanding) (front : List Pending) (submit : Pending) (back : List Pending)
+    → AreListed entries (front ++ submit ∷ back) → IsOwed entries submit
+listed_at entries [] submit back owed = owed.0
+listed_at entries (first ∷ front) submit back owed = listed_at entries front submit back owed.2
 
 -- the others of the same
-pub avoids_rest : (entries : List Outstanding) (front : List Pending) (submit : Pending) (back : List Pending)
-    → AreOwed entries (front ++ submit ∷ back) → Avoids submit.head.seqnum (front ++ back)
-avoids_rest entries [] submit back owed = owed.1
-avoids_rest entries (first ∷ front) submit back owed =
-    (λ e. avoids_at first.head.seqnum front submit back owed.1 (sym e), avoids_rest entries front submit back owed.2)
+pub listed_rest : (entries : List Outstanding) (front : List Pending) (submit : Pending) (back : List Pending)
+    → AreListed entries (front ++ submit ∷ back) → Avoids submit.head.seqnum (front ++ back)
+listed_rest entries [] submit back owed = owed.1
+listed_rest entries (first ∷ front) submit back owed =
+    (λ e. avoids_at first.head.seqnum front submit back owed.1 (sym e), listed_rest entries front submit back owed.2)
 
-pub owed_without : (entries : List Outstanding) (front : List Pending) (submit : Pending) (back : List Pending)
-    → AreOwed entries (front ++ submit ∷ back) → AreOwed entries (front ++ back)
-owed_without entries [] submit back owed = owed.2
-owed_without entries (first ∷ front) submit back owed =
-    (owed.0, avoids_without first.head.seqnum front submit back owed.1, owed_without entries front submit back owed.2)
+pub listed_without : (entries : List Outstanding) (front : List Pending) (submit : Pending) (back : List Pending)
+    → AreListed entries (front ++ submit ∷ back) → AreListed entries (front ++ back)
+listed_without entries [] submit back owed = owed.2
+listed_without entries (first ∷ front) submit back owed =
+    (owed.0, avoids_without first.head.seqnum front submit back owed.1, listed_without entries front submit back owed.2)
 
 -- an answered submit, and its entry, are gone
-pub owed_answered : (entries : List Outstanding) (front : List Pending) (submit : Pending) (back : List Pending)
-    → AreOwed entries (front ++ submit ∷ back) → AreOwed (others submit.head.seqnum entries) (front ++ back)
-owed_answered entries front submit back owed =
-    owed_others submit.head.seqnum entries (front ++ back) (avoids_rest entries front submit back owed) (owed_without entries front submit back owed)
+pub listed_answered : (entries : List Outstanding) (front : List Pending) (submit : Pending) (back : List Pending)
+    → AreListed entries (front ++ submit ∷ back) → AreListed (others submit.head.seqnum entries) (front ++ back)
+listed_answered entries front submit back owed =
+    listed_others submit.head.seqnum entries (front ++ back) (listed_rest entries front submit back owed) (listed_without entries front submit back owed)
 
-pub owed_with : (entries : List Outstanding) (front : List Pending) (submit : Pending) (back : List Pending)
-    → IsOwed entries submit → Avoids submit.head.seqnum (front ++ back) → AreOwed entries (front ++ back)
-    → AreOwed entries (front ++ submit ∷ back)
-owed_with entries [] submit back one avoids owed = (one, avoids, owed)
-owed_with entries (first ∷ front) submit back one avoids owed = (
+pub listed_with : (entries : List Outstanding) (front : List Pending) (submit : Pending) (back : List Pending)
+    → IsOwed entries submit → Avoids submit.head.seqnum (front ++ back) → AreListed entries (front ++ back)
+    → AreListed entries (front ++ submit ∷ back)
+listed_with entries [] submit back one avoids owed = (one, avoids, owed)
+listed_with entries (first ∷ front) submit back one avoids owed = (
   owed.0,
   avoids_with first.head.seqnum front submit back (λ e. avoids.0 (sym e)) owed.1,
-  owed_with entries front submit back one avoids.1 owed.2,
+  listed_with entries front submit back one avoids.1 owed.2,
 )
 
 -- a submit in the place of another with the same head
-pub owed_replaced : (entries : List Outstanding) (front : List Pending) (submit : Pending) (moved left : List ℕ) (polled : Bool) (back : List Pending)
-    → length moved ≤ submit.head.length → AreOwed entries (front ++ submit ∷ back)
-    → AreOwed entries (front ++ (record { head = submit.head; left = left; moved = moved; polled = polled }) ∷ back)
-owed_replaced entries front submit moved left polled back fits owed =
-    let one = owed_at entries front submit back owed in
-    owed_with entries front (record { head = submit.head; left = left; moved = moved; polled = polled }) back
+pub listed_replaced : (entries : List Outstanding) (front : List Pending) (submit : Pending) (moved left : List ℕ) (polled : Bool) (back : List Pending)
+    → length moved ≤ submit.head.length → AreListed entries (front ++ submit ∷ back)
+    → AreListed entries (front ++ (record { head = submit.head; left = left; moved = moved; polled = polled }) ∷ back)
+listed_replaced entries front submit moved left polled back fits owed =
+    let one = listed_at entries front submit back owed in
+    listed_with entries front (record { head = submit.head; left = left; moved = moved; polled = polled }) back
     (record { found = one.found; wide = one.wide; sized = one.sized; fits = fits })
-    (avoids_rest entries front submit back owed) (owed_without entries front submit back owed)
+    (listed_rest entries front submit back owed) (listed_without entries front submit back owed)

@@ -1,24 +1,16 @@
 -- what the laws speak of
-use Rattle.std.specs.Prelude.{◌≡◌, ◌≢◌, ℕ, ◌+◌, Bool, false, ◌==◌, ◌||◌, if◌then◌else◌, List, [], ◌∷◌, ◌++◌}
+use Rattle.std.specs.Prelude.{◌≡◌, ◌≢◌, ℕ, ◌+◌, Bool, false, ◌==◌, ◌||◌, if◌then◌else◌, List, [], ◌∷◌, ◌++◌, None}
 use Rattle.usbip_wire.specs.declared.dirs.Outstanding.{Outstanding}
 use Rattle.usbip_wire.specs.declared.dirs.Outstanding.TheVariants as outstanding
-use Rattle.usbip_wire.specs.Dirs.{others}
+use Rattle.usbip_wire.specs.Dirs.{find, others}
 use Rattle.usbip_wire.specs.Down as down
 use Rattle.usbip_wire.specs.Up as up
 use Rattle.instr_plain.specs.declared.log.LogEntry.{LogEntry}
 use Rattle.instr_plain.specs.declared.log.LogEntry.TheVariants.{Exec, Took, Clear}
 use Rattle.tmc_law.specs.State.{Pending}
 use Rattle.tmc_law.specs.Put.{Put, Submitted, Unlinked}
+use Rattle.tmc_law.specs.Step.{Move, Comes}
 use Rattle.tmc_law.specs.Run.{Entry, taken}
-
--- the number of a message
-abbrev pub number_of : up.Message → ℕ
-number_of (up.Submit head transferred) = head.seqnum
-number_of (up.Unlink head) = head.seqnum
-
-abbrev pub answered_number : Put → ℕ
-answered_number (Submitted asked answer transferred) = answer.seqnum
-answered_number (Unlinked asked answer) = answer.seqnum
 
 -- no submit with this number arrives
 abbrev pub NoneArrives : ℕ → List up.Message → Type 0
@@ -86,30 +78,37 @@ abbrev pub with_messages : List Outstanding → List up.Message → List Outstan
 with_messages entries [] = entries
 with_messages entries (message ∷ messages) = with_messages (entries ++ entry_of message ∷ []) messages
 
+-- what an answer leaves outstanding: not what it answers, and behind the answer to an unlink not the submit that was to
+-- be unlinked
+abbrev pub left_by : List Outstanding → Put → List Outstanding
+left_by entries (Submitted asked answer transferred) = others answer.seqnum entries
+left_by entries (Unlinked asked answer) = others asked.target (others answer.seqnum entries)
+
 -- what is outstanding behind answers
 abbrev pub without_answered : List Outstanding → List Put → List Outstanding
 without_answered entries [] = entries
-without_answered entries (put ∷ puts) = without_answered (others (answered_number put) entries) puts
+without_answered entries (put ∷ puts) = without_answered (left_by entries put) puts
 
 -- the answers have spellings that a reader accepts, each by what is outstanding when it comes
 abbrev pub AreAccepted : List Outstanding → List Put → Type 0
 AreAccepted entries [] = Unit {0}
 AreAccepted entries (put ∷ puts) =
-    ((bytes : List ℕ) × down.SpellsAnswer entries (message_of put) bytes) × AreAccepted (others (answered_number put) entries) puts
+    ((bytes : List ℕ) × down.SpellsAnswer entries (message_of put) bytes) × AreAccepted (left_by entries put) puts
 
--- the same of a run's answers, where what it took in is outstanding until it is answered
+-- the same of the answers of a run: what it takes in is outstanding until an answer takes it out
 abbrev pub IsAccepted : List Outstanding → List Entry → Type 0
 IsAccepted entries [] = Unit {0}
 IsAccepted entries (entry ∷ run) =
     AreAccepted (with_messages entries (taken entry.move)) entry.puts
     × IsAccepted (without_answered (with_messages entries (taken entry.move)) entry.puts) run
 
--- no message with this number
-abbrev pub Unused : ℕ → List up.Message → Type 0
-Unused seqnum [] = Unit {0}
-Unused seqnum (message ∷ messages) = (number_of message ≢ seqnum) × Unused seqnum messages
+-- an unlink comes with a number that is not outstanding
+abbrev pub IsNew : List Outstanding → Move → Type 0
+IsNew entries (Comes (up.Unlink head)) = find head.seqnum entries ≡ None
+IsNew entries _ = Unit {0}
 
--- no two messages have one number
-abbrev pub AreNumbered : List up.Message → Type 0
-AreNumbered [] = Unit {0}
-AreNumbered (message ∷ messages) = Unused (number_of message) messages × AreNumbered messages
+-- the same of each unlink of a run
+abbrev pub AreNew : List Outstanding → List Entry → Type 0
+AreNew entries [] = Unit {0}
+AreNew entries (entry ∷ run) =
+    IsNew entries entry.move × AreNew (without_answered (with_messages entries (taken entry.move)) entry.puts) run

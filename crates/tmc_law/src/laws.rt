@@ -17,7 +17,7 @@ ghost use Rattle.tmc_law.specs.Put.{Put, unlink_answer, unlinked};
 ghost use Rattle.tmc_law.specs.Step.{Steps, Comes, Spells};
 ghost use Rattle.tmc_law.specs.Run.{Entry, Runs, inputs, outputs, SpellsPut, IsFront, Fits};
 ghost use Rattle.tmc_law.specs.Told.{Tells, SpellAll};
-ghost use Rattle.tmc_law.specs.Laws.{NoneArrives, NoneAnswers, NoneAgain, AreInOrder, answers_to, NoneRenews, bytes_taken, IsAccepted, AreNumbered};
+ghost use Rattle.tmc_law.specs.Laws.{NoneArrives, NoneAnswers, NoneAgain, AreInOrder, answers_to, NoneRenews, bytes_taken, IsAccepted, AreNew};
 
 use instr_plain::{keeps_responses, one_response};
 use usbip_wire::{streams_are_read, urbs_are_determined};
@@ -85,8 +85,9 @@ pub fn answers_keep_order()
         → AreInOrder (answers_to (queue_of endpoint s) (outputs more)) (queue_of endpoint s) }
 {}
 
-/// What a run puts out has spellings that a reader of answers accepts, where what the run took in is outstanding until
-/// it is answered, and no two of its messages have one number.
+/// What a run puts out has spellings that a reader of answers accepts, where no unlink comes with a number that is
+/// outstanding. What is outstanding are the submits and unlinks that the run took in before, less those that were
+/// answered, and less the submits whose unlink was answered.
 pub fn answers_are_accepted()
-    ensures { (run : List Entry) (t : State) → Runs start run t → AreNumbered (inputs run) → IsAccepted [] run }
+    ensures { (run : List Entry) (t : State) → Runs start run t → AreNew [] run → IsAccepted [] run }
 {}
