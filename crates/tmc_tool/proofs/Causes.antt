@@ -10,8 +10,10 @@ use Rattle.tmc_tool.specs.declared.status.Status.TheVariants.{Printed, Usage, Re
 use Rattle.tmc_tool.specs.declared.command.Command.{Command}
 use Rattle.tmc_tool.specs.declared.command.Command.TheVariants.{Ask, Show}
 use Rattle.tmc_tool.specs.Command.{words_of, IsCommand}
+use Rattle.tmc_tool.specs.Script.{KeepsLimits}
 use Rattle.tmc_tool.specs.Tool.{code_of, Outside, ReadsEnough, Makes, Takes, Refuses, Ends}
 use Rattle.tmc_tool.proofs.FirstLine.{OneAnswer, not_refused, line_size}
+use Rattle.tmc_tool.proofs.Limits.{front_keeps, shown_keeps}
 use Rattle.tmc_tool.proofs.Words.{same_command}
 
 -- the plain instrument gives one answer to a message, and a script is not both shown and refused
@@ -41,6 +43,12 @@ not_shorter bytes first before after told gives =
     let parts : GivesFirst first (Some bytes) after = subst (λ o. GivesFirst first o after) told gives in
     omega (arith, ap length parts.1, length-append first parts.0)
 
+-- the first bytes of a source keep the limits that all of it keeps
+front_in : (bytes first : List ℕ) (before after : Option (List ℕ)) → before ≡ Some bytes → GivesFirst first before after → KeepsLimits bytes → KeepsLimits first
+front_in bytes first before after told gives keeps =
+    let parts : GivesFirst first (Some bytes) after = subst (λ o. GivesFirst first o after) told gives in
+    front_keeps first parts.0 (subst KeepsLimits parts.1 keeps)
+
 -- where enough was read to refuse bytes that are taken, it was all of them
 enough_read : (command : Command) (bytes first : List ℕ) (before after : Outside) → before.left ≡ Some bytes → ReadsEnough command first before after
     → Takes command bytes → bytes ≡ first
@@ -49,7 +57,11 @@ enough_read Ask bytes first before after told reads takes =
     (λ ended. all_read bytes first before.left after.left told reads.first ended)
     (λ long. absurd (omega (arith, long, not_shorter bytes first before.left after.left told reads.first, line_size bytes takes.0 takes.2.line, takes.2.asked.short)))
     reads.enough
-enough_read (Show way) bytes first before after told reads takes = all_read bytes first before.left after.left told reads.first reads.ended
+enough_read (Show way) bytes first before after told reads takes =
+    ⊎_elim
+    (λ ended. all_read bytes first before.left after.left told reads.first ended)
+    (λ passed. absurd (passed (front_in bytes first before.left after.left told reads.first (shown_keeps way bytes takes.0 takes.1))))
+    reads.enough
 
 pub ends_usage : (words : List (List ℕ)) (status : Status) (before after : Outside) → Ends words status before after
     → (IsCommand words → ⊥) → (Rose before.write_faults after.write_faults → ⊥) → code_of status ≡ 1

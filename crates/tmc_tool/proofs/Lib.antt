@@ -5,3 +5,4 @@ pub mod Words
 pub mod Ending
 pub mod AskEnding
 pub mod Causes
+pub mod Limits

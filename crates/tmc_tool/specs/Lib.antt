@@ -5,3 +5,4 @@ pub mod Line
 pub mod Judged
 pub mod Refusal
 pub mod Tool
+pub mod Script

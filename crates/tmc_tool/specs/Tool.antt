@@ -13,6 +13,7 @@ use Rattle.tmc_tool.specs.declared.command.Command.TheVariants.{Ask, Show}
 use Rattle.tmc_tool.specs.Command.{words_of, IsCommand}
 use Rattle.tmc_tool.specs.Line.{IsQuestion, IsRefused, line_most}
 use Rattle.tmc_tool.specs.Refusal.{refusal}
+use Rattle.tmc_tool.specs.Script.{PassesLimit, IsBounded}
 use Rattle.tmc_tool.specs.Report.{Told, Asked, Settled, Exec as exec_entry, Took, Reports}
 
 -- the number that a status is to the shell
@@ -41,6 +42,13 @@ pub record ReadsLine (bytes : List ℕ) (before after : Outside) : Type 0 where
 pub record ReadsAll (bytes : List ℕ) (before after : Outside) : Type 0 where
   pub first : GivesFirst bytes before.left after.left
   pub ended : HasEnded after.left
+  pub counts : after.read_faults ≡ before.read_faults
+
+-- these bytes were read: the first of the source, and all of them or, by the last read, more than a script has
+pub record ReadsScript (bytes : List ℕ) (before after : Outside) : Type 0 where
+  pub first : GivesFirst bytes before.left after.left
+  pub enough : HasEnded after.left ⊎ PassesLimit bytes
+  pub bounded : IsBounded bytes
   pub counts : after.read_faults ≡ before.read_faults
 
 -- nothing was read
@@ -97,7 +105,7 @@ Refuses (Show way) bytes line what = script.IsRefused way bytes line what
 -- these bytes were read: the first of the source, and enough of them for the command to refuse them
 abbrev pub ReadsEnough : Command → List ℕ → Outside → Outside → Type 0
 ReadsEnough Ask bytes before after = ReadsLine bytes before after
-ReadsEnough (Show way) bytes before after = ReadsAll bytes before after
+ReadsEnough (Show way) bytes before after = ReadsScript bytes before after
 
 -- the text that is due with a status, by the words and by what was read
 abbrev pub Due : List (List ℕ) → Outside → Outside → Status → List ℕ → Type 0

@@ -3,7 +3,7 @@ ghost use Rattle.std.specs.Prelude.{◌<◌};
 use crate::tool::tool_main;
 use std::alloc::{AllocError, Global};
 use std::test::Fail;
-use tmc_base::{MemSink, MemSource, Memory};
+use tmc_base::{MemSink, MemSource, Memory, read_all};
 
 const OPERATION_COMPLETE: &str = "\
 hub running
@@ -378,6 +378,42 @@ fn shows_a_long_script(rt: HostRuntime) -> Result<(), Fail> {
     let (status, sink) = run(alloc, "show up", &script, 4_096)?;
     assert_eq!(rt; status, 0);
     assert_eq!(rt; sink.bytes(), want.as_slice());
+    Ok(())
+}
+
+#[test]
+fn reads_no_more_than_a_script_has(rt: HostRuntime) -> Result<(), Fail> {
+    let alloc = rt.alloc();
+    let words = words_of(alloc, "show up")?;
+    let mut lines = bytes_of(alloc, "phase op\n")?;
+    let mut unknown = Vec::new(alloc);
+    for _ in 0..70_000 {
+        lines.extend_from_slice(b"bytes -\n")?;
+        unknown.extend_from_slice(b"y\n")?;
+    }
+    let mut long = Vec::new(alloc);
+    let mut ended = Vec::new(alloc);
+    for place in 0..30_000 {
+        long.push(b'y')?;
+        ended.push(if place == 17_000 { b'\n' } else { b'y' })?;
+    }
+    for (script, want) in [
+        (&lines, "refused line 65537 TooMany\n"),
+        (&unknown, "refused line 1 Unknown\n"),
+        (&long, "refused line 1 TooLong\n"),
+        (&ended, "refused line 1 TooLong\n"),
+    ] {
+        let mut source = MemSource::new(Vec::from_slice(alloc, script)?, 4_096, Vec::new(alloc));
+        let mut sink = MemSink::new(alloc, 4_096, 4_096, Vec::new(alloc))?;
+        assert_eq!(rt;
+            tool_main(alloc, &words, &mut source, &mut sink),
+            2,
+            "{want:?}"
+        );
+        assert_eq!(rt; sink.bytes(), want.as_bytes());
+        let left = read_all(alloc, &mut source)?;
+        assert!(rt; left.len() > 0, "{want:?}");
+    }
     Ok(())
 }
 

@@ -16,16 +16,18 @@ use crate::ask::ask;
 use crate::command::{Command, command_of};
 use crate::line::{LINE_MOST, answer, first_line};
 use crate::refusal::refusal;
+use crate::script::read_script;
 use crate::status::Status;
 use event_text::{LineFault, LineWhat, put_shown, scripts_are_determined};
 use instr_plain::one_response;
 use std::alloc::Global;
-use tmc_base::{Memory, ReadFault, Sink, Source, read_all, read_up_to, write_all};
+use tmc_base::{Memory, ReadFault, Sink, Source, read_up_to, write_all};
 use usbip_wire::Dir;
 
 /// Runs the program: `words` are the arguments behind its name, the input comes from `source`, and the
 /// text goes to `sink`. The text is made whole before the first write, and each write offers all that
-/// is left of it.
+/// is left of it. `ask` reads one byte more than a line may have at most, and `show` until a read passes a limit of a
+/// script.
 ///
 /// | Status | Comes where | Printed |
 /// |---|---|---|
@@ -86,13 +88,14 @@ fn run_ask<S: Source, K: Sink>(alloc: Global, source: &mut S, sink: &mut K) -> S
     }
 }
 
-/// The commands `show up` and `show down`: a script is read, and what is shown of it is printed.
+/// The commands `show up` and `show down`: a script is read, no further than by the read that passes a limit, and
+/// what is shown of it is printed.
 fn run_show<S: Source, K: Sink>(alloc: Global, way: Dir, source: &mut S, sink: &mut K) -> Status
     ensures { Ends (words_of (Show way)) result
         (record { left = S.left source.old; read_faults = S.faults source.old; put = K.put sink.old; write_faults = K.faults sink.old })
         (record { left = S.left source.new; read_faults = S.faults source.new; put = K.put sink.new; write_faults = K.faults sink.new }) }
 {
-    let script = match read_all(alloc, source) {
+    let script = match read_script(alloc, source) {
         Ok(script) => script,
         Err(ReadFault::Failed) => return Status::SourceFault,
         Err(ReadFault::Memory) => return Status::NoMemory,

@@ -1,0 +1,106 @@
+//! The script that `show` reads.
+
+ghost use Rattle.std.specs.Prelude.{◌≡◌, ◌⊎◌, ◌∷◌, ◌++◌, [], true, false, List, ℕ, IfOk, Err};
+ghost use Rattle.tmc_base.specs.declared.reading.ReadFault.TheVariants.{Failed};
+ghost use Rattle.tmc_base.specs.Faults.{Rose};
+ghost use Rattle.tmc_base.specs.Source.{GivesFirst, HasEnded};
+ghost use Rattle.tmc_tool.specs.Script.{KeepsLimits, PassesLimit, IsBounded, Stands};
+
+use std::alloc::Global;
+use tmc_base::{ReadFault, ReadStep, Source};
+
+/// The most bytes that one read asks for.
+const PIECE: usize = 4_096;
+
+/// The most lines of a script.
+const LINES_MOST: u64 = 65_536;
+
+/// The most bytes of a line of a script, without its NL.
+const LINE_MOST: u64 = 16_384;
+
+/// Where the reading of a script stands.
+#[derive(Clone, Copy, Debug, PartialEq, Eq)]
+enum Place {
+    /// So many lines have ended, and so many bytes of the next have come.
+    Within { ended: u64, begun: u64 },
+    /// More lines have begun than a script has, or one is too long.
+    Past,
+}
+
+impl Place {
+    /// Behind one more byte.
+    fn behind(self, byte: u8) -> Place
+        ensures { (bytes : List ℕ) → Stands bytes self → Stands (bytes ++ byte ∷ []) result }
+    {
+        match self {
+            Place::Within { ended, begun } => {
+                if ended >= LINES_MOST {
+                    Place::Past
+                } else if byte == b'\n' {
+                    Place::Within {
+                        ended: ended + 1,
+                        begun: 0,
+                    }
+                } else if begun >= LINE_MOST {
+                    Place::Past
+                } else {
+                    Place::Within {
+                        ended,
+                        begun: begun + 1,
+                    }
+                }
+            }
+            Place::Past => Place::Past,
+        }
+    }
+
+    /// Whether a limit is passed.
+    fn is_past(self) -> bool
+        ensures passes { (bytes : List ℕ) → Stands bytes self → result ≡ true → PassesLimit bytes }
+        ensures keeps { (bytes : List ℕ) → Stands bytes self → result ≡ false → KeepsLimits bytes }
+    {
+        match self {
+            Place::Within { .. } => false,
+            Place::Past => true,
+        }
+    }
+}
+
+/// Behind the bytes of a piece.
+fn follow(piece: &[u8], place: Place) -> Place
+    ensures { (bytes : List ℕ) → Stands bytes place → Stands (bytes ++ piece.now) result }
+{
+    let mut at = place;
+    'bytes: for byte in piece {
+        at = at.behind(*byte);
+    }
+    at
+}
+
+/// Reads a script until its source ends, or until a read passes a limit of a script.
+pub(crate) fn read_script<S: Source>(alloc: Global, source: &mut S) -> Result<Vec<u8>, ReadFault>
+    ensures first { IfOk result (λ bytes. GivesFirst bytes.items (S.left source.old) (S.left source.new)) }
+    ensures enough { IfOk result (λ bytes. HasEnded (S.left source.new) ⊎ PassesLimit bytes.items) }
+    ensures bounded { IfOk result (λ bytes. IsBounded bytes.items) }
+    ensures ok_counts { IfOk result (λ _. S.faults source.new ≡ S.faults source.old) }
+    ensures failed { result ≡ Err Failed → Rose (S.faults source.old) (S.faults source.new) }
+    ensures memory { result ≡ Err ReadFault.Memory → S.faults source.new ≡ S.faults source.old }
+{
+    let mut bytes = Vec::new(alloc);
+    let mut piece = [0u8; PIECE];
+    let mut place = Place::Within { ended: 0, begun: 0 };
+    'pieces: while !place.is_past() {
+        match source.read(&mut piece) {
+            ReadStep::Got(n) => {
+                place = follow(&piece[..n], place);
+                match bytes.extend_from_slice(&piece[..n]) {
+                    Ok(()) => (),
+                    Err(_) => return Err(ReadFault::Memory),
+                }
+            }
+            ReadStep::End => return Ok(bytes),
+            ReadStep::Failed => return Err(ReadFault::Failed),
+        }
+    }
+    Ok(bytes)
+}
