@@ -1,7 +1,10 @@
 -- the queues of the endpoints, and unlinks (USB 2.0, section 5.3.2; Linux kernel documentation, "USB/IP protocol")
-use Rattle.std.specs.Prelude.{◌≡◌, ℕ, true, false, List, [], ◌∷◌, ◌++◌, slice_index}
+use Rattle.std.specs.Prelude.{◌≡◌, ℕ, true, false, List, [], ◌∷◌, ◌++◌, length, slice_index}
 use Rattle.usbip_wire.specs.declared.submit.SubmitHead.{SubmitHead}
 use Rattle.usbip_wire.specs.declared.unlink.UnlinkHead.{UnlinkHead}
+use Rattle.usbip_wire.specs.Urb.{AreWide}
+use Rattle.usbip_wire.specs.Given.{IsBytes}
+use Rattle.usbip_wire.specs.Submit.{Carries}
 use Rattle.usb_setup.specs.declared.setup.Setup.{Setup}
 use Rattle.tmc_wire.specs.declared.class_request.ClassRequest.TheVariants.{ReadStatus}
 use Rattle.tmc_wire.specs.ControlTable.{IsRow}
@@ -15,6 +18,19 @@ use Rattle.tmc_law.specs.Status.{status_layout}
 -- a device has at most so many pending submits
 abbrev pub pending_most : ℕ
 pending_most = 256
+
+-- What arrives as a submit, whatever its devid and its endpoint: numbers of 32 bits, a setup packet of eight bytes, and
+-- with it the bytes of its data where it is OUT, and none where it is IN.
+pub record IsSubmit (head : SubmitHead) (transferred : List ℕ) : Type 0 where
+  pub wide : AreWide (head.seqnum ∷ head.devid ∷ head.ep ∷ head.length ∷ [])
+  pub eight : length head.setup ≡ 8
+  pub setup : IsBytes head.setup
+  pub carried : Carries head.dir head.length transferred
+  pub bytes : IsBytes transferred
+
+-- what arrives as an unlink: numbers of 32 bits
+abbrev pub IsUnlink : UnlinkHead → Type 0
+IsUnlink head = AreWide (head.seqnum ∷ head.devid ∷ head.target ∷ [])
 
 -- the submit's endpoint is there, takes data this way, and is not halted
 pub record IsTaken (s : State) (head : SubmitHead) (endpoint : Endpoint) : Type 0 where

@@ -10,23 +10,19 @@ use Rattle.usbip_wire.specs.UpFed.{BadAt}
 use Rattle.tmc_law.specs.Endpoint.{Endpoint}
 use Rattle.tmc_law.specs.State.{State, Plugged, Closed, pending, Avoids}
 use Rattle.tmc_law.specs.Put.{Put}
-use Rattle.tmc_law.specs.Queues.{Arrives, Unlinks, pending_most}
+use Rattle.tmc_law.specs.Queues.{IsSubmit, IsUnlink, Arrives, Unlinks, pending_most}
 use Rattle.tmc_law.specs.BulkOut.{Takes, Executes}
 use Rattle.tmc_law.specs.BulkIn.{Begins, Fills}
 use Rattle.tmc_law.specs.Class.{Answers, Postpones, PollsFirst}
 use Rattle.tmc_law.specs.Status.{Notifies}
 use Rattle.tmc_law.specs.Halts.{HaltsItself, Unplugs}
 
--- the number by which the instrument is imported: bus 1, device 2
-abbrev pub devid : ℕ
-devid = 0x00010002
-
 -- What happens. The numbers, the order of the steps and PENDING are the device's free choice.
 pub data Move : Type 0 where
   -- a message arrives
   Comes : (message : up.Message) → Move
-  -- bytes are refused at a field
-  Refuses : (bytes : List ℕ) (f : Field) → Move
+  -- bytes, read as messages to the device with this devid, are refused at a field
+  Refuses : (devid : ℕ) (bytes : List ℕ) (f : Field) → Move
   -- so many packets of the first Bulk-OUT submit are taken
   Take : (count : ℕ) → Move
   -- the message that waits is executed
@@ -48,31 +44,28 @@ pub data Move : Type 0 where
   -- the device is unplugged
   Unplug : Move
 
--- these bytes are this message to the instrument
-abbrev pub Spells : up.Message → List ℕ → Type 0
-Spells = up.Spells devid
-
 -- a submit that the device cannot take, although its fields are accepted: there are too many, or its number is pending
 pub data IsOver (s : State) (head : SubmitHead) (f : Field) : Type 0 where
   TooMany : pending_most ≤ length (pending s) → f ≡ record { layer = Urb; name = name.Pending; offset = 4 } → IsOver s head f
   Twice : length (pending s) < pending_most → ¬ Avoids head.seqnum (pending s)
       → f ≡ record { layer = Urb; name = name.Seqnum; offset = 4 } → IsOver s head f
 
--- the bytes are refused at this field: by the spelling of the messages to the device, or by what is pending
-pub data IsRefused (s : State) (bytes : List ℕ) (f : Field) : Type 0 where
-  ByField : BadAt (Urbs devid) bytes f → IsRefused s bytes f
+-- the bytes are refused at this field: by the spelling of the messages to the device with this devid, or by what is
+-- pending
+pub data IsRefused (devid : ℕ) (s : State) (bytes : List ℕ) (f : Field) : Type 0 where
+  ByField : BadAt (Urbs devid) bytes f → IsRefused devid s bytes f
   ByPending : (head : SubmitHead) (transferred front rest : List ℕ) → bytes ≡ front ++ rest
-      → Spells (up.Submit head transferred) front → IsOver s head f → IsRefused s bytes f
+      → up.Spells devid (up.Submit head transferred) front → IsOver s head f → IsRefused devid s bytes f
 
 -- The law: what each move leads to, and what it puts out.
 abbrev pub Leads : State → Move → List Put → State → Type 0
 -- a submit arrives: its number is not pending, and there are not too many
 Leads s (Comes (up.Submit head transferred)) puts t =
-    ((bytes : List ℕ) × Spells (up.Submit head transferred) bytes)
+    IsSubmit head transferred
     × Avoids head.seqnum (pending s) × (length (pending s) < pending_most) × Arrives s head transferred puts t
-Leads s (Comes (up.Unlink head)) puts t = ((bytes : List ℕ) × Spells (up.Unlink head) bytes) × Unlinks s head puts t
+Leads s (Comes (up.Unlink head)) puts t = IsUnlink head × Unlinks s head puts t
 -- the device closes, and no step follows
-Leads s (Refuses bytes f) puts t = IsRefused s bytes f × (puts ≡ []) × (t ≡ record s { presence = Closed f })
+Leads s (Refuses devid bytes f) puts t = IsRefused devid s bytes f × (puts ≡ []) × (t ≡ record s { presence = Closed f })
 Leads s (Take count) puts t = (s.waiting ≡ None) × Takes s count puts t
 Leads s Exec puts t = Executes s t × (puts ≡ [])
 Leads s (Begin count) puts t = Begins s count t × (puts ≡ [])
