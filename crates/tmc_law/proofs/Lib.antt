@@ -1,8 +1,10 @@
 pub mod Joined
+pub mod Present
 pub mod Grown
 pub mod Logged
 pub mod Spared
 pub mod Rows
+pub mod Refused
 pub mod Telling
 pub mod AnswerBytes
 pub mod Outstanding
@@ -31,6 +33,7 @@ pub mod ClassLayouts
 pub mod PieceTransfers
 pub mod WorkedSpelling
 pub mod WorkedJoined
+pub mod WorkedArrived
 pub mod WorkedComing
 pub mod WorkedUnspoiled
 pub mod WorkedTaking

@@ -15,7 +15,7 @@ ghost use Rattle.tmc_law.specs.Halts.{halts, halt_answers};
 ghost use Rattle.tmc_law.specs.BulkIn.{NoPacketWanted};
 ghost use Rattle.tmc_law.specs.Put.{Put, answer_of, ended, success, stalled};
 ghost use Rattle.tmc_law.specs.Queues.{pending_most};
-ghost use Rattle.tmc_law.specs.Step.{Move, Spells, Comes, Refuses, Take, Begin, Fill, Pend, Poll, Steps};
+ghost use Rattle.tmc_law.specs.Step.{Move, Comes, Refuses, Take, Begin, Fill, Pend, Poll, Steps};
 ghost use Rattle.tmc_law.specs.Run.{Runs, outputs, SpellsPut};
 ghost use Rattle.tmc_law.specs.WorkedQuery.{asking, answering, query_log, query_down, identity};
 ghost use Rattle.tmc_law.specs.WorkedRead.{reading, read_log};
@@ -38,7 +38,7 @@ ghost use Rattle.tmc_law.specs.WorkedUnknown.{stalling, string_submit, configure
 ghost use Rattle.tmc_law.specs.WorkedDeclined.{declining};
 ghost use Rattle.tmc_law.specs.WorkedDeclinedIn.{declining_in};
 ghost use Rattle.tmc_law.specs.WorkedRefused.{number_field, command_field, pending_field, coming_twice, coming_wrong, coming_many, one_came};
-ghost use Rattle.tmc_law.specs.WorkedSession.{in_submit};
+ghost use Rattle.tmc_law.specs.WorkedSession.{devid, in_submit};
 ghost use Rattle.tmc_law.specs.WorkedService.{requesting, service_log};
 ghost use Rattle.tmc_law.specs.WorkedInterrupt.{interrupting, interrupt_log};
 ghost use Rattle.tmc_law.specs.WorkedUnplug.{unplugging};
@@ -55,7 +55,7 @@ pub fn a_query_is_answered()
 
 /// The same as bytes, step by step.
 pub fn a_query_is_told()
-    ensures { Tells start told_query (record start { log = query_log }) }
+    ensures { Tells devid start told_query (record start { log = query_log }) }
 {}
 
 /// An unlink hits a Bulk-IN submit with a packet in it, and a second one misses. The packet is lost, and the next
@@ -307,9 +307,9 @@ pub fn no_number_comes_twice()
 pub fn no_more_come_than_may_be_pending()
     ensures none { (s t : State) (head : SubmitHead) (transferred : List ℕ) (puts : List Put) → pending_most ≤ length (pending s)
         → Steps s (Comes (up.Submit head transferred)) puts t → ⊥ }
-    ensures refused { (s : State) (head : SubmitHead) (transferred bytes rest : List ℕ) → s.presence ≡ Plugged
-        → pending_most ≤ length (pending s) → Spells (up.Submit head transferred) bytes
-        → Steps s (Refuses (bytes ++ rest) pending_field) [] (record s { presence = Closed pending_field }) }
+    ensures refused { (devid : ℕ) (s : State) (head : SubmitHead) (transferred bytes rest : List ℕ) → s.presence ≡ Plugged
+        → pending_most ≤ length (pending s) → up.Spells devid (up.Submit head transferred) bytes
+        → Steps s (Refuses devid (bytes ++ rest) pending_field) [] (record s { presence = Closed pending_field }) }
 {}
 
 /// A submit on a halted endpoint is turned away, and nothing else happens.
