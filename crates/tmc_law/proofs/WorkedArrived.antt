@@ -7,7 +7,7 @@ use Rattle.usbip_wire.specs.declared.urb.Dir.TheVariants.{Out, In}
 use Rattle.usbip_wire.specs.declared.submit.SubmitHead.{SubmitHead}
 use Rattle.usbip_wire.specs.Submit.{Carries}
 use Rattle.tmc_law.specs.Queues.{IsSubmit, IsUnlink}
-use Rattle.tmc_law.specs.WorkedSession.{unlink}
+use Rattle.tmc_law.specs.WorkedSession.{devid, unlink}
 use Rattle.tmc_law.proofs.AnswerBytes.{each_wide}
 
 -- each of these is below a limit
@@ -54,4 +54,4 @@ submitted head transferred e =
     }
 
 pub unlinked : (seqnum target : ℕ) → seqnum < 2 ^ 32 → target < 2 ^ 32 → IsUnlink (unlink seqnum target)
-unlinked seqnum target number other = each_wide _ (number, (lit< tt, (other, tt)))
+unlinked seqnum target number other = each_wide (seqnum ∷ devid ∷ target ∷ []) (number, (lit< tt, (other, tt)))

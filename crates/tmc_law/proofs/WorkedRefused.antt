@@ -46,9 +46,9 @@ refuses_command = record { plugged = refl; leads = (ByField (7, [], lit< tt, ref
 pub comes_wrong : Runs start coming_wrong (record start { presence = Closed command_field })
 comes_wrong = (record start { presence = Closed command_field }, refuses_command, refl)
 
-pub refuses_more : (devid : ℕ) (s : State) (head : SubmitHead) (transferred bytes rest : List ℕ) → s.presence ≡ Plugged → pending_most ≤ length (pending s)
-    → up.Spells devid (up.Submit head transferred) bytes → Steps s (Refuses devid (bytes ++ rest) pending_field) [] (record s { presence = Closed pending_field })
-refuses_more devid s head transferred bytes rest plugged many spelled = record {
+pub refuses_more : (n : ℕ) (s : State) (head : SubmitHead) (transferred bytes rest : List ℕ) → s.presence ≡ Plugged → pending_most ≤ length (pending s)
+    → up.Spells n (up.Submit head transferred) bytes → Steps s (Refuses n (bytes ++ rest) pending_field) [] (record s { presence = Closed pending_field })
+refuses_more n s head transferred bytes rest plugged many spelled = record {
   plugged = plugged;
   leads = (ByPending head transferred bytes rest refl spelled (TooMany many refl), refl, refl);
 }

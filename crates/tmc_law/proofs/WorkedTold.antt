@@ -7,16 +7,16 @@ use Rattle.usbip_wire.specs.Submit.{submit_bytes}
 use Rattle.usbip_wire.specs.RetSubmit.{ret_submit_bytes}
 use Rattle.usbip_wire.specs.Up as up
 use Rattle.tmc_law.specs.State.{State, start}
-use Rattle.tmc_law.specs.Put.{Put}
-use Rattle.tmc_law.specs.Step.{Move, Comes, Steps}
+use Rattle.tmc_law.specs.Put.{Put, success}
+use Rattle.tmc_law.specs.Step.{Move, Comes, Take, Exec, Steps}
 use Rattle.tmc_law.specs.Run.{TakesIn, SpellAll, SpellsPut}
 use Rattle.tmc_law.specs.Told.{Means, Tells}
-use Rattle.tmc_law.specs.WorkedSession.{devid}
-use Rattle.tmc_law.specs.WorkedQuery.{query_submit, request_submit, response_submit, query_text, request_text, response_text}
-use Rattle.tmc_law.specs.WorkedTold.{query_up, request_up, response_up, success_down, takes_in, puts_out, told_query}
+use Rattle.tmc_law.specs.WorkedSession.{devid, submits, step, answered}
+use Rattle.tmc_law.specs.WorkedQuery.{query_submit, request_submit, response_submit, query_text, request_text, response_text, answering}
+use Rattle.tmc_law.specs.WorkedTold.{query_up, request_up, response_up, success_down, takes_in, puts_out, told_query, told_at_once}
 use Rattle.tmc_law.proofs.WorkedSpelling.{submit_spells, success_spelled}
 use Rattle.tmc_law.proofs.WorkedComing.{out_comes, in_comes}
-use Rattle.tmc_law.proofs.WorkedQuery.{query_came, request_came, came, waits, executed, requested, sends, done, takes_query, executes_query, takes_request, begins_response, fills_response}
+use Rattle.tmc_law.proofs.WorkedQuery.{query_came, request_came, came, waits, executed, requested, sends, done, takes_query, executes_query, takes_request, begins_response, fills_response, answers}
 
 one : {M : Type 0} (S : M → List ℕ → Type 0) (m : M) (bytes : List ℕ) → S m bytes → SpellAll S (m ∷ []) bytes
 one {M} S m bytes s = (bytes, [], sym (append-nil bytes), s, refl)
@@ -92,3 +92,45 @@ tells_query = (
     ),
   ),
 )
+
+-- ---- the same in two calls
+
+brings_all : Means devid start (takes_in (query_up ++ (request_up ++ response_up))) came
+brings_all = record {
+  run = submits query_submit query_text ∷ submits request_submit request_text ∷ submits response_submit [] ∷ [];
+  goes = (
+    query_came,
+    out_comes start 1 20 query_text (record { plugged = refl; free = refl; few = refl }) refl refl,
+    (
+      request_came,
+      out_comes query_came 2 12 request_text (record { plugged = refl; free = refl; few = refl }) refl refl,
+      (came, in_comes request_came 3 4096 (record { plugged = refl; free = refl; few = refl }) refl refl, refl),
+    ),
+  );
+  took = (query_up, request_up ++ response_up, refl, query_spelled, (request_up, response_up, refl, request_spelled, (response_up, [], refl, response_spelled, refl)));
+  put = refl;
+}
+
+goes_far : Means devid came (puts_out (success_down 1 20 ++ (success_down 2 12 ++ (success_down 3 32 ++ response_text)))) done
+unfolding ret_submit_bytes fields
+goes_far = record {
+  run = step (Take 1) (answered query_submit success 20 [] ∷ []) ∷ step Exec [] ∷ step (Take 1) (answered request_submit success 12 [] ∷ []) ∷ answering;
+  goes = (waits, takes_query, (executed, executes_query, (requested, takes_request, answers)));
+  took = ([], [], refl, refl, ([], [], refl, refl, ([], [], refl, refl, ([], [], refl, refl, ([], [], refl, refl, refl)))));
+  put = (
+    success_down 1 20,
+    success_down 2 12 ++ (success_down 3 32 ++ response_text),
+    refl,
+    success_spelled query_submit 20 [] (lit< tt) (lit< tt) (lit≤ tt) refl,
+    (
+      success_down 2 12,
+      success_down 3 32 ++ response_text,
+      refl,
+      success_spelled request_submit 12 [] (lit< tt) (lit< tt) (lit≤ tt) refl,
+      (success_down 3 32 ++ response_text, [], refl, success_spelled response_submit 32 response_text (lit< tt) (lit< tt) (lit≤ tt) refl, refl),
+    ),
+  );
+}
+
+pub tells_at_once : Tells devid start told_at_once done
+tells_at_once = (came, brings_all, (done, goes_far, refl))
