@@ -1,6 +1,7 @@
 ghost use Rattle.std.specs.Prelude.{◌≡◌, ℕ, ◌+◌, ◌-◌, ◌<◌, ◌^◌, List, ◌++◌, length, take};
 ghost use Rattle.usb_setup.specs.declared.setup.Setup.{Setup};
 ghost use Rattle.usb_setup.specs.declared.ends.Ends.{Ends};
+ghost use Rattle.tmc_wire.specs.declared.usbtmc.TheConstants.{BULK_HEADER};
 ghost use Rattle.tmc_wire.specs.declared.header.OutHeader.{OutHeader};
 ghost use Rattle.tmc_wire.specs.declared.header.InHeader.{InHeader};
 ghost use Rattle.tmc_wire.specs.declared.class_request.ClassRequest.{ClassRequest};
@@ -11,9 +12,10 @@ ghost use Rattle.tmc_wire.specs.Transfer.{OutText, InText, data_size, alignment_
 ghost use Rattle.tmc_wire.specs.ControlTable.{row, TagFits, IsRow};
 ghost use Rattle.tmc_wire.specs.ClassAnswer.{answer_length};
 
-/// The laws of bulk headers. A header has 12 bytes, which are no other header's, and it is read whatever follows
-/// them. So `read_out(&out_bytes(header))` is `Ok(header)`, and likewise for `read_in` and `in_bytes`.
+/// The laws of bulk headers. A header has [`BULK_HEADER`](crate::BULK_HEADER) bytes, which are 12 and no other
+/// header's, and it is read whatever follows them. So `read_out(&out_bytes(header))` is `Ok(header)`, and likewise for `read_in` and `in_bytes`.
 pub fn headers_are_read_again()
+    ensures size { BULK_HEADER ≡ header_size }
     ensures out_size { (header : OutHeader) (bytes : List ℕ) →
         IsOutHeader header bytes → length bytes ≡ header_size }
     ensures out_one { (a b : OutHeader) (bytes : List ℕ) →
