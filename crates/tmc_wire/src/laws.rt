@@ -6,14 +6,15 @@ ghost use Rattle.tmc_wire.specs.declared.header.OutHeader.{OutHeader};
 ghost use Rattle.tmc_wire.specs.declared.header.InHeader.{InHeader};
 ghost use Rattle.tmc_wire.specs.declared.class_request.ClassRequest.{ClassRequest};
 ghost use Rattle.tmc_wire.specs.Standard.{header_size};
-ghost use Rattle.tmc_wire.specs.Header.{IsOutHeader, IsInHeader, prefix, sized};
+ghost use Rattle.tmc_wire.specs.Header.{IsOutHeader, IsInHeader, IsOutProper, IsInProper, OutFits, InFits, out_header_bytes, in_header_bytes, prefix, sized};
 ghost use Rattle.tmc_wire.specs.HeaderFault.{MsgID, bTag, bTagInverse, TransferSize};
 ghost use Rattle.tmc_wire.specs.Transfer.{OutText, InText, data_size, alignment_of};
 ghost use Rattle.tmc_wire.specs.ControlTable.{row, TagFits, IsRow};
 ghost use Rattle.tmc_wire.specs.ClassAnswer.{answer_length};
 
 /// The laws of bulk headers. A header has [`BULK_HEADER`](crate::BULK_HEADER) bytes, which are 12 and no other
-/// header's, and it is read whatever follows them. So `read_out(&out_bytes(header))` is `Ok(header)`, and likewise for `read_in` and `in_bytes`.
+/// header's, and it is read whatever follows them. The bytes that are written of a header are that header. So
+/// `read_out(&out_bytes(header))` is `Ok(header)`, and likewise for `read_in` and `in_bytes`.
 pub fn headers_are_read_again()
     ensures size { BULK_HEADER ≡ header_size }
     ensures out_size { (header : OutHeader) (bytes : List ℕ) →
@@ -22,12 +23,16 @@ pub fn headers_are_read_again()
         IsOutHeader a bytes → IsOutHeader b bytes → a ≡ b }
     ensures out_front { (header : OutHeader) (bytes more : List ℕ) →
         IsOutHeader header bytes → IsOutHeader header (take header_size (bytes ++ more)) }
+    ensures out_written { (header : OutHeader) →
+        IsOutProper header → OutFits header → IsOutHeader header (out_header_bytes header) }
     ensures in_size { (header : InHeader) (bytes : List ℕ) →
         IsInHeader header bytes → length bytes ≡ header_size }
     ensures in_one { (a b : InHeader) (bytes : List ℕ) →
         IsInHeader a bytes → IsInHeader b bytes → a ≡ b }
     ensures in_front { (header : InHeader) (bytes more : List ℕ) →
         IsInHeader header bytes → IsInHeader header (take header_size (bytes ++ more)) }
+    ensures in_written { (header : InHeader) →
+        IsInProper header → InFits header → IsInHeader header (in_header_bytes header) }
 {}
 
 /// The law that a reader's fields, each at its offset, are those of the layout that headers are written by,
