@@ -1,4 +1,4 @@
-ghost use Rattle.std.specs.Prelude.{◌≡◌, ℕ, List};
+ghost use Rattle.std.specs.Prelude.{◌≡◌, ◌⊎◌, ℕ, List};
 ghost use Rattle.ieee_syntax.specs.declared.unit.Unit.{Unit};
 ghost use Rattle.ieee_syntax.specs.Program.{Program, FaultAt};
 
@@ -10,4 +10,12 @@ pub fn one_reading()
 /// Bytes that are no message have one place where they go wrong.
 pub fn one_fault()
     ensures { (bytes : List ℕ) (place other : ℕ) → FaultAt bytes place → FaultAt bytes other → place ≡ other }
+{}
+
+/// Bytes are a message or go wrong at a place, and not both.
+pub fn a_message_or_a_fault()
+    ensures either { (bytes : List ℕ) →
+        ((us : List Unit) × Program bytes us) ⊎ ((place : ℕ) × FaultAt bytes place) }
+    ensures not_both { (bytes : List ℕ) (us : List Unit) (place : ℕ) →
+        Program bytes us → FaultAt bytes place → ⊥ }
 {}

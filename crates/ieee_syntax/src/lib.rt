@@ -19,7 +19,7 @@ mod unit;
 pub use args::Args;
 pub use fault::SyntaxFault;
 pub use head::Head;
-pub use laws::{one_fault, one_reading};
+pub use laws::{a_message_or_a_fault, one_fault, one_reading};
 pub use nrf::Nrf;
 pub use scan::units;
 pub use unit::Unit;

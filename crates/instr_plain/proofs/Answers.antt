@@ -12,7 +12,7 @@ use Rattle.instr_plain.specs.declared.answer.Answer.{Answer}
 use Rattle.instr_plain.specs.declared.answer.Answer.TheVariants.{Block}
 use Rattle.instr_plain.specs.Status.{query_error, with_event}
 use Rattle.instr_plain.specs.Answer.{samples, bytes_of, is_last}
-use Rattle.instr_plain.specs.Exec.{Progress, response_of, some_stand, told}
+use Rattle.instr_plain.specs.Exec.{response_most, Progress, response_of, some_stand, told}
 use Rattle.instr_plain.specs.Output.{parts_of, Written, written, IsAt, with_answer, is_too_long}
 
 -- answers end with `;`, and as a response with NL
@@ -84,7 +84,7 @@ some_stand-parts_of ((byte ∷ bytes) ∷ answers) = grind (arith, nat_tests)
 
 -- an answer is written as it is told
 told_fits : (answer : Answer) (state : Plain) (answers : List (List ℕ)) (ended : Bool)
-    → leb (length (parts_of answers) + length (bytes_of answer) + 1) 65535 ≡ true
+    → leb (length (parts_of answers) + length (bytes_of answer) + 1) response_most ≡ true
     → IsAt (told (Some answer) (record { state = state; answers = answers; dropped = false; ended = ended })) state (with_answer answer (record { bytes = parts_of answers; dropped = false; ended = ended }))
 told_fits answer state answers ended fit =
     rw (length-response_of_push answers (bytes_of answer), fit) (record {
@@ -93,7 +93,7 @@ told_fits answer state answers ended fit =
     })
 
 told_long : (answer : Answer) (state : Plain) (answers : List (List ℕ)) (ended : Bool)
-    → leb (length (parts_of answers) + length (bytes_of answer) + 1) 65535 ≡ false
+    → leb (length (parts_of answers) + length (bytes_of answer) + 1) response_most ≡ false
     → IsAt (told (Some answer) (record { state = state; answers = answers; dropped = false; ended = ended })) (with_event query_error state) (with_answer answer (record { bytes = parts_of answers; dropped = false; ended = ended }))
 told_long answer state answers ended long =
     rw (length-response_of_push answers (bytes_of answer), long) (record { state_is = refl; output_is = refl })

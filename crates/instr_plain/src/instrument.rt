@@ -1,7 +1,7 @@
 ghost use Rattle.std.specs.Prelude.{◌≡◌, ◌≤◌, ℕ, OnOk, OnErr, IfOk, length, []};
 ghost use Rattle.instr_plain.specs.Status.{enabled, is_unread, request_behind};
 ghost use Rattle.instr_plain.specs.Standing.{at_power_on, polled_byte};
-ghost use Rattle.instr_plain.specs.Exec.{Exec};
+ghost use Rattle.instr_plain.specs.Exec.{Exec, response_most};
 ghost use Rattle.instr_plain.specs.Log.{After};
 
 use crate::output::Output;
@@ -74,9 +74,10 @@ impl Instrument {
         Ok(())
     }
 
-    /// The bytes of the response that were not read.
+    /// The bytes of the response that were not read, at most 65,535.
     pub fn response(&self) -> &[u8]
-        ensures { result.now ≡ self.now.unread }
+        ensures unread { result.now ≡ self.now.unread }
+        ensures short { length result.now ≤ response_most }
     {
         &self.output.bytes()[self.taken..]
     }

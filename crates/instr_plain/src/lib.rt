@@ -26,7 +26,10 @@ mod tests;
 pub use answer::Answer;
 pub use command::Command;
 pub use instrument::Instrument;
-pub use laws::{grows, keeps_responses, one_response, one_standing, responds};
+pub use laws::{
+    each_entry_leads_to_one_standing, each_message_has_one_outcome, grows, keeps_responses,
+    one_response, one_standing, responds, what_is_unread_is_short,
+};
 pub use log::LogEntry;
 pub use plain::Plain;
 pub use remote::{RemoteAct, RemoteState};

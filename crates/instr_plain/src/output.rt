@@ -1,4 +1,5 @@
 ghost use Rattle.std.specs.Prelude.{◌≡◌, ◌+◌, ◌<◌, ◌≤◌, ◌++◌, ◌∷◌, [], true, false, length, vec_capacity, IfOk};
+ghost use Rattle.tmc_base.specs.declared.limits.TheConstants.{RESPONSE_MAX};
 ghost use Rattle.instr_plain.specs.Answer.{bytes_of, samples};
 ghost use Rattle.instr_plain.specs.Exec.{Progress, response_of};
 ghost use Rattle.instr_plain.specs.Output.{Written, with_answer, is_too_long, parts_of};
@@ -20,13 +21,14 @@ pub(crate) struct Output {
 
 impl Model for Output {
     ghost use Rattle.std.specs.Prelude.{◌≤◌, length, vec_capacity};
+    ghost use Rattle.tmc_base.specs.declared.limits.TheConstants.{RESPONSE_MAX};
     ghost use Rattle.instr_plain.specs.Output.{Written};
 
     ghost Value = { Written };
 
     ghost view = { λ a. record { bytes = a.bytes.items; dropped = a.dropped; ended = a.ended } };
 
-    ghost invariant = { λ a. (65535 ≤ vec_capacity a.bytes) × (length a.bytes.items ≤ 65535) };
+    ghost invariant = { λ a. (RESPONSE_MAX ≤ vec_capacity a.bytes) × (length a.bytes.items ≤ RESPONSE_MAX) };
 }
 
 impl Output {
@@ -52,7 +54,8 @@ impl Output {
 
     /// What is written.
     pub(crate) fn bytes(&self) -> &[u8]
-        ensures { result.now ≡ self.now.bytes }
+        ensures written { result.now ≡ self.now.bytes }
+        ensures short { length result.now ≤ RESPONSE_MAX }
     {
         self.bytes.as_slice()
     }

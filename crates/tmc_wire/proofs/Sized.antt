@@ -1,11 +1,11 @@
 -- headers as they are written are headers
-use Rattle.std.proofs.Common.{◌≡◌, ℕ, ◌^◌, ◌<◌, Bool, true, false, List, [], ◌∷◌, refl, sym, subst}
+use Rattle.std.proofs.Common.{◌≡◌, ℕ, Bool, true, false, List, [], ◌∷◌, refl, sym, subst}
 use Rattle.std.specs.Int.{from_bool}
 use Rattle.tmc_wire.specs.declared.header.OutHeader.{OutHeader}
 use Rattle.tmc_wire.specs.declared.header.OutHeader.TheVariants.{Message, Request, Trigger}
 use Rattle.tmc_wire.specs.declared.header.InHeader.{InHeader}
 use Rattle.tmc_wire.specs.Standard.{dev_dep_msg_out, request_dev_dep_msg_in, dev_dep_msg_in, trigger}
-use Rattle.tmc_wire.specs.Header.{eom_bit, IsTag, IsSize, IsSized, IsTagged, HasEom, Whatever, IsOutHeader, IsOutProper, out_header_bytes, in_header_bytes}
+use Rattle.tmc_wire.specs.Header.{eom_bit, IsTag, IsSize, IsSized, IsTagged, HasEom, Whatever, IsOutHeader, IsOutProper, OutFits, out_header_bytes, in_header_bytes}
 
 pub eom_bit-from_bool : (eom : Bool) → from_bool eom ≡ eom_bit eom
 eom_bit-from_bool true = refl
@@ -67,14 +67,8 @@ response_written header t s = record {
   layout = refl;
 }
 
--- the numbers of a header fit their types
-abbrev pub IsInRange : OutHeader → Type 0
-IsInRange (Message tag size eom) = (tag < 256) × (size < 2 ^ 32)
-IsInRange (Request tag size) = (tag < 256) × (size < 2 ^ 32)
-IsInRange (Trigger tag) = tag < 256
-
 -- a Bulk-OUT header as it is written is that header
-pub header_written : (header : OutHeader) (bytes : List ℕ) → IsOutProper header → IsInRange header → bytes ≡ out_header_bytes header → IsOutHeader header bytes
+pub header_written : (header : OutHeader) (bytes : List ℕ) → IsOutProper header → OutFits header → bytes ≡ out_header_bytes header → IsOutHeader header bytes
 header_written (Message tag size eom) bytes proper fits e = subst (IsSized dev_dep_msg_out tag size (HasEom eom)) (sym e) (message_written tag size eom (proper.0, fits.0) (proper.1, fits.1))
 header_written (Request tag size) bytes proper fits e = subst (IsSized request_dev_dep_msg_in tag size Whatever) (sym e) (request_written tag size (proper.0, fits.0) (proper.1, fits.1))
 header_written (Trigger tag) bytes proper fits e = subst (IsTagged trigger tag) (sym e) (trigger_written tag (proper, fits))

@@ -74,6 +74,15 @@ IsOutProper (Trigger tag) = 0 < tag
 abbrev pub IsInProper : InHeader → Type 0
 IsInProper header = (0 < header.tag) × (0 < header.size)
 
+-- the numbers of a header fit their fields
+abbrev pub OutFits : OutHeader → Type 0
+OutFits (Message tag size eom) = (tag < 256) × (size < 2 ^ 32)
+OutFits (Request tag size) = (tag < 256) × (size < 2 ^ 32)
+OutFits (Trigger tag) = tag < 256
+
+abbrev pub InFits : InHeader → Type 0
+InFits header = (header.tag < 256) × (header.size < 2 ^ 32)
+
 -- the headers as this product writes them, with 0 in what they do not use
 unfoldable pub out_header_bytes : OutHeader → List ℕ
 out_header_bytes (Message tag size eom) = prefix dev_dep_msg_out tag 0 ++ sized size (eom_bit eom) 0 0 0

@@ -22,6 +22,9 @@ pub use class_answer::{ClassAnswer, read_answer};
 pub use class_request::{ClassRequest, class_setup, read_class};
 pub use header::{InHeader, OutHeader, in_bytes, out_bytes, read_in, read_out};
 pub use header_fault::HeaderFault;
-pub use laws::{header_offsets_are_laid_out, headers_are_read_again, requests_are_read_again};
+pub use laws::{
+    header_offsets_are_laid_out, headers_are_read_again, requests_are_read_again,
+    transfers_are_read_again,
+};
 pub use notify::{Notify, read_notify};
 pub use usbtmc::BULK_HEADER;

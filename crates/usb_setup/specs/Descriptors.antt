@@ -1,7 +1,7 @@
 -- lists of descriptors: USB 2.0 chapter 9
 use Rattle.std.specs.Prelude.{◌≡◌, ◌≢◌, ◌⊎◌, ℕ, ◌+◌, ◌*◌, ◌<◌, ◌≤◌, List, [], ◌++◌, length, slice_index, ◌==◌, if◌then◌else◌}
 use Rattle.std.specs.List.{concat, AllByRecursion}
-use Rattle.usb_setup.specs.Standard.{configuration_type, interface_type, endpoint_type, configuration_size, interface_size, endpoint_size, ConfigurationDescriptor, InterfaceDescriptor, EndpointDescriptor}
+use Rattle.usb_setup.specs.Standard.{device_type, configuration_type, interface_type, endpoint_type, device_size, configuration_size, interface_size, endpoint_size, ConfigurationDescriptor, InterfaceDescriptor, EndpointDescriptor}
 
 -- the two bytes from a place on, the low one first
 abbrev pub word_at : ℕ → List ℕ → ℕ
@@ -47,7 +47,8 @@ wMaxPacketSize d = word_at 4 d
 -- is ignored, and a shorter one is invalid (section 9.5)
 abbrev pub size_of : ℕ → ℕ
 size_of t =
-    if t == configuration_type then configuration_size
+    if t == device_type then device_size
+    else if t == configuration_type then configuration_size
     else if t == interface_type then interface_size
     else if t == endpoint_type then endpoint_size
     else 0

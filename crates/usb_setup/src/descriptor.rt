@@ -4,8 +4,8 @@ ghost use Rattle.usb_setup.specs.Interface.{is_tmc, is_endpoint};
 ghost use Rattle.usb_setup.specs.Scan.{interface_of, endpoint_of};
 
 use crate::standard::{
-    CONFIGURATION, CONFIGURATION_SIZE, ENDPOINT, ENDPOINT_SIZE, HEAD_SIZE, INTERFACE,
-    INTERFACE_SIZE, TMC_CLASS, TMC_SUBCLASS, USB488, USBTMC,
+    CONFIGURATION, CONFIGURATION_SIZE, DEVICE, DEVICE_SIZE, ENDPOINT, ENDPOINT_SIZE, HEAD_SIZE,
+    INTERFACE, INTERFACE_SIZE, TMC_CLASS, TMC_SUBCLASS, USB488, USBTMC,
 };
 
 /// What is kept of a USBTMC interface.
@@ -28,6 +28,7 @@ fn size_of_type(descriptor_type: u8) -> u8
     ensures { result ≡ size_of descriptor_type }
 {
     match descriptor_type {
+        DEVICE => DEVICE_SIZE,
         CONFIGURATION => CONFIGURATION_SIZE,
         INTERFACE => INTERFACE_SIZE,
         ENDPOINT => ENDPOINT_SIZE,

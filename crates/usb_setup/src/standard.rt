@@ -1,5 +1,7 @@
 //! The numbers of USB 2.0, chapter 9, and of the USBTMC class.
 
+/// bDescriptorType of a device descriptor: table 9-5.
+pub(crate) const DEVICE: u8 = 1;
 /// bDescriptorType of a configuration descriptor: table 9-5.
 pub(crate) const CONFIGURATION: u8 = 2;
 /// bDescriptorType of an interface descriptor: table 9-5.
@@ -9,6 +11,8 @@ pub(crate) const ENDPOINT: u8 = 5;
 
 /// The size of what every descriptor begins with, bLength and bDescriptorType: section 9.5.
 pub(crate) const HEAD_SIZE: u8 = 2;
+/// The size of a device descriptor: table 9-8.
+pub(crate) const DEVICE_SIZE: u8 = 18;
 /// The size of a configuration descriptor: table 9-10.
 pub(crate) const CONFIGURATION_SIZE: u8 = 9;
 /// The size of an interface descriptor: table 9-12.

@@ -229,6 +229,12 @@ const ALTERNATES: [u8; 41] = [
     0x07, 0x05, 0x82, 0x02, 0x40, 0x00, 0x00, // Bulk-IN
 ];
 
+/// A configuration with a device descriptor of four bytes behind it, where one has 18.
+const SHORT_DEVICE: [u8; 13] = [
+    0x09, 0x02, 0x0D, 0x00, 0x00, 0x01, 0x00, 0xC0, 0x00, // the configuration
+    0x04, 0x01, 0x00, 0x00, // the device
+];
+
 #[test]
 fn whole_and_cut_lists(rt: HostRuntime) {
     let composite = Ends {
@@ -244,7 +250,7 @@ fn whole_and_cut_lists(rt: HostRuntime) {
     let mut without_notify = COMPOSITE;
     without_notify[113] = 0x24;
     let own = configuration();
-    let cases: [(&[u8], Result<Ends, DescFault>); 9] = [
+    let cases: [(&[u8], Result<Ends, DescFault>); 10] = [
         (&COMPOSITE, Ok(composite)),
         // without the interfaces behind it
         (&COMPOSITE[..119], Ok(composite)),
@@ -257,6 +263,7 @@ fn whole_and_cut_lists(rt: HostRuntime) {
             }),
         ),
         (&ALTERNATES, Err(DescFault::NoBulkOut)),
+        (&SHORT_DEVICE, length_fault(9)),
         (&[], length_fault(0)),
         (&[0x09, 0x02], length_fault(0)),
         (&own[..9], Err(DescFault::NoInterface)),

@@ -17,7 +17,7 @@ returns-in-Some c = λ before at.
       | else-is_query-via-else-is_query w ↦
           false-and (is_query c.args.command.now) before.ended (sym c.is_query.ensures ∙ w.if-is_query.false)
     ] in
-    let bytes = ap (λ (o : Written). o.bytes) at.output_is ∙ sym c.bytes.ensures in
+    let bytes = ap (λ (o : Written). o.bytes) at.output_is ∙ sym c.bytes.ensures.written in
     let stands = sym (some_stand-parts_of before.answers) ∙ ap (λ bs. not (length bs == 0)) bytes ∙ ap not (sym c.is_empty-available.ensures) in
     let outcome = ap (λ available. outcome_of c.args.command.now available before.state) stands
     ∙ ap (λ state. outcome_of c.args.command.now (not c.is_empty-available.result) state) at.state_is ∙ c.in-Some.ensures in

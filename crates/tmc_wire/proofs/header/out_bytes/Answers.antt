@@ -1,7 +1,7 @@
 use Rattle.std.proofs.Common.{◌++◌, refl, ap, ◌∙◌, arith}
 use Rattle.tmc_wire.specs.Standard.{dev_dep_msg_out}
-use Rattle.tmc_wire.specs.Header.{prefix, sized, out_header_bytes}
-use Rattle.tmc_wire.proofs.Sized.{eom_bit-from_bool, header_written, IsInRange}
+use Rattle.tmc_wire.specs.Header.{OutFits, prefix, sized, out_header_bytes}
+use Rattle.tmc_wire.proofs.Sized.{eom_bit-from_bool, header_written}
 use Rattle.tmc_wire.proofs.header.out_bytes.Goals as goal
 
 pub returns-in-Message-clause-written : goal.returns-in-Message-clause-written
@@ -11,7 +11,7 @@ returns-in-Message-clause-written c =
 
 pub returns-in-Message-clause-spelled : goal.returns-in-Message-clause-spelled
 returns-in-Message-clause-spelled c =
-    let fits : IsInRange c.args.header = rw c.in-Message.is (omega arith, omega arith) in
+    let fits : OutFits c.args.header = rw c.in-Message.is (omega arith, omega arith) in
     header_written c.args.header _ c.requires fits (returns-in-Message-clause-written c)
 
 pub returns-in-Request-clause-written : goal.returns-in-Request-clause-written
@@ -20,7 +20,7 @@ returns-in-Request-clause-written c = rw c.in-Request.is c.sized_bytes-in-Reques
 
 pub returns-in-Request-clause-spelled : goal.returns-in-Request-clause-spelled
 returns-in-Request-clause-spelled c =
-    let fits : IsInRange c.args.header = rw c.in-Request.is (omega arith, omega arith) in
+    let fits : OutFits c.args.header = rw c.in-Request.is (omega arith, omega arith) in
     header_written c.args.header _ c.requires fits (returns-in-Request-clause-written c)
 
 pub returns-in-Trigger-clause-written : goal.returns-in-Trigger-clause-written
