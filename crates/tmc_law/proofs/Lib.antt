@@ -1,3 +1,4 @@
+pub mod SetupRows
 pub mod Joined
 pub mod Present
 pub mod Grown
