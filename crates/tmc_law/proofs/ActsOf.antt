@@ -8,8 +8,8 @@ use Rattle.tmc_wire.specs.declared.class_request.ClassRequest.{ClassRequest}
 use Rattle.tmc_wire.specs.declared.class_request.ClassRequest.TheVariants.{AbortOut, CheckOut, AbortIn, CheckIn, Clear, CheckClear, Capabilities, Pulse, ReadStatus, Ren, GoLocal, Lockout}
 use Rattle.instr_plain.specs.declared.log.LogEntry.{LogEntry}
 use Rattle.tmc_law.specs.Endpoint.{Endpoint, Control, BulkOut, BulkIn, InterruptIn, packet_size}
-use Rattle.tmc_law.specs.State.{State, Pending, Transfer, Piece, Running, Nothing, AbortsOut, AbortsIn, Clears, Packet, StatusPacket, ServicePacket, room, queue_of, with_queue}
-use Rattle.tmc_law.specs.Put.{Put, success, stalled, unlinked}
+use Rattle.tmc_law.specs.State.{State, pending, Avoids, Pending, Transfer, Piece, Running, Nothing, AbortsOut, AbortsIn, Clears, Packet, StatusPacket, ServicePacket, room, queue_of, with_queue}
+use Rattle.tmc_law.specs.Put.{Put, success, stalled}
 use Rattle.tmc_law.specs.Logging.{Logs}
 use Rattle.tmc_law.specs.Control.{control_answer, sent_back}
 use Rattle.tmc_law.specs.Queues.{Unlinks, Hits, Polled, Misses}
@@ -23,8 +23,9 @@ use Rattle.tmc_law.specs.Status as status
 use Rattle.tmc_law.specs.Class as class
 use Rattle.usbip_wire.specs.Up as up
 use Rattle.tmc_law.specs.Step.{Move, Comes, Refuses, Take, Exec, Begin, Fill, Answer, Pend, Poll, Notify, Halt, Unplug, Leads}
-use Rattle.tmc_law.proofs.Queued.{SameQueues, same_refl, is_same, FirstPolled, NonePolled, Sized, FitsAt, Each}
-use Rattle.tmc_law.proofs.Acts.{Acts, Done, Replies, Leaves, Changes, Says, Succeeds, Stalls, IsGone, IsTakenBack, IsLater, within, silent, all_end, all_end_here, ends, ends_later}
+use Rattle.tmc_law.specs.Acts.{SameQueues, Sized, FitsAt, IsLater, Succeeds, Stalls, IsGone, Acts, Done, Replies, Changes, Hit, Miss, unlinks_of, IsArrival}
+use Rattle.tmc_law.proofs.Queued.{same_refl, is_same, FirstPolled, NonePolled, IsSound, here_not, here-with, times, times-append, times_own}
+use Rattle.tmc_law.proofs.Acts.{within, silent, all_end, all_end_here, ends, ends_later}
 
 -- what is logged changes no queue
 logs_same : (entry : LogEntry) (w s t : State) → SameQueues w s → Logs entry s t → SameQueues w t
@@ -82,12 +83,12 @@ moves_later : (count : ℕ) (submit : Pending) (transfer : Transfer) (later : Pe
 moves_later count submit transfer later grown (out.DoesMove is growth) =
     subst (λ (x : Pending). IsLater BulkOut submit x) (sym is) (record { head = refl; polled = λ h. h; fits = fits_moved submit (count * packet_size) })
 
-takes : (s : State) (count : ℕ) (puts : List Put) (t : State) → out.Takes s count puts t → Acts t s puts
+takes : (s : State) (count : ℕ) (puts : List Put) (t : State) → out.Takes s count puts t → Acts t s [] puts
 takes s count puts t (out.Empty submit behind queue none one put is) = ends s t puts BulkOut submit behind queue put (is_same _ _ t is (same_refl _))
 takes s count puts t (out.Spoiled submit behind queue some low high spoils put is) =
-    subst (λ (p : List Put). Acts t s p) (sym put) (all_end_here t s BulkOut _ s.bulk_out Stalls refl (is_same _ _ t is (halts_same BulkOut s)))
+    subst (λ (p : List Put). Acts t s [] p) (sym put) (all_end_here t s BulkOut _ s.bulk_out Stalls refl (is_same _ _ t is (halts_same BulkOut s)))
 takes s count puts t (out.Inside submit later behind transfer grown queue some low fine belongs moves more put is) =
-    Changes s puts BulkOut submit later behind queue (moves_later count submit transfer later grown moves)
+    Changes s [] puts BulkOut submit later behind queue (moves_later count submit transfer later grown moves)
     (silent _ t puts put (is_same _ _ t is (record { control = refl; bulk_out = refl; bulk_in = refl; interrupt_in = refl })))
 takes s count puts t (out.SubmitEnds submit later behind transfer grown queue some all fine belongs moves wants put is) =
     ends_later s t puts BulkOut submit later behind queue (moves_later count submit transfer later grown moves) put
@@ -96,13 +97,13 @@ takes s count puts t (out.TransferEnds submit later behind transfer grown queue 
     ends_later s t puts BulkOut submit later behind queue (moves_later count submit transfer later grown moves) put
     (effect_same _ grown _ _ t (record { control = refl; bulk_out = refl; bulk_in = refl; interrupt_in = refl }) effect)
 
-executes : (s t : State) (puts : List Put) → out.Executes s t → puts ≡ [] → Acts t s puts
+executes : (s t : State) (puts : List Put) → out.Executes s t → puts ≡ [] → Acts t s [] puts
 executes s t puts (out.DoesExecute seq message waits logs) none =
     silent s t puts none (logs_same _ s _ t (record { control = refl; bulk_out = refl; bulk_in = refl; interrupt_in = refl }) logs)
 
 -- ---- Bulk-IN
 
-begins : (s : State) (count : ℕ) (t : State) (puts : List Put) → «in».Begins s count t → puts ≡ [] → Acts t s puts
+begins : (s : State) (count : ℕ) (t : State) (puts : List Put) → «in».Begins s count t → puts ≡ [] → Acts t s [] puts
 begins s count t puts («in».DoesBegin tag size owed free low high logs) none =
     silent s t puts none (logs_same _ s _ t (record { control = refl; bulk_out = refl; bulk_in = refl; interrupt_in = refl }) logs)
 
@@ -128,11 +129,11 @@ leaves_room : (full : ℕ) (submit : Pending) → «in».LeavesRoom full submit 
 leaves_room full submit (inl none) = rw none (omega arith)
 leaves_room full submit (inr less) = omega arith
 
-fills : (s : State) (count : ℕ) (puts : List Put) (t : State) → «in».Fills s count puts t → Acts t s puts
+fills : (s : State) (count : ℕ) (puts : List Put) (t : State) → «in».Fills s count puts t → Acts t s [] puts
 fills s count puts t («in».Ends submit behind given queue aborts one put is) =
     ends s t puts BulkIn submit behind queue put (is_same _ _ t is (record { control = refl; bulk_out = refl; bulk_in = refl; interrupt_in = refl }))
 fills s count puts t («in».Inside submit behind piece queue sends free low within_piece fits put is) =
-    Changes s puts BulkIn submit («in».filled (count * packet_size) piece submit) behind queue (filled_later submit (count * packet_size) piece (omega arith))
+    Changes s [] puts BulkIn submit («in».filled (count * packet_size) piece submit) behind queue (filled_later submit (count * packet_size) piece (omega arith))
     (silent _ t puts put (is_same _ _ t is (record { control = refl; bulk_out = refl; bulk_in = refl; interrupt_in = refl })))
 fills s count puts t («in».Full submit behind piece queue sends free low within_piece fits put is) =
     ends_later s t puts BulkIn submit («in».filled (count * packet_size) piece submit) behind queue (filled_later submit (count * packet_size) piece (omega arith)) put
@@ -141,60 +142,60 @@ fills s count puts t («in».Short submit behind piece full queue sends free cou
     ends_later s t puts BulkIn submit («in».filled (length piece.left) piece submit) behind queue (filled_later submit (length piece.left) piece fits) put
     (is_same _ _ t is (record { control = refl; bulk_out = refl; bulk_in = refl; interrupt_in = refl }))
 fills s count puts t («in».Overflows submit behind piece full queue sends free counts leaves inside over put is) =
-    Changes s puts BulkIn submit («in».filled (full * packet_size) piece submit) behind queue (filled_later submit (full * packet_size) piece (leaves_room full submit leaves))
-    (subst (λ (p : List Put). Acts t (with_queue BulkIn («in».filled (full * packet_size) piece submit ∷ behind) s) p) (sym put)
+    Changes s [] puts BulkIn submit («in».filled (full * packet_size) piece submit) behind queue (filled_later submit (full * packet_size) piece (leaves_room full submit leaves))
+    (subst (λ (p : List Put). Acts t (with_queue BulkIn («in».filled (full * packet_size) piece submit ∷ behind) s) [] p) (sym put)
     (all_end_here t (with_queue BulkIn («in».filled (full * packet_size) piece submit ∷ behind) s) BulkIn _ _ Stalls refl
     (is_same _ _ t is (record { control = refl; bulk_out = refl; bulk_in = refl; interrupt_in = refl }))))
 
 -- ---- class requests
 
-abort_out : (tag : ℕ) (s : State) (served : Served) → aborts.AbortsBulkOut tag s served → Acts served.state s served.behind
-abort_out tag s served (aborts.NotBegun layout declined is) = subst (λ (v : Served). Acts v.state s v.behind) (sym is) (Done s (same_refl s))
+abort_out : (tag : ℕ) (s : State) (served : Served) → aborts.AbortsBulkOut tag s served → Acts served.state s [] served.behind
+abort_out tag s served (aborts.NotBegun layout declined is) = subst (λ (v : Served). Acts v.state s [] v.behind) (sym is) (Done s (same_refl s))
 abort_out tag s served (aborts.DoesAbort nothing runs is) =
-    subst (λ (v : Served). Acts v.state s v.behind) (sym is)
+    subst (λ (v : Served). Acts v.state s [] v.behind) (sym is)
     (all_end_here _ s BulkOut _ s.bulk_out Stalls refl (record { control = refl; bulk_out = refl; bulk_in = refl; interrupt_in = refl }))
 
-abort_in : (tag : ℕ) (s : State) (served : Served) → aborts.AbortsBulkIn tag s served → Acts served.state s served.behind
-abort_in tag s served (aborts.NotBegun layout declined is) = subst (λ (v : Served). Acts v.state s v.behind) (sym is) (Done s (same_refl s))
+abort_in : (tag : ℕ) (s : State) (served : Served) → aborts.AbortsBulkIn tag s served → Acts served.state s [] served.behind
+abort_in tag s served (aborts.NotBegun layout declined is) = subst (λ (v : Served). Acts v.state s [] v.behind) (sym is) (Done s (same_refl s))
 abort_in tag s served (aborts.DoesAbort nothing runs is) =
-    subst (λ (v : Served). Acts v.state s v.behind) (sym is) (Done s (record { control = refl; bulk_out = refl; bulk_in = refl; interrupt_in = refl }))
+    subst (λ (v : Served). Acts v.state s [] v.behind) (sym is) (Done s (record { control = refl; bulk_out = refl; bulk_in = refl; interrupt_in = refl }))
 
-check_out : (s : State) (running : Running) → Acts (aborts.checked_out (record s { running = running })).state s (aborts.checked_out (record s { running = running })).behind
+check_out : (s : State) (running : Running) → Acts (aborts.checked_out (record s { running = running })).state s [] (aborts.checked_out (record s { running = running })).behind
 check_out s Nothing = Done s (record { control = refl; bulk_out = refl; bulk_in = refl; interrupt_in = refl })
 check_out s AbortsOut = Done s (record { control = refl; bulk_out = refl; bulk_in = refl; interrupt_in = refl })
 check_out s (AbortsIn wanting given) = Done s (record { control = refl; bulk_out = refl; bulk_in = refl; interrupt_in = refl })
 check_out s Clears = Done s (record { control = refl; bulk_out = refl; bulk_in = refl; interrupt_in = refl })
 
-check_in : (s : State) (running : Running) → Acts (aborts.checked_in (record s { running = running })).state s (aborts.checked_in (record s { running = running })).behind
+check_in : (s : State) (running : Running) → Acts (aborts.checked_in (record s { running = running })).state s [] (aborts.checked_in (record s { running = running })).behind
 check_in s Nothing = Done s (record { control = refl; bulk_out = refl; bulk_in = refl; interrupt_in = refl })
 check_in s AbortsOut = Done s (record { control = refl; bulk_out = refl; bulk_in = refl; interrupt_in = refl })
 check_in s (AbortsIn true given) = Done s (record { control = refl; bulk_out = refl; bulk_in = refl; interrupt_in = refl })
 check_in s (AbortsIn false given) = Done s (record { control = refl; bulk_out = refl; bulk_in = refl; interrupt_in = refl })
 check_in s Clears = Done s (record { control = refl; bulk_out = refl; bulk_in = refl; interrupt_in = refl })
 
-check_clear : (s : State) (running : Running) → Acts (aborts.checked_clear (record s { running = running })).state s (aborts.checked_clear (record s { running = running })).behind
+check_clear : (s : State) (running : Running) → Acts (aborts.checked_clear (record s { running = running })).state s [] (aborts.checked_clear (record s { running = running })).behind
 check_clear s Nothing = Done s (record { control = refl; bulk_out = refl; bulk_in = refl; interrupt_in = refl })
 check_clear s AbortsOut = Done s (record { control = refl; bulk_out = refl; bulk_in = refl; interrupt_in = refl })
 check_clear s (AbortsIn wanting given) = Done s (record { control = refl; bulk_out = refl; bulk_in = refl; interrupt_in = refl })
 check_clear s Clears = Done s (record { control = refl; bulk_out = refl; bulk_in = refl; interrupt_in = refl })
 
 -- a part-filled Bulk-IN submit is answered
-part_ends : (t s : State) (puts : List Put) (queue : List Pending) → s.bulk_in ≡ queue → Acts t (record s { bulk_in = aborts.without_part queue }) puts
-    → Acts t s (aborts.part_answer queue ++ puts)
-part_ends t s puts [] is h = subst (λ (x : State). Acts t x puts) (ap (λ (q : List Pending). record s { bulk_in = q }) (sym is)) h
+part_ends : (t s : State) (puts : List Put) (queue : List Pending) → s.bulk_in ≡ queue → Acts t (record s { bulk_in = aborts.without_part queue }) [] puts
+    → Acts t s [] (aborts.part_answer queue ++ puts)
+part_ends t s puts [] is h = subst (λ (x : State). Acts t x [] puts) (ap (λ (q : List Pending). record s { bulk_in = q }) (sym is)) h
 part_ends t s puts (first ∷ others) is h = by first.moved refl h
   where
     by : (moved : List ℕ) → first.moved ≡ moved
-        → Acts t (record s { bulk_in = aborts.without_part (record first { moved = moved } ∷ others) }) puts
-        → Acts t s (aborts.part_answer (record first { moved = moved } ∷ others) ++ puts)
-    by [] e g = subst (λ (x : State). Acts t x puts) (ap (λ (q : List Pending). record s { bulk_in = q }) (ap (λ (m : List ℕ). record first { moved = m } ∷ others) (sym e) ∙ sym is)) g
+        → Acts t (record s { bulk_in = aborts.without_part (record first { moved = moved } ∷ others) }) [] puts
+        → Acts t s [] (aborts.part_answer (record first { moved = moved } ∷ others) ++ puts)
+    by [] e g = subst (λ (x : State). Acts t x [] puts) (ap (λ (q : List Pending). record s { bulk_in = q }) (ap (λ (m : List ℕ). record first { moved = m } ∷ others) (sym e) ∙ sym is)) g
     by (byte ∷ bytes) e g =
-        Replies s puts BulkIn (record first { moved = byte ∷ bytes }) others success (byte ∷ bytes)
+        Replies s [] puts BulkIn (record first { moved = byte ∷ bytes }) others success (byte ∷ bytes)
         (is ∙ ap (λ (m : List ℕ). record first { moved = m } ∷ others) e) Succeeds (within BulkIn (record first { moved = byte ∷ bytes })) g
 
-clears : (s : State) (served : Served) → aborts.ClearsAll s served → Acts served.state s served.behind
+clears : (s : State) (served : Served) → aborts.ClearsAll s served → Acts served.state s [] served.behind
 clears s served (aborts.DoesClear t logs is) =
-    subst (λ (v : Served). Acts v.state s v.behind) (sym is)
+    subst (λ (v : Served). Acts v.state s [] v.behind) (sym is)
     (part_ends t s (halt_answers BulkOut s) s.bulk_in refl
     (all_end_here t (record s { bulk_in = aborts.without_part s.bulk_in }) BulkOut _ s.bulk_out Stalls refl
     (logs_same _ _ (aborts.cleared s) t (record { control = refl; bulk_out = refl; bulk_in = refl; interrupt_in = refl }) logs)))
@@ -204,25 +205,25 @@ polls_same seq tag w s t same (status.DoesPoll mid logs is) =
     let h : SameQueues w mid = logs_same _ w s mid same logs in
     is_same w _ t is (record { control = h.control; bulk_out = h.bulk_out; bulk_in = h.bulk_in; interrupt_in = h.interrupt_in })
 
-reads_status : (tag : ℕ) (submit : Pending) (s : State) (served : Served) → status.ReadsStatus tag submit s served → Acts served.state s served.behind
-reads_status tag submit s served (status.BadTag bad is) = subst (λ (v : Served). Acts v.state s v.behind) (sym is) (Done s (same_refl s))
-reads_status tag submit s served (status.PolledBefore good before is) = subst (λ (v : Served). Acts v.state s v.behind) (sym is) (Done s (same_refl s))
-reads_status tag submit s served (status.Busy good fresh queued is) = subst (λ (v : Served). Acts v.state s v.behind) (sym is) (Done s (same_refl s))
+reads_status : (tag : ℕ) (submit : Pending) (s : State) (served : Served) → status.ReadsStatus tag submit s served → Acts served.state s [] served.behind
+reads_status tag submit s served (status.BadTag bad is) = subst (λ (v : Served). Acts v.state s [] v.behind) (sym is) (Done s (same_refl s))
+reads_status tag submit s served (status.PolledBefore good before is) = subst (λ (v : Served). Acts v.state s [] v.behind) (sym is) (Done s (same_refl s))
+reads_status tag submit s served (status.Busy good fresh queued is) = subst (λ (v : Served). Acts v.state s [] v.behind) (sym is) (Done s (same_refl s))
 reads_status tag submit s served (status.PolledNow t good fresh free polls is) =
-    subst (λ (v : Served). Acts v.state s v.behind) (sym is) (Done s (polls_same _ tag s s t (same_refl s) polls))
+    subst (λ (v : Served). Acts v.state s [] v.behind) (sym is) (Done s (polls_same _ tag s s t (same_refl s) polls))
 
-operates : (act : _) (s : State) (served : Served) → class.Operates act s served → Acts served.state s served.behind
-operates act s served (class.DoesOperate t logs is) = subst (λ (v : Served). Acts v.state s v.behind) (sym is) (Done s (logs_same _ s s t (same_refl s) logs))
+operates : (act : _) (s : State) (served : Served) → class.Operates act s served → Acts served.state s [] served.behind
+operates act s served (class.DoesOperate t logs is) = subst (λ (v : Served). Acts v.state s [] v.behind) (sym is) (Done s (logs_same _ s s t (same_refl s) logs))
 
-serves : (request : ClassRequest) (submit : Pending) (s : State) (served : Served) → class.Serves request submit s served → Acts served.state s served.behind
+serves : (request : ClassRequest) (submit : Pending) (s : State) (served : Served) → class.Serves request submit s served → Acts served.state s [] served.behind
 serves (AbortOut tag) submit s served h = abort_out tag s served h
-serves CheckOut submit s served h = subst (λ (v : Served). Acts v.state s v.behind) (sym h) (check_out s s.running)
+serves CheckOut submit s served h = subst (λ (v : Served). Acts v.state s [] v.behind) (sym h) (check_out s s.running)
 serves (AbortIn tag) submit s served h = abort_in tag s served h
-serves CheckIn submit s served h = subst (λ (v : Served). Acts v.state s v.behind) (sym h) (check_in s s.running)
+serves CheckIn submit s served h = subst (λ (v : Served). Acts v.state s [] v.behind) (sym h) (check_in s s.running)
 serves Clear submit s served h = clears s served h
-serves CheckClear submit s served h = subst (λ (v : Served). Acts v.state s v.behind) (sym h) (check_clear s s.running)
-serves Capabilities submit s served h = subst (λ (v : Served). Acts v.state s v.behind) (sym h) (Done s (same_refl s))
-serves Pulse submit s served h = subst (λ (v : Served). Acts v.state s v.behind) (sym h) (Done s (same_refl s))
+serves CheckClear submit s served h = subst (λ (v : Served). Acts v.state s [] v.behind) (sym h) (check_clear s s.running)
+serves Capabilities submit s served h = subst (λ (v : Served). Acts v.state s [] v.behind) (sym h) (Done s (same_refl s))
+serves Pulse submit s served h = subst (λ (v : Served). Acts v.state s [] v.behind) (sym h) (Done s (same_refl s))
 serves (ReadStatus tag) submit s served h = reads_status tag submit s served h
 serves (Ren true) submit s served h = operates _ s served h
 serves (Ren false) submit s served h = operates _ s served h
@@ -236,10 +237,10 @@ sent_short Out n size layout h = omega arith
 sent_short In n size layout h = omega (arith, h, length-take n layout)
 
 -- the first control submit is answered
-answered : (t s : State) (puts : List Put) (submit : Pending) (behind : List Pending) (setup : Setup) (layout : List ℕ) → s.control ≡ submit ∷ behind
-    → Acts t (record s { control = behind }) puts → Acts t s (control_answer submit setup layout ∷ puts)
-answered t s puts submit behind setup layout is h =
-    Replies s puts Control submit behind success (sent_back submit.head.dir (min setup.length submit.head.length) layout) is Succeeds
+answered : (t s : State) (us : List UnlinkHead) (puts : List Put) (submit : Pending) (behind : List Pending) (setup : Setup) (layout : List ℕ) → s.control ≡ submit ∷ behind
+    → Acts t (record s { control = behind }) us puts → Acts t s us (control_answer submit setup layout ∷ puts)
+answered t s us puts submit behind setup layout is h =
+    Replies s us puts Control submit behind success (sent_back submit.head.dir (min setup.length submit.head.length) layout) is Succeeds
     (λ fits. sent_short submit.head.dir (min setup.length submit.head.length) submit.head.length layout (omega arith)) h
 
 effect_keeps : (request : Standard) (s : State) → SameQueues s (standard_effect request s)
@@ -251,22 +252,22 @@ effect_keeps SetConfiguration s = record { control = refl; bulk_out = refl; bulk
 effect_keeps SetInterface s = record { control = refl; bulk_out = refl; bulk_in = refl; interrupt_in = refl }
 effect_keeps _ s = same_refl s
 
-answers : (s : State) (puts : List Put) (t : State) → class.Answers s puts t → Acts t s puts
+answers : (s : State) (puts : List Put) (t : State) → class.Answers s puts t → Acts t s [] puts
 answers s puts t (class.ByClass submit behind setup request served queue asks row serving put is) =
-    subst (λ (p : List Put). Acts t s p) (sym put)
-    (answered t s served.behind submit behind setup served.layout queue
-    (subst (λ (x : State). Acts x (record s { control = behind }) served.behind) (sym is) (serves request submit (record s { control = behind }) served serving)))
+    subst (λ (p : List Put). Acts t s [] p) (sym put)
+    (answered t s [] served.behind submit behind setup served.layout queue
+    (subst (λ (x : State). Acts x (record s { control = behind }) [] served.behind) (sym is) (serves request submit (record s { control = behind }) served serving)))
 answers s puts t (class.ByStandard submit behind setup request queue asks row put is) =
-    subst (λ (p : List Put). Acts t s p) (sym put)
-    (answered t s [] submit behind setup _ queue (Done _ (is_same _ _ t is (effect_keeps request (record s { control = behind })))))
+    subst (λ (p : List Put). Acts t s [] p) (sym put)
+    (answered t s [] [] submit behind setup _ queue (Done _ (is_same _ _ t is (effect_keeps request (record s { control = behind })))))
 answers s puts t (class.Unknown submit behind setup queue asks unknown put is) =
-    subst (λ (p : List Put). Acts t s p) (sym put)
-    (Replies s [] Control submit behind stalled [] queue Stalls (λ fits. omega arith) (Done _ (is_same _ _ t is (same_refl _))))
+    subst (λ (p : List Put). Acts t s [] p) (sym put)
+    (Replies s [] [] Control submit behind stalled [] queue Stalls (λ fits. omega arith) (Done _ (is_same _ _ t is (same_refl _))))
 
-postpones : (s : State) (puts : List Put) (t : State) → class.Postpones s puts t → Acts t s puts
+postpones : (s : State) (puts : List Put) (t : State) → class.Postpones s puts t → Acts t s [] puts
 postpones s puts t (class.DoesPostpone submit behind setup request layout queue asks row stays put is) =
-    subst (λ (p : List Put). Acts t s p) (sym put)
-    (answered t s [] submit behind setup layout queue (Done _ (is_same _ _ t is (same_refl _))))
+    subst (λ (p : List Put). Acts t s [] p) (sym put)
+    (answered t s [] [] submit behind setup layout queue (Done _ (is_same _ _ t is (same_refl _))))
 
 fits_polled : (submit : Pending) → FitsAt Control submit → FitsAt Control (record submit { polled = true })
 fits_polled submit h = record {
@@ -281,9 +282,9 @@ fits_polled submit h = record {
     sized_polled Out e = e
     sized_polled In e = e
 
-polls : (s t : State) (puts : List Put) → class.PollsFirst s t → puts ≡ [] → Acts t s puts
+polls : (s t : State) (puts : List Put) → class.PollsFirst s t → puts ≡ [] → Acts t s [] puts
 polls s t puts (class.DoesPollFirst submit behind setup tag queue asks row good fresh free polling) none =
-    Changes s puts Control submit (record submit { polled = true }) behind queue (record { head = refl; polled = λ h. tt; fits = fits_polled submit })
+    Changes s [] puts Control submit (record submit { polled = true }) behind queue (record { head = refl; polled = λ h. tt; fits = fits_polled submit })
     (silent _ t puts none (polls_same _ tag _ _ t (same_refl _) polling))
 
 -- ---- Interrupt-IN, halts and unplugging
@@ -303,21 +304,21 @@ fits_notified packet submit long h =
       came = h.came;
     }
 
-notifies : (s : State) (puts : List Put) (t : State) → status.Notifies s puts t → Acts t s puts
+notifies : (s : State) (puts : List Put) (t : State) → status.Notifies s puts t → Acts t s [] puts
 notifies s puts t (status.Gives submit behind packet packets queue there long put is) =
     ends_later s t puts InterruptIn submit (status.notified packet submit) behind queue
     (record { head = refl; polled = λ h. h; fits = fits_notified packet submit long }) put
     (is_same _ _ t is (record { control = refl; bulk_out = refl; bulk_in = refl; interrupt_in = refl }))
 notifies s puts t (status.NoRoom submit behind packet packets queue there short put is) =
-    subst (λ (p : List Put). Acts t s p) (sym put) (all_end_here t s InterruptIn _ s.interrupt_in Stalls refl (is_same _ _ t is (halts_same InterruptIn s)))
+    subst (λ (p : List Put). Acts t s [] p) (sym put) (all_end_here t s InterruptIn _ s.interrupt_in Stalls refl (is_same _ _ t is (halts_same InterruptIn s)))
 
-halts_itself : (s : State) (e : Endpoint) (puts : List Put) (t : State) → HaltsItself s e puts t → Acts t s puts
+halts_itself : (s : State) (e : Endpoint) (puts : List Put) (t : State) → HaltsItself s e puts t → Acts t s [] puts
 halts_itself s e puts t (DoesHalt other usable put is) =
-    subst (λ (p : List Put). Acts t s p) (sym put) (all_end_here t s e _ (queue_of e s) Stalls refl (is_same _ _ t is (halts_same e s)))
+    subst (λ (p : List Put). Acts t s [] p) (sym put) (all_end_here t s e _ (queue_of e s) Stalls refl (is_same _ _ t is (halts_same e s)))
 
-unplugs : (s : State) (puts : List Put) (t : State) → Unplugs s puts t → Acts t s puts
+unplugs : (s : State) (puts : List Put) (t : State) → Unplugs s puts t → Acts t s [] puts
 unplugs s puts t h =
-    subst (λ (p : List Put). Acts t s p) (sym h.answered)
+    subst (λ (p : List Put). Acts t s [] p) (sym h.answered)
     (all_end t s Control _ _ s.control IsGone refl
     (all_end t (with_queue Control [] s) BulkOut _ _ s.bulk_out IsGone refl
     (all_end t (with_queue BulkOut [] (with_queue Control [] s)) BulkIn _ _ s.bulk_in IsGone refl
@@ -342,29 +343,36 @@ polled_first BulkIn [] submit behind h polled = absurd (no_polled [] submit behi
 polled_first InterruptIn [] submit behind h polled = absurd (no_polled [] submit behind h polled)
 polled_first e (first ∷ before) submit behind h polled = absurd (no_polled before submit behind h.1 polled)
 
-unlinks : (s : State) (head : UnlinkHead) (puts : List Put) (t : State) → Each FirstPolled s → Unlinks s head puts t → Acts t s puts
+-- once the submit is gone, nothing of its number is pending
+gone : (s : State) (n : ℕ) (e : Endpoint) (before : List Pending) (submit : Pending) (behind : List Pending) → IsSound s → queue_of e s ≡ before ++ submit ∷ behind
+    → submit.head.seqnum ≡ n → Avoids n (pending (with_queue e (before ++ behind) s))
+gone s n e before submit behind sound queue target = here_not n (with_queue e (before ++ behind) s) (omega (
+  arith,
+  here-with n e (before ++ behind) s,
+  ap (λ (q : List Pending). times n q) queue,
+  times-append n before behind,
+  times-append n before (submit ∷ behind),
+  subst (λ (k : ℕ). times k (submit ∷ behind) ≡ 1 + times k behind) target (times_own submit behind),
+  sound.distinct n,
+))
+
+unlinks : (s : State) (head : UnlinkHead) (puts : List Put) (t : State) → IsSound s → Unlinks s head puts t → Acts t s (head ∷ []) puts
 unlinks s head puts t first (Hits e before submit behind queue target fresh put is) =
-    subst (λ (p : List Put). Acts t s p) (sym put)
-    (Leaves s _ e before submit behind queue
-    (Says _ [] head unlinked IsTakenBack (Done _ (is_same _ _ t is (same_refl _)))))
+    subst (λ (p : List Put). Acts t s (head ∷ []) p) (sym put)
+    (Hit s [] [] head e before submit behind queue target (gone s head.target e before submit behind first queue target) (Done _ (is_same _ _ t is (same_refl _))))
 unlinks s head puts t first (Polled e before submit behind setup tag queue target polled asks row put is) =
-    let place = polled_first e before submit behind (subst (λ (q : List Pending). FirstPolled e q) queue (first e)) polled in
+    let place = polled_first e before submit behind (subst (λ (q : List Pending). FirstPolled e q) queue (first.polled e)) polled in
     let control : s.control ≡ submit ∷ behind = subst (λ (d : Endpoint). queue_of d s ≡ submit ∷ behind) place.0 (queue ∙ ap (λ (b : List Pending). b ++ submit ∷ behind) place.1) in
     let end : t ≡ record s { control = behind } = is ∙ ap (λ (b : List Pending). with_queue e (b ++ behind) s) place.1 ∙ ap (λ (d : Endpoint). with_queue d behind s) place.0 in
-    subst (λ (p : List Put). Acts t s p) (sym put)
-    (answered t s _ submit behind setup _ control
-    (Says _ [] head success Succeeds (Done _ (is_same _ _ t end (same_refl _)))))
+    subst (λ (p : List Put). Acts t s (head ∷ []) p) (sym put)
+    (answered t s (head ∷ []) _ submit behind setup _ control
+    (Miss _ [] [] head (gone s head.target Control [] submit behind first control target) (Done _ (is_same _ _ t end (same_refl _)))))
 unlinks s head puts t first (Misses avoids put is) =
-    subst (λ (p : List Put). Acts t s p) (sym put) (Says s [] head success Succeeds (Done s (is_same _ _ t is (same_refl s))))
+    subst (λ (p : List Put). Acts t s (head ∷ []) p) (sym put) (Miss s [] [] head avoids (Done s (is_same _ _ t is (same_refl s))))
 
 -- ---- all moves
 
--- each step but the arrival of a submit
-abbrev pub IsArrival : Move → Type 0
-IsArrival (Comes (up.Submit head transferred)) = Unit {0}
-IsArrival _ = ⊥
-
-pub acts : (s : State) (move : Move) (puts : List Put) (t : State) → Each FirstPolled s → (IsArrival move → ⊥) → Leads s move puts t → Acts t s puts
+pub acts : (s : State) (move : Move) (puts : List Put) (t : State) → IsSound s → (IsArrival move → ⊥) → Leads s move puts t → Acts t s (unlinks_of move) puts
 acts s (Comes (up.Submit head transferred)) puts t first other h = absurd (other tt)
 acts s (Comes (up.Unlink head)) puts t first other h = unlinks s head puts t first h.1
 acts s (Refuses devid bytes f) puts t first other h =

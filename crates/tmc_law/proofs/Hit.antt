@@ -11,7 +11,8 @@ use Rattle.tmc_law.specs.Run.{Entry, Runs, taken, inputs, outputs}
 use Rattle.tmc_law.specs.Laws.{NoneArrives, NoneAnswers}
 use Rattle.tmc_law.proofs.Queued.{times, here, times-append, times_own, here-with, not_here, here_not, IsSound}
 use Rattle.tmc_law.proofs.Counted.{answered, none_answered, acts_count, arrival_count}
-use Rattle.tmc_law.proofs.Sound.{Does, Arriving, Acting, does, sound, sound_step}
+use Rattle.tmc_law.specs.Acts.{unlinks_of, Does, Arriving, Acting}
+use Rattle.tmc_law.proofs.Sound.{ does, sound, sound_step}
 
 -- ---- what does not arrive
 
@@ -38,7 +39,7 @@ does_count n s move puts t none (Arriving head transferred is came free arrives)
   where
     by : eqb head.seqnum n ≡ false → answered n puts + here n t ≤ cond (eqb head.seqnum n) 1 0 + here n s → answered n puts + here n t ≤ here n s
     by e h = let k : answered n puts + here n t ≤ 0 + here n s = subst (λ (b : Bool). answered n puts + here n t ≤ cond b 1 0 + here n s) e h in omega (arith, k)
-does_count n s move puts t none (Acting other a) = acts_count n t s puts a
+does_count n s move puts t none (Acting other a) = acts_count n t s (unlinks_of move) puts a
 
 pub step_count : (n : ℕ) (s : State) (move : Move) (puts : List Put) (t : State) → IsSound s → NoneArrives n (taken move) → Steps s move puts t
     → answered n puts + here n t ≤ here n s

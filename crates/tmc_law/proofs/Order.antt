@@ -11,7 +11,8 @@ use Rattle.tmc_law.specs.Step.{Move}
 use Rattle.tmc_law.specs.Run.{Entry, Runs, taken, inputs, outputs}
 use Rattle.tmc_law.specs.Laws.{NoneAgain, is_one_of, answers_to, AreInOrder}
 use Rattle.tmc_law.proofs.Queued.{times, here, times_own, Each, each-with, same_queue, queue-with, IsSound}
-use Rattle.tmc_law.proofs.Acts.{Acts, Done, Replies, Leaves, Changes, Says}
+use Rattle.usbip_wire.specs.declared.unlink.UnlinkHead.{UnlinkHead}
+use Rattle.tmc_law.specs.Acts.{Acts, Done, Replies, Changes, Hit, Miss, unlinks_of}
 use Rattle.tmc_law.proofs.Sound.{Does, Arriving, Acting, Stays, acts_keep, does, sound, sound_step}
 use Rattle.tmc_law.proofs.Hit.{none_arrives-front, none_arrives-behind}
 use Rattle.tmc_law.proofs.Sublists.{Sub, sub_more, sub_refl, sub_front, sub_trans}
@@ -112,10 +113,10 @@ first_cond : (b : Bool) (n : ℕ) (answers kept left : List ℕ) → Sub (answer
 first_cond true n answers kept left h = inr (answers ++ kept, refl, h)
 first_cond false n answers kept left h = h
 
-acts_front : (submits : List Pending) (e : Endpoint) (t s : State) (puts : List Put) → Acts t s puts → Away submits e s → Fronts submits e puts s t
-acts_front submits e t s puts (Done _ same) away = rw (same_queue e s t same) (sub_refl (mine submits (queue_of e s)))
-acts_front submits e t s _ (Replies _ puts d submit behind status moved queue ok within rest) away =
-    by (acts_front submits e t (with_queue d behind s) puts rest
+acts_front : (submits : List Pending) (e : Endpoint) (t s : State) (unlinks : List UnlinkHead) (puts : List Put) → Acts t s unlinks puts → Away submits e s → Fronts submits e puts s t
+acts_front submits e t s _ _ (Done _ same) away = rw (same_queue e s t same) (sub_refl (mine submits (queue_of e s)))
+acts_front submits e t s unlinks _ (Replies _ _ puts d submit behind status moved queue ok within rest) away =
+    by (acts_front submits e t (with_queue d behind s) unlinks puts rest
     (each-with (λ c q. c ≢ e → mine submits q ≡ []) d behind s away
     ((away_stays submits e).without d [] submit behind (subst (λ (q : List Pending). d ≢ e → mine submits q ≡ []) queue (away d)))))
     (which d e)
@@ -131,8 +132,8 @@ acts_front submits e t s _ (Replies _ puts d submit behind status moved queue ok
         let not : is_one_of submits submit.head.seqnum ≡ false = not_one submits submit.head.seqnum (mine submits behind) none in
         subst (λ (b : Bool). Sub (cond b (submit.head.seqnum ∷ answers_to submits puts) (answers_to submits puts) ++ mine submits (queue_of e t)) (mine submits (queue_of e s))) (sym not)
         (subst (λ (q : List Pending). Sub (answers_to submits puts ++ mine submits (queue_of e t)) (mine submits q)) (apart.queue behind s) h)
-acts_front submits e t s puts (Leaves _ _ d before submit behind queue rest) away =
-    by (acts_front submits e t (with_queue d (before ++ behind) s) puts rest
+acts_front submits e t s _ _ (Hit _ unlinks puts head d before submit behind queue target none rest) away =
+    by (acts_front submits e t (with_queue d (before ++ behind) s) unlinks puts rest
     (each-with (λ c q. c ≢ e → mine submits q ≡ []) d (before ++ behind) s away
     ((away_stays submits e).without d before submit behind (subst (λ (q : List Pending). d ≢ e → mine submits q ≡ []) queue (away d)))))
     (which d e)
@@ -145,8 +146,8 @@ acts_front submits e t s puts (Leaves _ _ d before submit behind queue rest) awa
         (mine_without submits before submit behind))
     by h (inr apart) =
         subst (λ (q : List Pending). Sub (answers_to submits puts ++ mine submits (queue_of e t)) (mine submits q)) (apart.queue (before ++ behind) s) h
-acts_front submits e t s puts (Changes _ _ d submit later behind queue changed rest) away =
-    by (acts_front submits e t (with_queue d (later ∷ behind) s) puts rest
+acts_front submits e t s unlinks puts (Changes _ _ _ d submit later behind queue changed rest) away =
+    by (acts_front submits e t (with_queue d (later ∷ behind) s) unlinks puts rest
     (each-with (λ c q. c ≢ e → mine submits q ≡ []) d (later ∷ behind) s away
     ((away_stays submits e).later d submit later behind changed (subst (λ (q : List Pending). d ≢ e → mine submits q ≡ []) queue (away d)))))
     (which d e)
@@ -158,7 +159,7 @@ acts_front submits e t s puts (Changes _ _ d submit later behind queue changed r
         (subst (λ (q : List Pending). Sub (answers_to submits puts ++ mine submits (queue_of e t)) (mine submits q)) (queue-same d e (later ∷ behind) s same) h)
     by h (inr apart) =
         subst (λ (q : List Pending). Sub (answers_to submits puts ++ mine submits (queue_of e t)) (mine submits q)) (apart.queue (later ∷ behind) s) h
-acts_front submits e t s _ (Says _ puts head status ok rest) away = acts_front submits e t s puts rest away
+acts_front submits e t s _ _ (Miss _ unlinks puts head none rest) away = acts_front submits e t s unlinks puts rest away
 
 -- ---- arrivals
 
@@ -203,7 +204,7 @@ does_front submits e s move puts t none away (Arriving head transferred is came 
     let same = arrival_mine submits s t head transferred puts not arrives in
     (rw (same.0, same.1 e) (sub_refl (mine submits (queue_of e s))), λ d other. same.1 d ∙ away d other)
 does_front submits e s move puts t none away (Acting other a) =
-    (acts_front submits e t s puts a away, acts_keep (λ d queue. d ≢ e → mine submits queue ≡ []) (away_stays submits e) t s puts a away)
+    (acts_front submits e t s (unlinks_of move) puts a away, acts_keep (λ d queue. d ≢ e → mine submits queue ≡ []) (away_stays submits e) t s (unlinks_of move) puts a away)
 
 run_front : (submits : List Pending) (e : Endpoint) (s : State) (run : List Entry) (t : State) → IsSound s → NoneAgain submits (inputs run) → Away submits e s → Runs s run t
     → Fronts submits e (outputs run) s t

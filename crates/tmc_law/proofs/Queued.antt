@@ -5,6 +5,7 @@ use Rattle.std.specs.Prelude.{slice_index}
 use Rattle.usbip_wire.specs.declared.urb.Dir.{Dir}
 use Rattle.usbip_wire.specs.declared.urb.Dir.TheVariants.{Out, In}
 use Rattle.tmc_law.specs.Endpoint.{Endpoint, Control, BulkOut, BulkIn, InterruptIn, number_of, way_of}
+use Rattle.tmc_law.specs.Acts.{SameQueues, Unpolled, FitsAt}
 use Rattle.tmc_law.specs.State.{State, Pending, queue_of, with_queue, pending, Avoids}
 use Rattle.tmc_law.specs.Queues.{IsSubmit}
 
@@ -99,13 +100,6 @@ each-with P InterruptIn queue s h p BulkOut = h BulkOut
 each-with P InterruptIn queue s h p BulkIn = h BulkIn
 each-with P InterruptIn queue s h p InterruptIn = p
 
--- two states have the same queues
-pub record SameQueues (s t : State) : Type 0 where
-  pub control : t.control ≡ s.control
-  pub bulk_out : t.bulk_out ≡ s.bulk_out
-  pub bulk_in : t.bulk_in ≡ s.bulk_in
-  pub interrupt_in : t.interrupt_in ≡ s.interrupt_in
-
 pub same_queue : (d : Endpoint) (s t : State) → SameQueues s t → queue_of d t ≡ queue_of d s
 same_queue Control s t h = h.control
 same_queue BulkOut s t h = h.bulk_out
@@ -126,12 +120,6 @@ is_same w s t is same = subst (λ (x : State). SameQueues w x) (sym is) same
 
 -- ---- the status byte is polled for the first control submit alone
 
-abbrev pub Unpolled : Endpoint → Pending → Type 0
-Unpolled Control submit = Unit {0}
-Unpolled BulkOut submit = submit.polled ≡ false
-Unpolled BulkIn submit = submit.polled ≡ false
-Unpolled InterruptIn submit = submit.polled ≡ false
-
 abbrev pub NonePolled : List Pending → Type 0
 NonePolled [] = Unit {0}
 NonePolled (submit ∷ submits) = (submit.polled ≡ false) × NonePolled submits
@@ -140,21 +128,7 @@ abbrev pub FirstPolled : Endpoint → List Pending → Type 0
 FirstPolled e [] = Unit {0}
 FirstPolled e (first ∷ others) = Unpolled e first × NonePolled others
 
--- ---- what was moved, and what was not
-
--- the bytes that were moved and those that are left fit the submit
-abbrev pub Sized : Dir → Pending → Type 0
-Sized Out submit = length submit.moved + length submit.left ≡ submit.head.length
-Sized In submit = (length submit.moved ≤ submit.head.length) × (submit.left ≡ [])
-
--- a pending submit stands in the queue of its endpoint, came as a submit does, and has as many bytes as it asks for
-pub record FitsAt (e : Endpoint) (submit : Pending) : Type 0 where
-  pub number : submit.head.ep ≡ number_of e
-  pub way : submit.head.dir ≡ way_of e (slice_index submit.head.setup 0)
-  pub sized : Sized submit.head.dir submit
-  pub transferred : List ℕ
-  pub came : IsSubmit submit.head transferred
-
+-- each pending submit fits
 abbrev pub AllFit : Endpoint → List Pending → Type 0
 AllFit e [] = Unit {0}
 AllFit e (submit ∷ submits) = FitsAt e submit × AllFit e submits

@@ -12,10 +12,12 @@ use Rattle.tmc_law.specs.Put.{Put}
 use Rattle.tmc_law.specs.Queues.{IsSubmit, Arrives, Queued, TurnedAway, IsTaken}
 use Rattle.tmc_law.specs.Step.{Move, Comes, Refuses, Take, Exec, Begin, Fill, Answer, Pend, Poll, Notify, Halt, Unplug, Leads, Steps}
 use Rattle.tmc_law.specs.Run.{Entry, Runs}
-use Rattle.tmc_law.proofs.Queued.{here, not_here, Each, each-with, each_same, Unpolled, NonePolled, FirstPolled, Sized, FitsAt, AllFit}
+use Rattle.tmc_law.proofs.Queued.{here, not_here, Each, each-with, each_same, NonePolled, FirstPolled, AllFit}
 pub use Rattle.tmc_law.proofs.Queued.{IsSound}
-use Rattle.tmc_law.proofs.Acts.{Acts, Done, Replies, Leaves, Changes, Says, IsLater}
-use Rattle.tmc_law.proofs.ActsOf.{IsArrival, acts}
+use Rattle.usbip_wire.specs.declared.unlink.UnlinkHead.{UnlinkHead}
+use Rattle.tmc_law.specs.Acts.{Unpolled, Sized, FitsAt, IsLater, Acts, Done, Replies, Changes, Hit, Miss, unlinks_of, IsArrival}
+pub use Rattle.tmc_law.specs.Acts.{Does, Arriving, Acting}
+use Rattle.tmc_law.proofs.ActsOf.{acts}
 use Rattle.tmc_law.proofs.Counted.{acts_count, arrival_count}
 
 pub sound_start : IsSound start
@@ -78,24 +80,24 @@ pub record Stays (P : Endpoint → List Pending → Type 0) : Type 0 where
   pub without : (e : Endpoint) (before : List Pending) (submit : Pending) (behind : List Pending) → P e (before ++ submit ∷ behind) → P e (before ++ behind)
   pub later : (e : Endpoint) (submit later : Pending) (behind : List Pending) → IsLater e submit later → P e (submit ∷ behind) → P e (later ∷ behind)
 
-pub acts_keep : (P : Endpoint → List Pending → Type 0) → Stays P → (t s : State) (puts : List Put) → Acts t s puts → Each P s → Each P t
-acts_keep P stays t s puts (Done _ same) h = each_same P s t same h
-acts_keep P stays t s _ (Replies _ puts e submit behind status moved queue ok within rest) h =
-    acts_keep P stays t (with_queue e behind s) puts rest
+pub acts_keep : (P : Endpoint → List Pending → Type 0) → Stays P → (t s : State) (unlinks : List UnlinkHead) (puts : List Put) → Acts t s unlinks puts → Each P s → Each P t
+acts_keep P stays t s _ _ (Done _ same) h = each_same P s t same h
+acts_keep P stays t s unlinks _ (Replies _ _ puts e submit behind status moved queue ok within rest) h =
+    acts_keep P stays t (with_queue e behind s) unlinks puts rest
     (each-with P e behind s h (stays.without e [] submit behind (subst (λ (q : List Pending). P e q) queue (h e))))
-acts_keep P stays t s puts (Leaves _ _ e before submit behind queue rest) h =
-    acts_keep P stays t (with_queue e (before ++ behind) s) puts rest
-    (each-with P e (before ++ behind) s h (stays.without e before submit behind (subst (λ (q : List Pending). P e q) queue (h e))))
-acts_keep P stays t s puts (Changes _ _ e submit later behind queue changed rest) h =
-    acts_keep P stays t (with_queue e (later ∷ behind) s) puts rest
+acts_keep P stays t s unlinks puts (Changes _ _ _ e submit later behind queue changed rest) h =
+    acts_keep P stays t (with_queue e (later ∷ behind) s) unlinks puts rest
     (each-with P e (later ∷ behind) s h (stays.later e submit later behind changed (subst (λ (q : List Pending). P e q) queue (h e))))
-acts_keep P stays t s _ (Says _ puts head status ok rest) h = acts_keep P stays t s puts rest h
+acts_keep P stays t s _ _ (Hit _ unlinks puts head e before submit behind queue target none rest) h =
+    acts_keep P stays t (with_queue e (before ++ behind) s) unlinks puts rest
+    (each-with P e (before ++ behind) s h (stays.without e before submit behind (subst (λ (q : List Pending). P e q) queue (h e))))
+acts_keep P stays t s _ _ (Miss _ unlinks puts head none rest) h = acts_keep P stays t s unlinks puts rest h
 
-acts_sound : (t s : State) (puts : List Put) → Acts t s puts → IsSound s → IsSound t
-acts_sound t s puts a sound = record {
-  distinct = λ n. omega (arith, acts_count n t s puts a, sound.distinct n);
-  polled = acts_keep FirstPolled (record { without = first_without; later = λ e submit later behind changed h. (changed.polled h.0, h.1) }) t s puts a sound.polled;
-  fits = acts_keep AllFit (record { without = fit_without; later = λ e submit later behind changed h. (changed.fits h.0, h.1) }) t s puts a sound.fits;
+acts_sound : (t s : State) (unlinks : List UnlinkHead) (puts : List Put) → Acts t s unlinks puts → IsSound s → IsSound t
+acts_sound t s unlinks puts a sound = record {
+  distinct = λ n. omega (arith, acts_count n t s unlinks puts a, sound.distinct n);
+  polled = acts_keep FirstPolled (record { without = first_without; later = λ e submit later behind changed h. (changed.polled h.0, h.1) }) t s unlinks puts a sound.polled;
+  fits = acts_keep AllFit (record { without = fit_without; later = λ e submit later behind changed h. (changed.fits h.0, h.1) }) t s unlinks puts a sound.fits;
 }
 
 -- ---- arrivals
@@ -139,33 +141,27 @@ arrives_sound s t head transferred puts came free (Queued e is_taken put is) sou
 
 -- ---- steps and runs
 
--- a step is an arrival, or acts
-pub data Does (s : State) (move : Move) (puts : List Put) (t : State) : Type 0 where
-  Arriving : (head : SubmitHead) (transferred : List ℕ) → move ≡ Comes (up.Submit head transferred) → IsSubmit head transferred
-      → Avoids head.seqnum (pending s) → Arrives s head transferred puts t → Does s move puts t
-  Acting : (IsArrival move → ⊥) → Acts t s puts → Does s move puts t
-
 leads_does : (s : State) (move : Move) (puts : List Put) (t : State) → IsSound s → Leads s move puts t → Does s move puts t
 leads_does s (Comes (up.Submit head transferred)) puts t sound h = Arriving head transferred refl h.0 h.1 h.3
-leads_does s (Comes (up.Unlink head)) puts t sound h = Acting (λ no. absurd no) (acts s (Comes (up.Unlink head)) puts t sound.polled (λ no. absurd no) h)
-leads_does s (Refuses devid bytes f) puts t sound h = Acting (λ no. absurd no) (acts s (Refuses devid bytes f) puts t sound.polled (λ no. absurd no) h)
-leads_does s (Take count) puts t sound h = Acting (λ no. absurd no) (acts s (Take count) puts t sound.polled (λ no. absurd no) h)
-leads_does s Exec puts t sound h = Acting (λ no. absurd no) (acts s Exec puts t sound.polled (λ no. absurd no) h)
-leads_does s (Begin count) puts t sound h = Acting (λ no. absurd no) (acts s (Begin count) puts t sound.polled (λ no. absurd no) h)
-leads_does s (Fill count) puts t sound h = Acting (λ no. absurd no) (acts s (Fill count) puts t sound.polled (λ no. absurd no) h)
-leads_does s Answer puts t sound h = Acting (λ no. absurd no) (acts s Answer puts t sound.polled (λ no. absurd no) h)
-leads_does s Pend puts t sound h = Acting (λ no. absurd no) (acts s Pend puts t sound.polled (λ no. absurd no) h)
-leads_does s Poll puts t sound h = Acting (λ no. absurd no) (acts s Poll puts t sound.polled (λ no. absurd no) h)
-leads_does s Notify puts t sound h = Acting (λ no. absurd no) (acts s Notify puts t sound.polled (λ no. absurd no) h)
-leads_does s (Halt e) puts t sound h = Acting (λ no. absurd no) (acts s (Halt e) puts t sound.polled (λ no. absurd no) h)
-leads_does s Unplug puts t sound h = Acting (λ no. absurd no) (acts s Unplug puts t sound.polled (λ no. absurd no) h)
+leads_does s (Comes (up.Unlink head)) puts t sound h = Acting (λ no. absurd no) (acts s (Comes (up.Unlink head)) puts t sound (λ no. absurd no) h)
+leads_does s (Refuses devid bytes f) puts t sound h = Acting (λ no. absurd no) (acts s (Refuses devid bytes f) puts t sound (λ no. absurd no) h)
+leads_does s (Take count) puts t sound h = Acting (λ no. absurd no) (acts s (Take count) puts t sound (λ no. absurd no) h)
+leads_does s Exec puts t sound h = Acting (λ no. absurd no) (acts s Exec puts t sound (λ no. absurd no) h)
+leads_does s (Begin count) puts t sound h = Acting (λ no. absurd no) (acts s (Begin count) puts t sound (λ no. absurd no) h)
+leads_does s (Fill count) puts t sound h = Acting (λ no. absurd no) (acts s (Fill count) puts t sound (λ no. absurd no) h)
+leads_does s Answer puts t sound h = Acting (λ no. absurd no) (acts s Answer puts t sound (λ no. absurd no) h)
+leads_does s Pend puts t sound h = Acting (λ no. absurd no) (acts s Pend puts t sound (λ no. absurd no) h)
+leads_does s Poll puts t sound h = Acting (λ no. absurd no) (acts s Poll puts t sound (λ no. absurd no) h)
+leads_does s Notify puts t sound h = Acting (λ no. absurd no) (acts s Notify puts t sound (λ no. absurd no) h)
+leads_does s (Halt e) puts t sound h = Acting (λ no. absurd no) (acts s (Halt e) puts t sound (λ no. absurd no) h)
+leads_does s Unplug puts t sound h = Acting (λ no. absurd no) (acts s Unplug puts t sound (λ no. absurd no) h)
 
 pub does : (s : State) (move : Move) (puts : List Put) (t : State) → IsSound s → Steps s move puts t → Does s move puts t
 does s move puts t sound step = leads_does s move puts t sound step.leads
 
 does_sound : (s : State) (move : Move) (puts : List Put) (t : State) → IsSound s → Does s move puts t → IsSound t
 does_sound s move puts t sound (Arriving head transferred is came free arrives) = arrives_sound s t head transferred puts came free arrives sound
-does_sound s move puts t sound (Acting other a) = acts_sound t s puts a sound
+does_sound s move puts t sound (Acting other a) = acts_sound t s (unlinks_of move) puts a sound
 
 pub sound_step : (s : State) (move : Move) (puts : List Put) (t : State) → IsSound s → Steps s move puts t → IsSound t
 sound_step s move puts t sound step = does_sound s move puts t sound (does s move puts t sound step)

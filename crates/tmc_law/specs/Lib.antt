@@ -13,6 +13,7 @@ pub mod Status
 pub mod Class
 pub mod Queues
 pub mod Step
+pub mod Acts
 pub mod Run
 pub mod Told
 pub mod Laws

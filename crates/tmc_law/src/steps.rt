@@ -1,0 +1,15 @@
+//! What one step does, told apart. Each function does nothing, and its contract is the law.
+
+ghost use Rattle.std.specs.Prelude.{List};
+ghost use Rattle.tmc_law.specs.State.{State, start};
+ghost use Rattle.tmc_law.specs.Put.{Put};
+ghost use Rattle.tmc_law.specs.Step.{Move, Steps};
+ghost use Rattle.tmc_law.specs.Run.{Entry, Runs};
+ghost use Rattle.tmc_law.specs.Acts.{Does};
+
+/// A step of a device is the arrival of a submit, or it answers first submits of queues, changes them, and answers the
+/// unlink that it took in, whose target is gone then.
+pub fn steps_act()
+    ensures { (run : List Entry) (s t : State) (move : Move) (puts : List Put) → Runs start run s → Steps s move puts t →
+        Does s move puts t }
+{}
