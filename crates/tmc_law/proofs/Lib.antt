@@ -1,4 +1,5 @@
 pub mod SetupRows
+pub mod Adding
 pub mod Joined
 pub mod Present
 pub mod Grown

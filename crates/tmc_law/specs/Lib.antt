@@ -14,6 +14,7 @@ pub mod Class
 pub mod Queues
 pub mod Step
 pub mod Acts
+pub mod LogStep
 pub mod Run
 pub mod Told
 pub mod Laws

@@ -6,10 +6,16 @@ ghost use Rattle.tmc_law.specs.Put.{Put};
 ghost use Rattle.tmc_law.specs.Step.{Move, Steps};
 ghost use Rattle.tmc_law.specs.Run.{Entry, Runs};
 ghost use Rattle.tmc_law.specs.Acts.{Does};
+ghost use Rattle.tmc_law.specs.LogStep.{MayLog, Adds};
 
 /// A step of a device is the arrival of a submit, or it answers first submits of queues, changes them, and answers the
 /// unlink that it took in, whose target is gone then.
 pub fn steps_act()
     ensures { (run : List Entry) (s t : State) (move : Move) (puts : List Put) → Runs start run s → Steps s move puts t →
         Does s move puts t }
+{}
+
+/// A step logs nothing, or one entry that its move may log: an execution only of the message that waits.
+pub fn a_step_logs_at_most_once()
+    ensures { (s t : State) (move : Move) (puts : List Put) → Steps s move puts t → Adds (MayLog s move) s t }
 {}
