@@ -1,5 +1,6 @@
 pub mod SetupRows
 pub mod Adding
+pub mod Packets
 pub mod Joined
 pub mod Present
 pub mod Grown

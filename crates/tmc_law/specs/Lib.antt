@@ -15,6 +15,7 @@ pub mod Queues
 pub mod Step
 pub mod Acts
 pub mod LogStep
+pub mod Packets
 pub mod Run
 pub mod Told
 pub mod Laws

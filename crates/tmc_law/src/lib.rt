@@ -35,7 +35,7 @@ pub use layouts::{
 pub use log::Log;
 pub use output::Output;
 pub use setups::setups_have_one_meaning;
-pub use steps::{a_step_logs_at_most_once, steps_act};
+pub use steps::{a_step_logs_at_most_once, packets_are_of_transfers, steps_act};
 pub use worked::{
     a_bare_request_is_aborted, a_busy_device_takes_no_header, a_halt_drops_a_response,
     a_halted_endpoint_takes_nothing, a_message_comes_in_parts, a_message_interrupts_a_response,
