@@ -1,13 +1,14 @@
 -- Bulk-OUT submits whose header and length are good
-use Rattle.std.proofs.Common.{◌≡◌, ◌≢◌, ◌⊎◌, ℕ, ◌+◌, ◌-◌, ◌%◌, ◌<◌, ◌≤◌, Bool, true, false, List, [], length, take, Some, None, get_or, refl, inl, inr, sym, ap, subst, ◌∙◌, arith}
+use Rattle.std.proofs.Common.{◌≡◌, ◌≢◌, ◌⊎◌, ℕ, ◌+◌, ◌-◌, ◌%◌, ◌^◌, ◌<◌, ◌≤◌, Bool, true, false, List, [], ◌++◌, length, take, drop, Some, None, get_or, refl, inl, inr, sym, ap, subst, ◌∙◌, arith}
+use Rattle.std.specs.Int.{w32, from_le_bytes}
+use Rattle.std.proofs.lemmas.Nat.{from_le_bytes-to_le_bytes_4}
 use Rattle.tmc_wire.specs.declared.header.OutHeader.{OutHeader}
 use Rattle.tmc_wire.specs.declared.header.OutHeader.TheVariants.{Message, Request, Trigger}
 use Rattle.tmc_wire.specs.declared.header_fault.HeaderFault.{HeaderFault}
 use Rattle.tmc_wire.specs.declared.header_fault.HeaderFault.TheVariants.{Length, MsgId, Tag, Inverse, Size}
 use Rattle.tmc_wire.specs.Standard.{header_size, trigger}
-use Rattle.tmc_wire.specs.Header.{IsOutHeader, HasEom, IsSized}
+use Rattle.tmc_wire.specs.Header.{prefix, sized, IsOutHeader, HasEom, IsSized}
 use Rattle.tmc_wire.specs.HeaderFault as fault
-use Rattle.tmc_wire.proofs.Reading.{same_size}
 use Rattle.tmc_law.specs.State.{State, Pending, Transfer, Idle}
 use Rattle.tmc_law.specs.BulkOut.{HeaderRefused, NoHeader, BulkInBusy, RequestInside, TriggerInside, TooLong, Belongs, InProgress, Begun, Misfits, Spoils, ByHeader, ByLength, message_most, wants}
 
@@ -29,9 +30,17 @@ request_is t u s v p q = cc
 trigger_is : (t u : ℕ) → t ≡ u → Trigger t ≡ Trigger u
 trigger_is t u p = cc
 
+-- the bytes of a header say its size
+abbrev size_in : List ℕ → ℕ
+size_in bytes = from_le_bytes w32 (take 4 (drop 4 bytes))
+
+size_is : (m t r s a x y z : ℕ) (bytes : List ℕ) → s < 2 ^ 32 → bytes ≡ prefix m t r ++ sized s a x y z → size_in bytes ≡ s
+size_is m t r s a x y z bytes small e = ap size_in e ∙ from_le_bytes-to_le_bytes_4 s small
+
 size_of : (t u s v : ℕ) (bytes : List ℕ) (m n : ℕ) (A B : ℕ → Type 0) → IsSized m t s A bytes → IsSized n u v B bytes → s ≡ v
 size_of t u s v bytes m n A B h k =
-    same_size m t s h.reserved h.attributes h.ninth h.tenth h.eleventh n u v k.reserved k.attributes k.ninth k.tenth k.eleventh h.counted.1 k.counted.1 (sym h.layout ∙ k.layout)
+    sym (size_is m t h.reserved s h.attributes h.ninth h.tenth h.eleventh bytes h.counted.1 h.layout)
+    ∙ size_is n u k.reserved v k.attributes k.ninth k.tenth k.eleventh bytes k.counted.1 k.layout
 
 -- bytes are one header
 pub one_header : (a b : OutHeader) (bytes : List ℕ) → IsOutHeader a bytes → IsOutHeader b bytes → a ≡ b
