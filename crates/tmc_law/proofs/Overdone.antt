@@ -1,9 +1,8 @@
 -- a device that is sent messages alone closes at a submit that it cannot take, and at nothing else
-use Rattle.std.proofs.Common.{◌≡◌, ◌∙◌, ◌≢◌, ◌⊎◌, inl, inr, ℕ, ◌<◌, List, [], ◌∷◌, ◌++◌, length, refl, sym, ap, subst, append_assoc, append-nil, lit<, arith}
+use Rattle.std.proofs.Common.{◌≡◌, ◌∙◌, ◌≢◌, ◌⊎◌, inl, inr, ℕ, List, [], ◌∷◌, ◌++◌, length, refl, sym, ap, subst, append_assoc}
 use Rattle.tmc_base.specs.declared.field.Field.{Field}
 use Rattle.tmc_base.specs.declared.field.Layer.{Layer}
 use Rattle.tmc_base.specs.declared.field.Layer.TheVariants.{Op}
-use Rattle.usbip_wire.specs.declared.submit.SubmitHead.{SubmitHead}
 use Rattle.usbip_wire.specs.declared.up.UpPhase.TheVariants.{Urbs}
 use Rattle.usbip_wire.specs.JudgedFields.{bytes_in}
 use Rattle.usbip_wire.specs.Urb.{fields}
@@ -14,7 +13,7 @@ use Rattle.usbip_wire.specs.UpFed.{BadAt}
 use Rattle.usbip_wire.specs.Stream.{InRow}
 use Rattle.usbip_wire.specs.Laws.{ArePrefixFree, RefusedAt, AreAlone}
 use Rattle.tmc_law.specs.State.{State, Plugged, Closed}
-use Rattle.tmc_law.specs.Step.{IsRefused, IsOver, ByField, ByPending}
+use Rattle.tmc_law.specs.Step.{IsRefused, ByField, ByPending}
 use Rattle.tmc_law.specs.Run.{Entry, Runs, Fits, inputs, SpellAll}
 use Rattle.tmc_law.specs.Laws.{EndsRefused, EndsOver}
 use Rattle.tmc_law.proofs.Refused.{plugged_open, ends}

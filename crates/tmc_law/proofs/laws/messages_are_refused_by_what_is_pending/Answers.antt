@@ -1,4 +1,3 @@
-use Rattle.std.proofs.Common.{ℕ}
 use Rattle.tmc_law.proofs.Overdone.{ends_over}
 use Rattle.tmc_law.proofs.laws.messages_are_refused_by_what_is_pending.Goals as goal
 
