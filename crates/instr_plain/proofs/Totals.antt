@@ -149,11 +149,11 @@ pub executed : AMessageOrAFault → (before : Plain) (message : List ℕ) → (a
 executed either before message =
     elim (either message) [
       | inl h ↦
-        (let end = executes_all (begun before) h.0 in (
-          end.0.state,
-          response_of end.0.answers,
-          inl (record { units = h.0; end = end.0; program = h.1; executes = end.1; leaves = refl; answers = refl }),
-        ))
+          (let end = executes_all (begun before) h.0 in (
+            end.0.state,
+            response_of end.0.answers,
+            inl (record { units = h.0; end = end.0; program = h.1; executes = end.1; leaves = refl; answers = refl }),
+          ))
       | inr h ↦ (_, [], inr (record { none = h.1.none; leaves = refl; silent = refl }))
     ]
 

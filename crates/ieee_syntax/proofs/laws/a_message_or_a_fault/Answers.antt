@@ -28,9 +28,9 @@ leads bytes (suc at) within =
     elim (leads bytes at (omega (arith, within))) [
       | inl fault ↦ inl fault
       | inr read ↦
-        (let next = goes_on bytes at read.0 (step read.0.units read.0.place (kind_of (get_or bytes at 0))) (omega (arith, within)) read.1 (one_more bytes at read.0 (omega (arith, within)) read.1) in
-        let same : at + 1 ≡ suc at = omega arith in
-        subst (Leads bytes) same next)
+          (let next = goes_on bytes at read.0 (step read.0.units read.0.place (kind_of (get_or bytes at 0))) (omega (arith, within)) read.1 (one_more bytes at read.0 (omega (arith, within)) read.1) in
+          let same : at + 1 ≡ suc at = omega arith in
+          subst (Leads bytes) same next)
     ]
 
 ends : (bytes : List ℕ) (s : Scan) (o : Option (List Unit)) → reads bytes ≡ Some s → finish s.units s.place ≡ o
