@@ -29,6 +29,8 @@ pub mod LaidSteps
 pub mod PacketLayouts
 pub mod ClassLayouts
 pub mod PieceTransfers
+pub mod Rising
+pub mod Flags
 pub mod WorkedSpelling
 pub mod WorkedJoined
 pub mod WorkedComing

@@ -17,6 +17,8 @@ pub mod Run
 pub mod Told
 pub mod Laws
 pub mod Layouts
+pub mod Numbers
+pub mod HaltCauses
 pub mod WorkedSession
 pub mod WorkedQuery
 pub mod WorkedRead

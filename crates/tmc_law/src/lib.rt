@@ -9,16 +9,19 @@
 #![tactic(auto)]
 
 mod dev_event;
+mod halt_causes;
 mod input;
 mod laws;
 mod layouts;
 mod log;
+mod numbers;
 mod output;
 #[cfg(test)]
 mod tests;
 mod worked;
 
 pub use dev_event::DevEvent;
+pub use halt_causes::halts_have_causes;
 pub use input::Input;
 pub use instr_plain::{LogEntry, RemoteAct};
 pub use laws::{
@@ -30,6 +33,7 @@ pub use layouts::{
     the_ends_are_the_descriptors,
 };
 pub use log::Log;
+pub use numbers::numbers_rise;
 pub use output::Output;
 pub use worked::{
     a_bare_request_is_aborted, a_busy_device_takes_no_header, a_halt_drops_a_response,
