@@ -25,17 +25,17 @@ quietly entries puts s t none ties = lasts_at entries puts [] t t none refl (non
 
 leads_last : (move : Move) (entries : List Outstanding) (s : State) (puts : List Put) (t : State)
     → IsNew entries move → TiesAt entries s → Leads s move puts t → LastsAt (with_messages entries (taken move)) puts t
-leads_last (Comes (up.Submit head transferred)) entries s puts t new ties (spelled, avoids, few, arrives) =
+leads_last (Comes (up.Submit head transferred)) entries s puts t new ties (came, avoids, few, arrives) =
     arrives_last entries s head transferred puts t (record {
-      wide = spelled.1.wide 1;
-      sized = spelled.1.wide 6;
-      carried = carried_fits head.dir head.length transferred spelled.1.carried;
+      wide = came.wide 0;
+      sized = came.wide 3;
+      carried = carried_fits head.dir head.length transferred came.carried;
       unknown = ties.owed.covered head.seqnum avoids;
       avoids = avoids;
     }) ties arrives
-leads_last (Comes (up.Unlink head)) entries s puts t new ties (spelled, unlinks) =
-    unlinks_last entries s head puts t (spelled.1.wide 1) (none_has head.seqnum entries new) ties unlinks
-leads_last (Refuses bytes f) entries s puts t new ties (refused, none, i) =
+leads_last (Comes (up.Unlink head)) entries s puts t new ties (came, unlinks) =
+    unlinks_last entries s head puts t (came 0) (none_has head.seqnum entries new) ties unlinks
+leads_last (Refuses devid bytes f) entries s puts t new ties (refused, none, i) =
     quietly entries puts s t none (ties_at entries t _ i ties)
 leads_last (Take count) entries s puts t new ties (idle, takes) = takes_last entries s count puts t ties takes
 leads_last Exec entries s puts t new ties (executes, none) =

@@ -75,8 +75,7 @@ fits_moved submit n h = record {
   sized = subst (λ (d : Dir). Sized d (record submit { left = drop n submit.left; moved = submit.moved ++ take n submit.left })) (sym h.way)
       (moved_sized submit n (subst (λ (d : Dir). Sized d submit) h.way h.sized));
   transferred = h.transferred;
-  bytes = h.bytes;
-  spelled = h.spelled;
+  came = h.came;
 }
 
 moves_later : (count : ℕ) (submit : Pending) (transfer : Transfer) (later : Pending) (grown : Transfer) → out.Moves count submit transfer later grown → IsLater BulkOut submit later
@@ -119,8 +118,7 @@ fits_filled submit n piece free h =
       way = h.way;
       sized = subst (λ (d : Dir). Sized d («in».filled n piece submit)) (sym h.way) (filled_short submit n piece.left before.0 free, before.1);
       transferred = h.transferred;
-      bytes = h.bytes;
-      spelled = h.spelled;
+      came = h.came;
     }
 
 filled_later : (submit : Pending) (n : ℕ) (piece : Piece) → n ≤ room submit → IsLater BulkIn submit («in».filled n piece submit)
@@ -276,8 +274,7 @@ fits_polled submit h = record {
   way = h.way;
   sized = sized_polled submit.head.dir h.sized;
   transferred = h.transferred;
-  bytes = h.bytes;
-  spelled = h.spelled;
+  came = h.came;
 }
   where
     sized_polled : (d : Dir) → Sized d submit → Sized d (record submit { polled = true })
@@ -303,8 +300,7 @@ fits_notified packet submit long h =
       way = h.way;
       sized = subst (λ (d : Dir). Sized d (status.notified packet submit)) (sym h.way) (rw (packet_long packet) long, before.1);
       transferred = h.transferred;
-      bytes = h.bytes;
-      spelled = h.spelled;
+      came = h.came;
     }
 
 notifies : (s : State) (puts : List Put) (t : State) → status.Notifies s puts t → Acts t s puts
@@ -371,7 +367,7 @@ IsArrival _ = ⊥
 pub acts : (s : State) (move : Move) (puts : List Put) (t : State) → Each FirstPolled s → (IsArrival move → ⊥) → Leads s move puts t → Acts t s puts
 acts s (Comes (up.Submit head transferred)) puts t first other h = absurd (other tt)
 acts s (Comes (up.Unlink head)) puts t first other h = unlinks s head puts t first h.1
-acts s (Refuses bytes f) puts t first other h =
+acts s (Refuses devid bytes f) puts t first other h =
     silent s t puts h.1 (is_same s _ t h.2 (record { control = refl; bulk_out = refl; bulk_in = refl; interrupt_in = refl }))
 acts s (Take count) puts t first other h = takes s count puts t h.1
 acts s Exec puts t first other h = executes s t puts h.0 h.1

@@ -18,7 +18,7 @@ abbrev pub EachWide : List ℕ → Type 0
 EachWide [] = Unit {0}
 EachWide (word ∷ words) = (word < 2 ^ 32) × EachWide words
 
-each_wide : (words : List ℕ) → EachWide words → AreWide words
+pub each_wide : (words : List ℕ) → EachWide words → AreWide words
 each_wide [] wide i = lit< tt
 each_wide (word ∷ words) wide zero = wide.0
 each_wide (word ∷ words) wide (suc i) = each_wide words wide.1 i

@@ -33,7 +33,7 @@ answered-append n (Unlinked asked answer ∷ a) b = answered-append n a b
 -- ---- a number that does not arrive
 
 does_count : (n : ℕ) (s : State) (move : Move) (puts : List Put) (t : State) → NoneArrives n (taken move) → Does s move puts t → answered n puts + here n t ≤ here n s
-does_count n s move puts t none (Arriving head transferred bytes is spells free arrives) =
+does_count n s move puts t none (Arriving head transferred is came free arrives) =
     by (ne_eqb head.seqnum n (subst (λ (m : Move). NoneArrives n (taken m)) is none).0) (arrival_count n s t head transferred puts arrives)
   where
     by : eqb head.seqnum n ≡ false → answered n puts + here n t ≤ cond (eqb head.seqnum n) 1 0 + here n s → answered n puts + here n t ≤ here n s

@@ -286,7 +286,7 @@ halts_itself s endpoint puts t laid (DoesHalt other usable put is) = like t _ is
 pub leads : (s : State) (move : Move) (puts : List Put) (t : State) → IsLaid s → Leads s move puts t → IsLaid t
 leads s (Comes (up.Submit head transferred)) puts t laid does = arrives s head transferred puts t laid does.3
 leads s (Comes (up.Unlink head)) puts t laid does = unlinks s head puts t laid does.1
-leads s (Refuses bytes f) puts t laid does = like t _ does.2 (still s _ refl refl refl refl laid)
+leads s (Refuses devid bytes f) puts t laid does = like t _ does.2 (still s _ refl refl refl refl laid)
 leads s (Take count) puts t laid does = takes s count puts t laid does.1
 leads s Exec puts t laid does = executes s t laid does.0
 leads s (Begin count) puts t laid does = begins s count t laid does.0

@@ -1,8 +1,10 @@
 pub mod Joined
+pub mod Present
 pub mod Grown
 pub mod Logged
 pub mod Spared
 pub mod Rows
+pub mod Refused
 pub mod Telling
 pub mod AnswerBytes
 pub mod Outstanding
@@ -33,6 +35,7 @@ pub mod Rising
 pub mod Flags
 pub mod WorkedSpelling
 pub mod WorkedJoined
+pub mod WorkedArrived
 pub mod WorkedComing
 pub mod WorkedUnspoiled
 pub mod WorkedTaking
@@ -65,3 +68,5 @@ pub mod WorkedRemote
 pub mod WorkedChecks
 pub mod WorkedUnlink
 pub mod WorkedTold
+pub mod WorkedBehind
+pub mod WorkedArriving

@@ -183,7 +183,7 @@ halts_itself s endpoint puts t (DoesHalt other usable put is) = like s t _ is (h
 pub leads : (s : State) (move : Move) (puts : List Put) (t : State) → Leads s move puts t → Grown s t
 leads s (Comes (up.Submit head transferred)) puts t does = arrives s head transferred puts t does.3
 leads s (Comes (up.Unlink head)) puts t does = unlinks s head puts t does.1
-leads s (Refuses bytes f) puts t does = like s t _ does.2 (still s)
+leads s (Refuses devid bytes f) puts t does = like s t _ does.2 (still s)
 leads s (Take count) puts t does = takes s count puts t does.1
 leads s Exec puts t does = executes s t does.0
 leads s (Begin count) puts t does = begins s count t does.0

@@ -198,7 +198,7 @@ arrival_mine submits s t head transferred puts not (TurnedAway none put is) = (
 
 does_front : (submits : List Pending) (e : Endpoint) (s : State) (move : Move) (puts : List Put) (t : State) → NoneAgain submits (taken move) → Away submits e s → Does s move puts t
     → Fronts submits e puts s t × Away submits e t
-does_front submits e s move puts t none away (Arriving head transferred bytes is spells free arrives) =
+does_front submits e s move puts t none away (Arriving head transferred is came free arrives) =
     let not : is_one_of submits head.seqnum ≡ false = not_again submits head transferred (subst (λ (m : Move). NoneAgain submits (taken m)) is none) in
     let same = arrival_mine submits s t head transferred puts not arrives in
     (rw (same.0, same.1 e) (sub_refl (mine submits (queue_of e s))), λ d other. same.1 d ∙ away d other)

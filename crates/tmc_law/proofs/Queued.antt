@@ -4,10 +4,9 @@ use Rattle.std.proofs.lemmas.Bool.{eq-eqb, ne_eqb}
 use Rattle.std.specs.Prelude.{slice_index}
 use Rattle.usbip_wire.specs.declared.urb.Dir.{Dir}
 use Rattle.usbip_wire.specs.declared.urb.Dir.TheVariants.{Out, In}
-use Rattle.usbip_wire.specs.Up as up
 use Rattle.tmc_law.specs.Endpoint.{Endpoint, Control, BulkOut, BulkIn, InterruptIn, number_of, way_of}
 use Rattle.tmc_law.specs.State.{State, Pending, queue_of, with_queue, pending, Avoids}
-use Rattle.tmc_law.specs.Step.{Spells}
+use Rattle.tmc_law.specs.Queues.{IsSubmit}
 
 -- ---- counting numbers
 
@@ -148,14 +147,13 @@ abbrev pub Sized : Dir → Pending → Type 0
 Sized Out submit = length submit.moved + length submit.left ≡ submit.head.length
 Sized In submit = (length submit.moved ≤ submit.head.length) × (submit.left ≡ [])
 
--- a pending submit stands in the queue of its endpoint, was spelled, and has as many bytes as it asks for
+-- a pending submit stands in the queue of its endpoint, came as a submit does, and has as many bytes as it asks for
 pub record FitsAt (e : Endpoint) (submit : Pending) : Type 0 where
   pub number : submit.head.ep ≡ number_of e
   pub way : submit.head.dir ≡ way_of e (slice_index submit.head.setup 0)
   pub sized : Sized submit.head.dir submit
   pub transferred : List ℕ
-  pub bytes : List ℕ
-  pub spelled : Spells (up.Submit submit.head transferred) bytes
+  pub came : IsSubmit submit.head transferred
 
 abbrev pub AllFit : Endpoint → List Pending → Type 0
 AllFit e [] = Unit {0}

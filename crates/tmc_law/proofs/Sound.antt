@@ -9,8 +9,8 @@ use Rattle.usbip_wire.specs.Up as up
 use Rattle.tmc_law.specs.Endpoint.{Endpoint, Control, BulkOut, BulkIn, InterruptIn}
 use Rattle.tmc_law.specs.State.{State, Pending, start, arrived, queue_of, with_queue, pending, Avoids}
 use Rattle.tmc_law.specs.Put.{Put}
-use Rattle.tmc_law.specs.Queues.{Arrives, Queued, TurnedAway, IsTaken}
-use Rattle.tmc_law.specs.Step.{Move, Comes, Refuses, Take, Exec, Begin, Fill, Answer, Pend, Poll, Notify, Halt, Unplug, Leads, Steps, Spells}
+use Rattle.tmc_law.specs.Queues.{IsSubmit, Arrives, Queued, TurnedAway, IsTaken}
+use Rattle.tmc_law.specs.Step.{Move, Comes, Refuses, Take, Exec, Begin, Fill, Answer, Pend, Poll, Notify, Halt, Unplug, Leads, Steps}
 use Rattle.tmc_law.specs.Run.{Entry, Runs}
 use Rattle.tmc_law.proofs.Queued.{here, not_here, Each, each-with, each_same, Unpolled, NonePolled, FirstPolled, Sized, FitsAt, AllFit}
 pub use Rattle.tmc_law.proofs.Queued.{IsSound}
@@ -104,15 +104,14 @@ carried_sized : (d : Dir) (head : SubmitHead) (transferred : List ℕ) → Carri
 carried_sized Out head transferred h = omega (arith, h)
 carried_sized In head transferred h = (omega arith, h)
 
-arrived_fits : (s : State) (e : Endpoint) (head : SubmitHead) (transferred bytes : List ℕ) → IsTaken s head e → Spells (up.Submit head transferred) bytes
+arrived_fits : (s : State) (e : Endpoint) (head : SubmitHead) (transferred : List ℕ) → IsTaken s head e → IsSubmit head transferred
     → FitsAt e (arrived head transferred)
-arrived_fits s e head transferred bytes is_taken spells = record {
+arrived_fits s e head transferred is_taken came = record {
   number = is_taken.number;
   way = is_taken.way;
-  sized = carried_sized head.dir head transferred spells.carried;
+  sized = carried_sized head.dir head transferred came.carried;
   transferred = transferred;
-  bytes = bytes;
-  spelled = spells;
+  came = came;
 }
 
 one_less : (m n : ℕ) (k : ℕ) → (m ≡ n → k ≡ 0) → k ≤ 1 → cond (eqb m n) 1 0 + k ≤ 1
@@ -122,10 +121,10 @@ one_less m n k free few = by (eqb m n) refl
     by true e = omega (arith, free (eqb-true m n e))
     by false e = omega (arith, few)
 
-arrives_sound : (s t : State) (head : SubmitHead) (transferred bytes : List ℕ) (puts : List Put) → Spells (up.Submit head transferred) bytes → Avoids head.seqnum (pending s)
+arrives_sound : (s t : State) (head : SubmitHead) (transferred : List ℕ) (puts : List Put) → IsSubmit head transferred → Avoids head.seqnum (pending s)
     → Arrives s head transferred puts t → IsSound s → IsSound t
-arrives_sound s t head transferred bytes puts spells free (TurnedAway none put is) sound = subst (λ (x : State). IsSound x) (sym is) sound
-arrives_sound s t head transferred bytes puts spells free (Queued e is_taken put is) sound = record {
+arrives_sound s t head transferred puts came free (TurnedAway none put is) sound = subst (λ (x : State). IsSound x) (sym is) sound
+arrives_sound s t head transferred puts came free (Queued e is_taken put is) sound = record {
   distinct = λ n. omega (
     arith,
     arrival_count n s t head transferred puts (Queued e is_taken put is),
@@ -135,21 +134,21 @@ arrives_sound s t head transferred bytes puts spells free (Queued e is_taken put
       (each-with FirstPolled e (queue_of e s ++ arrived head transferred ∷ []) s sound.polled (first_more e (queue_of e s) (arrived head transferred) (sound.polled e) refl));
   fits = subst (λ (x : State). Each AllFit x) (sym is)
       (each-with AllFit e (queue_of e s ++ arrived head transferred ∷ []) s sound.fits
-      (fit_more e (queue_of e s) (arrived head transferred) (sound.fits e) (arrived_fits s e head transferred bytes is_taken spells)));
+      (fit_more e (queue_of e s) (arrived head transferred) (sound.fits e) (arrived_fits s e head transferred is_taken came)));
 }
 
 -- ---- steps and runs
 
 -- a step is an arrival, or acts
 pub data Does (s : State) (move : Move) (puts : List Put) (t : State) : Type 0 where
-  Arriving : (head : SubmitHead) (transferred bytes : List ℕ) → move ≡ Comes (up.Submit head transferred) → Spells (up.Submit head transferred) bytes
+  Arriving : (head : SubmitHead) (transferred : List ℕ) → move ≡ Comes (up.Submit head transferred) → IsSubmit head transferred
       → Avoids head.seqnum (pending s) → Arrives s head transferred puts t → Does s move puts t
   Acting : (IsArrival move → ⊥) → Acts t s puts → Does s move puts t
 
 leads_does : (s : State) (move : Move) (puts : List Put) (t : State) → IsSound s → Leads s move puts t → Does s move puts t
-leads_does s (Comes (up.Submit head transferred)) puts t sound h = Arriving head transferred h.0.0 refl h.0.1 h.1 h.3
+leads_does s (Comes (up.Submit head transferred)) puts t sound h = Arriving head transferred refl h.0 h.1 h.3
 leads_does s (Comes (up.Unlink head)) puts t sound h = Acting (λ no. absurd no) (acts s (Comes (up.Unlink head)) puts t sound.polled (λ no. absurd no) h)
-leads_does s (Refuses bytes f) puts t sound h = Acting (λ no. absurd no) (acts s (Refuses bytes f) puts t sound.polled (λ no. absurd no) h)
+leads_does s (Refuses devid bytes f) puts t sound h = Acting (λ no. absurd no) (acts s (Refuses devid bytes f) puts t sound.polled (λ no. absurd no) h)
 leads_does s (Take count) puts t sound h = Acting (λ no. absurd no) (acts s (Take count) puts t sound.polled (λ no. absurd no) h)
 leads_does s Exec puts t sound h = Acting (λ no. absurd no) (acts s Exec puts t sound.polled (λ no. absurd no) h)
 leads_does s (Begin count) puts t sound h = Acting (λ no. absurd no) (acts s (Begin count) puts t sound.polled (λ no. absurd no) h)
@@ -165,7 +164,7 @@ pub does : (s : State) (move : Move) (puts : List Put) (t : State) → IsSound s
 does s move puts t sound step = leads_does s move puts t sound step.leads
 
 does_sound : (s : State) (move : Move) (puts : List Put) (t : State) → IsSound s → Does s move puts t → IsSound t
-does_sound s move puts t sound (Arriving head transferred bytes is spells free arrives) = arrives_sound s t head transferred bytes puts spells free arrives sound
+does_sound s move puts t sound (Arriving head transferred is came free arrives) = arrives_sound s t head transferred puts came free arrives sound
 does_sound s move puts t sound (Acting other a) = acts_sound t s puts a sound
 
 pub sound_step : (s : State) (move : Move) (puts : List Put) (t : State) → IsSound s → Steps s move puts t → IsSound t

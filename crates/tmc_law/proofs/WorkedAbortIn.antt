@@ -61,13 +61,13 @@ checks_late seqnum = answers_class (late_came seqnum) (arrived (check_submit seq
 pub aborts_in : Runs half aborting_in done
 aborts_in = (
   abort_came,
-  asking_comes half 4 2 0xA2 _ (record { plugged = refl; free = refl; few = refl }) (lit< tt) (lit≤ tt) refl refl,
+  asking_comes half 4 2 0xA2 _ (record { plugged = refl; free = refl; few = refl }) refl refl,
   (
     aborted,
     aborts,
     (
       early_came,
-      asking_comes aborted 5 8 0xA2 _ (record { plugged = refl; free = refl; few = refl }) (lit< tt) (lit≤ tt) refl refl,
+      asking_comes aborted 5 8 0xA2 _ (record { plugged = refl; free = refl; few = refl }) refl refl,
       (
         aborted,
         checks_early,
@@ -76,7 +76,7 @@ aborts_in = (
           ends_transfer,
           (
             late_came 6,
-            asking_comes ended 6 8 0xA2 _ (record { plugged = refl; free = refl; few = refl }) (lit< tt) (lit≤ tt) refl refl,
+            asking_comes ended 6 8 0xA2 _ (record { plugged = refl; free = refl; few = refl }) refl refl,
             (done, checks_late 6, refl),
           ),
         ),
@@ -103,13 +103,13 @@ pends_late = record {
 pub checks_in : Runs half checking_in done
 checks_in = (
   abort_came,
-  asking_comes half 4 2 0xA2 _ (record { plugged = refl; free = refl; few = refl }) (lit< tt) (lit≤ tt) refl refl,
+  asking_comes half 4 2 0xA2 _ (record { plugged = refl; free = refl; few = refl }) refl refl,
   (
     aborted,
     aborts,
     (
       early_came,
-      asking_comes aborted 5 8 0xA2 _ (record { plugged = refl; free = refl; few = refl }) (lit< tt) (lit≤ tt) refl refl,
+      asking_comes aborted 5 8 0xA2 _ (record { plugged = refl; free = refl; few = refl }) refl refl,
       (
         aborted,
         pends_early,
@@ -118,13 +118,13 @@ checks_in = (
           ends_transfer,
           (
             late_came 6,
-            asking_comes ended 6 8 0xA2 _ (record { plugged = refl; free = refl; few = refl }) (lit< tt) (lit≤ tt) refl refl,
+            asking_comes ended 6 8 0xA2 _ (record { plugged = refl; free = refl; few = refl }) refl refl,
             (
               ended,
               pends_late,
               (
                 late_came 7,
-                asking_comes ended 7 8 0xA2 _ (record { plugged = refl; free = refl; few = refl }) (lit< tt) (lit≤ tt) refl refl,
+                asking_comes ended 7 8 0xA2 _ (record { plugged = refl; free = refl; few = refl }) refl refl,
                 (done, checks_late 7, refl),
               ),
             ),

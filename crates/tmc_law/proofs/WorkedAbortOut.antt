@@ -103,34 +103,34 @@ becomes_usable = answers_standard usable_came (arrived usable_submit []) [] usab
 pub aborts_out : Runs start aborting_out start
 aborts_out = (
   first_came,
-  out_comes start 1 64 first_text (record { plugged = refl; free = refl; few = refl }) (lit< tt) (lit≤ tt) refl refl,
+  out_comes start 1 64 first_text (record { plugged = refl; free = refl; few = refl }) refl refl,
   (
     split,
     takes_first,
     (
       second_came,
-      out_comes split 2 48 second_text (record { plugged = refl; free = refl; few = refl }) (lit< tt) (lit≤ tt) refl refl,
+      out_comes split 2 48 second_text (record { plugged = refl; free = refl; few = refl }) refl refl,
       (
         abort_came,
-        asking_comes second_came 3 2 0xA2 _ (record { plugged = refl; free = refl; few = refl }) (lit< tt) (lit≤ tt) refl refl,
+        asking_comes second_came 3 2 0xA2 _ (record { plugged = refl; free = refl; few = refl }) refl refl,
         (
           aborted,
           aborts,
           (
             check_came 4,
-            asking_comes aborted 4 8 0xA2 _ (record { plugged = refl; free = refl; few = refl }) (lit< tt) (lit≤ tt) refl refl,
+            asking_comes aborted 4 8 0xA2 _ (record { plugged = refl; free = refl; few = refl }) refl refl,
             (
               aborted,
               postpones,
               (
                 check_came 5,
-                asking_comes aborted 5 8 0xA2 _ (record { plugged = refl; free = refl; few = refl }) (lit< tt) (lit≤ tt) refl refl,
+                asking_comes aborted 5 8 0xA2 _ (record { plugged = refl; free = refl; few = refl }) refl refl,
                 (
                   checked,
                   checks,
                   (
                     usable_came,
-                    telling_comes checked 6 0x02 _ (record { plugged = refl; free = refl; few = refl }) (lit< tt) refl refl,
+                    telling_comes checked 6 0x02 _ (record { plugged = refl; free = refl; few = refl }) refl refl,
                     (start, becomes_usable, refl),
                   ),
                 ),

@@ -72,16 +72,16 @@ checks = answers_class check_came (arrived check_submit []) [] CheckIn (checked_
 pub requests_nothing : Runs start requesting_nothing done
 requests_nothing = (
   came,
-  out_comes start 1 12 request_text (record { plugged = refl; free = refl; few = refl }) (lit< tt) (lit≤ tt) refl refl,
+  out_comes start 1 12 request_text (record { plugged = refl; free = refl; few = refl }) refl refl,
   (
     owed,
     takes_request,
     (
       in_came,
-      in_comes owed 2 4096 (record { plugged = refl; free = refl; few = refl }) (lit< tt) (lit≤ tt) refl,
+      in_comes owed 2 4096 (record { plugged = refl; free = refl; few = refl }) refl refl,
       (
         abort_came,
-        asking_comes in_came 3 2 0xA2 _ (record { plugged = refl; free = refl; few = refl }) (lit< tt) (lit≤ tt) refl refl,
+        asking_comes in_came 3 2 0xA2 _ (record { plugged = refl; free = refl; few = refl }) refl refl,
         (
           aborted,
           aborts,
@@ -90,7 +90,7 @@ requests_nothing = (
             ends_transfer,
             (
               check_came,
-              asking_comes ended 4 8 0xA2 _ (record { plugged = refl; free = refl; few = refl }) (lit< tt) (lit≤ tt) refl refl,
+              asking_comes ended 4 8 0xA2 _ (record { plugged = refl; free = refl; few = refl }) refl refl,
               (done, checks, refl),
             ),
           ),

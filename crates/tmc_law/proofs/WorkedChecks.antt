@@ -34,20 +34,20 @@ clear_asks = record { fits = record { request_type = lit< tt; request = lit< tt;
 pub checks : Runs start checking done
 checks = (
   check_came 1 start,
-  asking_comes start 1 2 0xA1 _ (record { plugged = refl; free = refl; few = refl }) (lit< tt) (lit≤ tt) refl refl,
+  asking_comes start 1 2 0xA1 _ (record { plugged = refl; free = refl; few = refl }) refl refl,
   (
     start,
     answers_class (check_came 1 start) (arrived (check_submit 1) []) [] CheckClear (checked_clear start) refl refl (check_asks 1) tt refl,
     (
       clear_came,
-      asking_comes start 2 1 0xA1 _ (record { plugged = refl; free = refl; few = refl }) (lit< tt) (lit≤ tt) refl refl,
+      asking_comes start 2 1 0xA1 _ (record { plugged = refl; free = refl; few = refl }) refl refl,
       (
         cleared,
         answers_class clear_came (arrived clear_submit []) [] Clear (record { layout = 0x01 ∷ []; behind = []; state = cleared })
             refl refl clear_asks tt (DoesClear cleared (record { standing = at_power_on; after = refl; is = refl }) refl),
         (
           check_came 3 cleared,
-          asking_comes cleared 3 2 0xA1 _ (record { plugged = refl; free = refl; few = refl }) (lit< tt) (lit≤ tt) refl refl,
+          asking_comes cleared 3 2 0xA1 _ (record { plugged = refl; free = refl; few = refl }) refl refl,
           (
             cleared,
             record {
@@ -57,7 +57,7 @@ checks = (
             },
             (
               check_came 4 cleared,
-              asking_comes cleared 4 2 0xA1 _ (record { plugged = refl; free = refl; few = refl }) (lit< tt) (lit≤ tt) refl refl,
+              asking_comes cleared 4 2 0xA1 _ (record { plugged = refl; free = refl; few = refl }) refl refl,
               (done, answers_class (check_came 4 cleared) (arrived (check_submit 4) []) [] CheckClear (checked_clear cleared) refl refl (check_asks 4) tt refl, refl),
             ),
           ),

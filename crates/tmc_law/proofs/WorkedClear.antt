@@ -67,8 +67,8 @@ none_takes BulkIn taken = omega (arith, taken.number)
 none_takes InterruptIn taken = omega (arith, taken.number)
 
 turns_away : Steps cleared (Comes (up.Submit (out_submit 5 12) request_text)) (answered (out_submit 5 12) stalled 0 [] ∷ []) cleared
-turns_away = turned_away cleared (out_submit 5 12) request_text _ (record { plugged = refl; free = refl; few = refl })
-    (record { imported = refl; number = lit< tt; endpoint = lit≤ tt; short = lit≤ tt; setup = refl; carried = refl }) (TurnedAway none_takes refl refl)
+turns_away = turned_away cleared (out_submit 5 12) request_text _ (record { plugged = refl; free = refl; few = refl }) refl
+    (TurnedAway none_takes refl refl)
 
 checks : Steps check_came Answer (answered check_submit success 2 (0x01 ∷ 0x00 ∷ []) ∷ []) checked
 checks = answers_class check_came (arrived check_submit []) [] CheckClear (checked_clear cleared) refl refl check_asks tt refl
@@ -79,7 +79,7 @@ becomes_usable = answers_standard usable_came (arrived usable_submit []) [] usab
 pub clears_all : Runs half clearing done
 clears_all = (
   clear_came,
-  asking_comes half 4 1 0xA1 _ (record { plugged = refl; free = refl; few = refl }) (lit< tt) (lit≤ tt) refl refl,
+  asking_comes half 4 1 0xA1 _ (record { plugged = refl; free = refl; few = refl }) refl refl,
   (
     cleared,
     clears,
@@ -88,13 +88,13 @@ clears_all = (
       turns_away,
       (
         check_came,
-        asking_comes cleared 6 2 0xA1 _ (record { plugged = refl; free = refl; few = refl }) (lit< tt) (lit≤ tt) refl refl,
+        asking_comes cleared 6 2 0xA1 _ (record { plugged = refl; free = refl; few = refl }) refl refl,
         (
           checked,
           checks,
           (
             usable_came,
-            telling_comes checked 7 0x02 _ (record { plugged = refl; free = refl; few = refl }) (lit< tt) refl refl,
+            telling_comes checked 7 0x02 _ (record { plugged = refl; free = refl; few = refl }) refl refl,
             (done, becomes_usable, refl),
           ),
         ),

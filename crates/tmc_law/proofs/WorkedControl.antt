@@ -79,13 +79,13 @@ stalls = record {
 pub asks_control : Runs start asking_control start
 asks_control = (
   descriptor_came,
-  asking_comes start 1 18 0x80 _ (record { plugged = refl; free = refl; few = refl }) (lit< tt) (lit≤ tt) refl refl,
+  asking_comes start 1 18 0x80 _ (record { plugged = refl; free = refl; few = refl }) refl refl,
   (
     start,
     tells_descriptor,
     (
       unknown_came,
-      asking_comes start 2 4 0xC0 _ (record { plugged = refl; free = refl; few = refl }) (lit< tt) (lit≤ tt) refl refl,
+      asking_comes start 2 4 0xC0 _ (record { plugged = refl; free = refl; few = refl }) refl refl,
       (start, stalls, refl),
     ),
   ),
@@ -107,6 +107,6 @@ tells_part = record {
 pub asks_part : Runs start asking_part start
 asks_part = (
   part_came,
-  asking_comes start 1 24 0xA1 _ (record { plugged = refl; free = refl; few = refl }) (lit< tt) (lit≤ tt) refl refl,
+  asking_comes start 1 24 0xA1 _ (record { plugged = refl; free = refl; few = refl }) refl refl,
   (start, tells_part, refl),
 )

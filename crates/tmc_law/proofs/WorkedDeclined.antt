@@ -81,31 +81,31 @@ is_busy = answers_class (abort_came 5 1 aborted) (arrived (abort_submit 5 1) [])
 pub declines : Runs start declining aborted
 declines = (
   abort_came 1 1 start,
-  asking_comes start 1 2 0xA2 _ (record { plugged = refl; free = refl; few = refl }) (lit< tt) (lit≤ tt) refl refl,
+  asking_comes start 1 2 0xA2 _ (record { plugged = refl; free = refl; few = refl }) refl refl,
   (
     start,
     fails,
     (
       first_came,
-      out_comes start 2 64 first_text (record { plugged = refl; free = refl; few = refl }) (lit< tt) (lit≤ tt) refl refl,
+      out_comes start 2 64 first_text (record { plugged = refl; free = refl; few = refl }) refl refl,
       (
         split,
         takes_first,
         (
           abort_came 3 7 split,
-          asking_comes split 3 2 0xA2 _ (record { plugged = refl; free = refl; few = refl }) (lit< tt) (lit≤ tt) refl refl,
+          asking_comes split 3 2 0xA2 _ (record { plugged = refl; free = refl; few = refl }) refl refl,
           (
             split,
             is_another,
             (
               abort_came 4 1 split,
-              asking_comes split 4 2 0xA2 _ (record { plugged = refl; free = refl; few = refl }) (lit< tt) (lit≤ tt) refl refl,
+              asking_comes split 4 2 0xA2 _ (record { plugged = refl; free = refl; few = refl }) refl refl,
               (
                 aborted,
                 aborts,
                 (
                   abort_came 5 1 aborted,
-                  asking_comes aborted 5 2 0xA2 _ (record { plugged = refl; free = refl; few = refl }) (lit< tt) (lit≤ tt) refl refl,
+                  asking_comes aborted 5 2 0xA2 _ (record { plugged = refl; free = refl; few = refl }) refl refl,
                   (aborted, is_busy, refl),
                 ),
               ),

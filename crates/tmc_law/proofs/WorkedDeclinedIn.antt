@@ -59,19 +59,19 @@ fails = answers_class (abort_came 9 2 done) (arrived (abort_submit 9 2) []) [] (
 pub declines_in : Runs half declining_in done
 declines_in = (
   abort_came 4 7 half,
-  asking_comes half 4 2 0xA2 _ (record { plugged = refl; free = refl; few = refl }) (lit< tt) (lit≤ tt) refl refl,
+  asking_comes half 4 2 0xA2 _ (record { plugged = refl; free = refl; few = refl }) refl refl,
   (
     half,
     is_another,
     (
       abort_came 5 2 half,
-      asking_comes half 5 2 0xA2 _ (record { plugged = refl; free = refl; few = refl }) (lit< tt) (lit≤ tt) refl refl,
+      asking_comes half 5 2 0xA2 _ (record { plugged = refl; free = refl; few = refl }) refl refl,
       (
         aborted,
         aborts,
         (
           abort_came 6 2 aborted,
-          asking_comes aborted 6 2 0xA2 _ (record { plugged = refl; free = refl; few = refl }) (lit< tt) (lit≤ tt) refl refl,
+          asking_comes aborted 6 2 0xA2 _ (record { plugged = refl; free = refl; few = refl }) refl refl,
           (
             aborted,
             is_busy,
@@ -80,19 +80,19 @@ declines_in = (
               ends_transfer,
               (
                 abort_came 7 2 ended,
-                asking_comes ended 7 2 0xA2 _ (record { plugged = refl; free = refl; few = refl }) (lit< tt) (lit≤ tt) refl refl,
+                asking_comes ended 7 2 0xA2 _ (record { plugged = refl; free = refl; few = refl }) refl refl,
                 (
                   ended,
                   stays_busy,
                   (
                     late_came,
-                    asking_comes ended 8 8 0xA2 _ (record { plugged = refl; free = refl; few = refl }) (lit< tt) (lit≤ tt) refl refl,
+                    asking_comes ended 8 8 0xA2 _ (record { plugged = refl; free = refl; few = refl }) refl refl,
                     (
                       done,
                       checks,
                       (
                         abort_came 9 2 done,
-                        asking_comes done 9 2 0xA2 _ (record { plugged = refl; free = refl; few = refl }) (lit< tt) (lit≤ tt) refl refl,
+                        asking_comes done 9 2 0xA2 _ (record { plugged = refl; free = refl; few = refl }) refl refl,
                         (done, fails, refl),
                       ),
                     ),

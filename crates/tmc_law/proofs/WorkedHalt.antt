@@ -45,8 +45,8 @@ none_takes BulkIn taken = let e = taken.usable in cc
 none_takes InterruptIn taken = omega (arith, taken.number)
 
 turns_away : Steps halted (Comes (up.Submit (in_submit 4 4096) [])) (answered (in_submit 4 4096) stalled 0 [] ∷ []) halted
-turns_away = turned_away halted (in_submit 4 4096) [] _ (record { plugged = refl; free = refl; few = refl })
-    (record { imported = refl; number = lit< tt; endpoint = lit≤ tt; short = lit≤ tt; setup = refl; carried = refl }) (TurnedAway none_takes refl refl)
+turns_away = turned_away halted (in_submit 4 4096) [] _ (record { plugged = refl; free = refl; few = refl }) refl
+    (TurnedAway none_takes refl refl)
 
 -- GET_STATUS, and CLEAR_FEATURE
 abbrev status_setup : Setup
@@ -76,13 +76,13 @@ halts_in = (
     turns_away,
     (
       status_came,
-      asking_comes halted 5 2 0x82 _ (record { plugged = refl; free = refl; few = refl }) (lit< tt) (lit≤ tt) refl refl,
+      asking_comes halted 5 2 0x82 _ (record { plugged = refl; free = refl; few = refl }) refl refl,
       (
         halted,
         tells_status,
         (
           usable_came,
-          telling_comes halted 6 0x02 _ (record { plugged = refl; free = refl; few = refl }) (lit< tt) refl refl,
+          telling_comes halted 6 0x02 _ (record { plugged = refl; free = refl; few = refl }) refl refl,
           (done, becomes_usable, refl),
         ),
       ),

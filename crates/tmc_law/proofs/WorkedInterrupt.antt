@@ -82,7 +82,7 @@ executes_second = record {
 pub interrupts : Runs start interrupting done
 interrupts = (
   first_came,
-  out_comes start 1 20 query_text (record { plugged = refl; free = refl; few = refl }) (lit< tt) (lit≤ tt) refl refl,
+  out_comes start 1 20 query_text (record { plugged = refl; free = refl; few = refl }) refl refl,
   (
     first_waits,
     takes_first,
@@ -91,7 +91,7 @@ interrupts = (
       executes_first,
       (
         second_came,
-        out_comes executed 2 20 second_text (record { plugged = refl; free = refl; few = refl }) (lit< tt) (lit≤ tt) refl refl,
+        out_comes executed 2 20 second_text (record { plugged = refl; free = refl; few = refl }) refl refl,
         (second_waits, takes_second, (done, executes_second, refl)),
       ),
     ),

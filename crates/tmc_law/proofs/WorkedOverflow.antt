@@ -23,13 +23,13 @@ halted = record start { halted = record { bulk_out = false; bulk_in = true; inte
 pub overflows : Runs start overflowing halted
 overflows = (
   read_came,
-  out_comes start 1 20 read_text (record { plugged = refl; free = refl; few = refl }) (lit< tt) (lit≤ tt) refl refl,
+  out_comes start 1 20 read_text (record { plugged = refl; free = refl; few = refl }) refl refl,
   (
     request_came,
-    out_comes read_came 2 12 request_text (record { plugged = refl; free = refl; few = refl }) (lit< tt) (lit≤ tt) refl refl,
+    out_comes read_came 2 12 request_text (record { plugged = refl; free = refl; few = refl }) refl refl,
     (
       came 64,
-      in_comes request_came 3 64 (record { plugged = refl; free = refl; few = refl }) (lit< tt) (lit≤ tt) refl,
+      in_comes request_came 3 64 (record { plugged = refl; free = refl; few = refl }) refl refl,
       (
         waits 64,
         takes_read 64,
@@ -50,7 +50,7 @@ overflows = (
                 },
                 (
                   small_came,
-                  in_comes full 4 8 (record { plugged = refl; free = refl; few = refl }) (lit< tt) (lit≤ tt) refl,
+                  in_comes full 4 8 (record { plugged = refl; free = refl; few = refl }) refl refl,
                   (
                     halted,
                     record {

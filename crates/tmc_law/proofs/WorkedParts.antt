@@ -113,7 +113,7 @@ executes = record {
 pub sends_parts : Runs start sending_parts done
 sends_parts = (
   first_came,
-  out_comes start 1 112 spaces_text (record { plugged = refl; free = refl; few = refl }) (lit< tt) (lit≤ tt) refl refl,
+  out_comes start 1 112 spaces_text (record { plugged = refl; free = refl; few = refl }) refl refl,
   (
     inside,
     takes_first,
@@ -122,7 +122,7 @@ sends_parts = (
       takes_second,
       (
         last_came,
-        out_comes part 2 20 last_text (record { plugged = refl; free = refl; few = refl }) (lit< tt) (lit≤ tt) refl refl,
+        out_comes part 2 20 last_text (record { plugged = refl; free = refl; few = refl }) refl refl,
         (waits, takes_last, (done, executes, refl)),
       ),
     ),

@@ -110,13 +110,13 @@ fills_response = record {
 pub asks : Runs start asking requested
 asks = (
   query_came,
-  out_comes start 1 20 query_text (record { plugged = refl; free = refl; few = refl }) (lit< tt) (lit≤ tt) refl refl,
+  out_comes start 1 20 query_text (record { plugged = refl; free = refl; few = refl }) refl refl,
   (
     request_came,
-    out_comes query_came 2 12 request_text (record { plugged = refl; free = refl; few = refl }) (lit< tt) (lit≤ tt) refl refl,
+    out_comes query_came 2 12 request_text (record { plugged = refl; free = refl; few = refl }) refl refl,
     (
       came,
-      in_comes request_came 3 4096 (record { plugged = refl; free = refl; few = refl }) (lit< tt) (lit≤ tt) refl,
+      in_comes request_came 3 4096 (record { plugged = refl; free = refl; few = refl }) refl refl,
       (waits, takes_query, (executed, executes_query, (requested, takes_request, refl))),
     ),
   ),

@@ -108,13 +108,13 @@ fills_first = record {
 pub reads_half : Runs start reading half
 reads_half = (
   read_came,
-  out_comes start 1 20 read_text (record { plugged = refl; free = refl; few = refl }) (lit< tt) (lit≤ tt) refl refl,
+  out_comes start 1 20 read_text (record { plugged = refl; free = refl; few = refl }) refl refl,
   (
     request_came,
-    out_comes read_came 2 12 request_text (record { plugged = refl; free = refl; few = refl }) (lit< tt) (lit≤ tt) refl refl,
+    out_comes read_came 2 12 request_text (record { plugged = refl; free = refl; few = refl }) refl refl,
     (
       came 4096,
-      in_comes request_came 3 4096 (record { plugged = refl; free = refl; few = refl }) (lit< tt) (lit≤ tt) refl,
+      in_comes request_came 3 4096 (record { plugged = refl; free = refl; few = refl }) refl refl,
       (waits 4096, takes_read 4096, (executed 4096, executes_read 4096, (requested 4096, takes_request 4096, (sends 4096, begins_block 4096, (half, fills_first, refl))))),
     ),
   ),

@@ -7,9 +7,9 @@ use Rattle.usbip_wire.specs.Submit.{submit_bytes}
 use Rattle.tmc_law.specs.State.{State, start, arrived, Plugged, Closed, pending, Avoids}
 use Rattle.tmc_law.specs.Put.{Put}
 use Rattle.tmc_law.specs.Queues.{pending_most}
-use Rattle.tmc_law.specs.Step.{Steps, Comes, Refuses, Spells, TooMany, Twice, ByField, ByPending}
+use Rattle.tmc_law.specs.Step.{Steps, Comes, Refuses, TooMany, Twice, ByField, ByPending}
 use Rattle.tmc_law.specs.Run.{Runs}
-use Rattle.tmc_law.specs.WorkedSession.{in_submit}
+use Rattle.tmc_law.specs.WorkedSession.{devid, in_submit}
 use Rattle.tmc_law.specs.WorkedRefused.{again_text, number_field, command_field, pending_field, coming_twice, coming_wrong}
 use Rattle.tmc_law.proofs.WorkedSpelling.{submit_spells}
 use Rattle.tmc_law.proofs.WorkedComing.{in_comes}
@@ -20,7 +20,7 @@ came = record start { bulk_in = arrived (in_submit 1 4096) [] ∷ [] }
 not_free : Avoids 1 (pending came) → ⊥
 not_free free = free.0 refl
 
-refuses_number : Steps came (Refuses again_text number_field) [] (record came { presence = Closed number_field })
+refuses_number : Steps came (Refuses devid again_text number_field) [] (record came { presence = Closed number_field })
 unfolding submit_bytes fields
 refuses_number = record {
   plugged = refl;
@@ -36,19 +36,19 @@ refuses_number = record {
 pub comes_twice : Runs start coming_twice (record came { presence = Closed number_field })
 comes_twice = (
   came,
-  in_comes start 1 4096 (record { plugged = refl; free = refl; few = refl }) (lit< tt) (lit≤ tt) refl,
+  in_comes start 1 4096 (record { plugged = refl; free = refl; few = refl }) refl refl,
   (record came { presence = Closed number_field }, refuses_number, refl),
 )
 
-refuses_command : Steps start (Refuses (0x00 ∷ 0x00 ∷ 0x00 ∷ 0x07 ∷ []) command_field) [] (record start { presence = Closed command_field })
+refuses_command : Steps start (Refuses devid (0x00 ∷ 0x00 ∷ 0x00 ∷ 0x07 ∷ []) command_field) [] (record start { presence = Closed command_field })
 refuses_command = record { plugged = refl; leads = (ByField (7, [], lit< tt, refl, refl), refl, refl) }
 
 pub comes_wrong : Runs start coming_wrong (record start { presence = Closed command_field })
 comes_wrong = (record start { presence = Closed command_field }, refuses_command, refl)
 
-pub refuses_more : (s : State) (head : SubmitHead) (transferred bytes rest : List ℕ) → s.presence ≡ Plugged → pending_most ≤ length (pending s) → Spells (up.Submit head transferred) bytes
-    → Steps s (Refuses (bytes ++ rest) pending_field) [] (record s { presence = Closed pending_field })
-refuses_more s head transferred bytes rest plugged many spelled = record {
+pub refuses_more : (n : ℕ) (s : State) (head : SubmitHead) (transferred bytes rest : List ℕ) → s.presence ≡ Plugged → pending_most ≤ length (pending s)
+    → up.Spells n (up.Submit head transferred) bytes → Steps s (Refuses n (bytes ++ rest) pending_field) [] (record s { presence = Closed pending_field })
+refuses_more n s head transferred bytes rest plugged many spelled = record {
   plugged = plugged;
   leads = (ByPending head transferred bytes rest refl spelled (TooMany many refl), refl, refl);
 }

@@ -33,14 +33,14 @@ capabilities_asks = record { fits = record { request_type = lit< tt; request = l
 pub operates : Runs start operating done
 operates = (
   remote_came,
-  asking_comes start 1 1 0xA1 _ (record { plugged = refl; free = refl; few = refl }) (lit< tt) (lit≤ tt) refl refl,
+  asking_comes start 1 1 0xA1 _ (record { plugged = refl; free = refl; few = refl }) refl refl,
   (
     done,
     answers_class remote_came (arrived remote_submit []) [] (Ren true) (record { layout = 0x01 ∷ []; behind = []; state = done })
         refl refl remote_asks tt (DoesOperate done (record { standing = done.standing; after = refl; is = refl }) refl),
     (
       capabilities_came,
-      asking_comes done 2 24 0xA1 _ (record { plugged = refl; free = refl; few = refl }) (lit< tt) (lit≤ tt) refl refl,
+      asking_comes done 2 24 0xA1 _ (record { plugged = refl; free = refl; few = refl }) refl refl,
       (
         done,
         answers_class capabilities_came (arrived capabilities_submit []) [] Capabilities (record { layout = capabilities_layout; behind = []; state = done })
@@ -91,21 +91,21 @@ pulse_asks = record { fits = record { request_type = lit< tt; request = lit< tt;
 pub locks : Runs start locking locked
 locks = (
   remote_came,
-  asking_comes start 1 1 0xA1 _ (record { plugged = refl; free = refl; few = refl }) (lit< tt) (lit≤ tt) refl refl,
+  asking_comes start 1 1 0xA1 _ (record { plugged = refl; free = refl; few = refl }) refl refl,
   (
     done,
     answers_class remote_came (arrived remote_submit []) [] (Ren true) (record { layout = 0x01 ∷ []; behind = []; state = done })
         refl refl remote_asks tt (DoesOperate done (record { standing = done.standing; after = refl; is = refl }) refl),
     (
       lockout_came,
-      asking_comes done 2 1 0xA1 _ (record { plugged = refl; free = refl; few = refl }) (lit< tt) (lit≤ tt) refl refl,
+      asking_comes done 2 1 0xA1 _ (record { plugged = refl; free = refl; few = refl }) refl refl,
       (
         locked_out,
         answers_class lockout_came (arrived lockout_submit []) [] Lockout (record { layout = 0x01 ∷ []; behind = []; state = locked_out })
             refl refl lockout_asks tt (DoesOperate locked_out (record { standing = locked_out.standing; after = refl; is = refl }) refl),
         (
           local_came,
-          asking_comes locked_out 3 1 0xA1 _ (record { plugged = refl; free = refl; few = refl }) (lit< tt) (lit≤ tt) refl refl,
+          asking_comes locked_out 3 1 0xA1 _ (record { plugged = refl; free = refl; few = refl }) refl refl,
           (
             locked,
             answers_class local_came (arrived local_submit []) [] GoLocal (record { layout = 0x01 ∷ []; behind = []; state = locked })
@@ -121,14 +121,14 @@ locks = (
 pub releases : Runs locked releasing released
 releases = (
   release_came,
-  asking_comes locked 4 1 0xA1 _ (record { plugged = refl; free = refl; few = refl }) (lit< tt) (lit≤ tt) refl refl,
+  asking_comes locked 4 1 0xA1 _ (record { plugged = refl; free = refl; few = refl }) refl refl,
   (
     released,
     answers_class release_came (arrived release_submit []) [] (Ren false) (record { layout = 0x01 ∷ []; behind = []; state = released })
         refl refl release_asks tt (DoesOperate released (record { standing = released.standing; after = refl; is = refl }) refl),
     (
       pulse_came,
-      asking_comes released 5 1 0xA1 _ (record { plugged = refl; free = refl; few = refl }) (lit< tt) (lit≤ tt) refl refl,
+      asking_comes released 5 1 0xA1 _ (record { plugged = refl; free = refl; few = refl }) refl refl,
       (
         released,
         answers_class pulse_came (arrived pulse_submit []) [] Pulse (record { layout = 0x01 ∷ []; behind = []; state = released }) refl refl pulse_asks tt refl,

@@ -88,7 +88,7 @@ answers_status = answers_class status_came (arrived status_submit []) [] (ReadSt
 pub requests_service : Runs start requesting done
 requests_service = (
   came,
-  out_comes start 1 28 enabling_text (record { plugged = refl; free = refl; few = refl }) (lit< tt) (lit≤ tt) refl refl,
+  out_comes start 1 28 enabling_text (record { plugged = refl; free = refl; few = refl }) refl refl,
   (
     waits,
     takes_enabling,
@@ -97,19 +97,19 @@ requests_service = (
       executes_enabling,
       (
         notify_came,
-        notify_comes executed 2 8 (record { plugged = refl; free = refl; few = refl }) (lit< tt) (lit≤ tt) refl,
+        notify_comes executed 2 8 (record { plugged = refl; free = refl; few = refl }) refl refl,
         (
           notified,
           record { plugged = refl; leads = Gives (arrived (notify_submit 2 8) []) [] (ServicePacket 80) [] refl refl (lit≤ tt) refl refl },
           (
             status_came,
-            asking_comes notified 3 3 0xA1 _ (record { plugged = refl; free = refl; few = refl }) (lit< tt) (lit≤ tt) refl refl,
+            asking_comes notified 3 3 0xA1 _ (record { plugged = refl; free = refl; few = refl }) refl refl,
             (
               polled,
               answers_status,
               (
                 second_came,
-                notify_comes polled 4 8 (record { plugged = refl; free = refl; few = refl }) (lit< tt) (lit≤ tt) refl,
+                notify_comes polled 4 8 (record { plugged = refl; free = refl; few = refl }) refl refl,
                 (done, record { plugged = refl; leads = Gives (arrived (notify_submit 4 8) []) [] (StatusPacket 2 80) [] refl refl (lit≤ tt) refl refl }, refl),
               ),
             ),

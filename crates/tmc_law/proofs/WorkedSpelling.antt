@@ -1,21 +1,19 @@
--- submits, unlinks and answers have spellings
+-- submits and answers have spellings
 use Rattle.std.proofs.Common.{◌≡◌, ℕ, ◌<◌, ◌≤◌, ◌^◌, List, length, refl, inl, arith, lit<}
 use Rattle.usbip_wire.specs.declared.urb.Dir.{Dir}
 use Rattle.usbip_wire.specs.declared.urb.Dir.TheVariants.{Out, In}
 use Rattle.usbip_wire.specs.declared.submit.SubmitHead.{SubmitHead}
-use Rattle.usbip_wire.specs.declared.unlink.UnlinkHead.{UnlinkHead}
 use Rattle.usbip_wire.specs.declared.ret_submit.RetSubmitHead.{RetSubmitHead}
 use Rattle.usbip_wire.specs.Urb.{direction_code}
 use Rattle.usbip_wire.specs.Submit as submit
-use Rattle.usbip_wire.specs.Unlink as unlink
 use Rattle.usbip_wire.specs.RetSubmit as ret
 use Rattle.usbip_wire.specs.Up as up
-use Rattle.usbip_wire.proofs.Wide.{each_wide}
 use Rattle.tmc_law.specs.Put.{Submitted, success}
-use Rattle.tmc_law.specs.Step.{devid, Spells}
 use Rattle.tmc_law.specs.Run.{SpellsPut}
+use Rattle.tmc_law.specs.WorkedSession.{devid}
+use Rattle.tmc_law.proofs.AnswerBytes.{each_wide}
 
--- what a submit's fields have to meet
+-- what the fields of a submit have to meet to be spelled
 pub record IsSent (head : SubmitHead) (transferred : List ℕ) : Type 0 where
   pub imported : head.devid ≡ devid
   pub number : head.seqnum < 2 ^ 32
@@ -29,7 +27,7 @@ code_small Out = lit< tt
 code_small In = lit< tt
 
 -- as this product writes it
-pub submit_spells : (head : SubmitHead) (transferred : List ℕ) → IsSent head transferred → Spells (up.Submit head transferred) (submit.submit_bytes head submit.unused transferred)
+pub submit_spells : (head : SubmitHead) (transferred : List ℕ) → IsSent head transferred → up.Spells devid (up.Submit head transferred) (submit.submit_bytes head submit.unused transferred)
 submit_spells head transferred sent = record {
   rest = submit.unused;
   imported = sent.imported;
@@ -42,21 +40,6 @@ submit_spells head transferred sent = record {
       (lit< tt, (sent.number, (omega (arith, sent.imported), (code_small head.dir, (omega (arith, sent.endpoint), (lit< tt, (omega (arith, sent.short), (lit< tt, (lit< tt, (lit< tt, tt))))))))));
   layout = refl;
 }
-
-pub submit_spelled : (head : SubmitHead) (transferred : List ℕ) → IsSent head transferred → (bytes : List ℕ) × Spells (up.Submit head transferred) bytes
-submit_spelled head transferred sent = (submit.submit_bytes head submit.unused transferred, submit_spells head transferred sent)
-
-pub unlink_spelled : (head : UnlinkHead) → head.devid ≡ devid → head.seqnum < 2 ^ 32 → head.target < 2 ^ 32 → (bytes : List ℕ) × Spells (up.Unlink head) bytes
-unlink_spelled head imported number target = (
-  unlink.unlink_bytes head unlink.unused,
-  record {
-    rest = unlink.unused;
-    imported = imported;
-    padded = refl;
-    wide = each_wide (unlink.unlink_words head unlink.unused) (lit< tt, (number, (omega arith, (lit< tt, (lit< tt, (target, tt))))));
-    layout = refl;
-  },
-)
 
 -- the answer to a submit that succeeded
 abbrev pub succeeded : (seqnum actual : ℕ) → RetSubmitHead

@@ -104,13 +104,13 @@ becomes_usable = answers_standard usable_came (arrived usable_submit []) [] usab
 pub sends_unknown : Runs start sending_unknown start
 sends_unknown = (
   unknown_came,
-  out_comes start 1 12 unknown_text (record { plugged = refl; free = refl; few = refl }) (lit< tt) (lit≤ tt) refl refl,
+  out_comes start 1 12 unknown_text (record { plugged = refl; free = refl; few = refl }) refl refl,
   (
     halted,
     spoils_header,
     (
       usable_came,
-      telling_comes halted 2 0x02 _ (record { plugged = refl; free = refl; few = refl }) (lit< tt) refl refl,
+      telling_comes halted 2 0x02 _ (record { plugged = refl; free = refl; few = refl }) refl refl,
       (start, becomes_usable, refl),
     ),
   ),
@@ -119,13 +119,13 @@ sends_unknown = (
 pub sends_long : Runs start sending_long start
 sends_long = (
   long_came,
-  out_comes start 1 24 long_text (record { plugged = refl; free = refl; few = refl }) (lit< tt) (lit≤ tt) refl refl,
+  out_comes start 1 24 long_text (record { plugged = refl; free = refl; few = refl }) refl refl,
   (
     halted,
     spoils_size,
     (
       usable_came,
-      telling_comes halted 2 0x02 _ (record { plugged = refl; free = refl; few = refl }) (lit< tt) refl refl,
+      telling_comes halted 2 0x02 _ (record { plugged = refl; free = refl; few = refl }) refl refl,
       (start, becomes_usable, refl),
     ),
   ),
@@ -134,13 +134,13 @@ sends_long = (
 pub sends_short : Runs start sending_short start
 sends_short = (
   short_came,
-  out_comes start 1 16 short_text (record { plugged = refl; free = refl; few = refl }) (lit< tt) (lit≤ tt) refl refl,
+  out_comes start 1 16 short_text (record { plugged = refl; free = refl; few = refl }) refl refl,
   (
     halted,
     spoils_short,
     (
       usable_came,
-      telling_comes halted 2 0x02 _ (record { plugged = refl; free = refl; few = refl }) (lit< tt) refl refl,
+      telling_comes halted 2 0x02 _ (record { plugged = refl; free = refl; few = refl }) refl refl,
       (start, becomes_usable, refl),
     ),
   ),
@@ -164,13 +164,13 @@ spoils_rest = record {
 pub sends_rest : Runs start sending_rest halted
 sends_rest = (
   first_came,
-  out_comes start 1 64 first_text (record { plugged = refl; free = refl; few = refl }) (lit< tt) (lit≤ tt) refl refl,
+  out_comes start 1 64 first_text (record { plugged = refl; free = refl; few = refl }) refl refl,
   (
     split,
     takes_first,
     (
       rest_came,
-      out_comes split 2 40 (replicate 40 32) (record { plugged = refl; free = refl; few = refl }) (lit< tt) (lit≤ tt) refl refl,
+      out_comes split 2 40 (replicate 40 32) (record { plugged = refl; free = refl; few = refl }) refl refl,
       (halted, spoils_rest, refl),
     ),
   ),

@@ -32,8 +32,8 @@ status_asks = record { fits = record { request_type = lit< tt; request = lit< tt
 pub asks : Runs start status_asked status_came
 asks = (
   notify_came,
-  notify_comes start 1 8 (record { plugged = refl; free = refl; few = refl }) (lit< tt) (lit≤ tt) refl,
-  (status_came, asking_comes notify_came 2 3 0xA1 _ (record { plugged = refl; free = refl; few = refl }) (lit< tt) (lit≤ tt) refl refl, refl),
+  notify_comes start 1 8 (record { plugged = refl; free = refl; few = refl }) refl refl,
+  (status_came, asking_comes notify_came 2 3 0xA1 _ (record { plugged = refl; free = refl; few = refl }) refl refl, refl),
 )
 
 -- the answer, and then the packet
@@ -130,10 +130,10 @@ small_answers = answers_class small_asked (arrived status_submit []) [] (ReadSta
 pub halts_without_room : Runs start no_room halted
 halts_without_room = (
   small_came,
-  notify_comes start 1 1 (record { plugged = refl; free = refl; few = refl }) (lit< tt) (lit≤ tt) refl,
+  notify_comes start 1 1 (record { plugged = refl; free = refl; few = refl }) refl refl,
   (
     small_asked,
-    asking_comes small_came 2 3 0xA1 _ (record { plugged = refl; free = refl; few = refl }) (lit< tt) (lit≤ tt) refl refl,
+    asking_comes small_came 2 3 0xA1 _ (record { plugged = refl; free = refl; few = refl }) refl refl,
     (
       small_answered,
       small_answers,
@@ -181,19 +181,19 @@ is_busy = answers_class early_came (arrived early_submit []) [] (ReadStatus 6) (
 pub reads_statuses : Runs start statuses alone_polled
 reads_statuses = (
   wrong_came,
-  asking_comes start 1 3 0xA1 _ (record { plugged = refl; free = refl; few = refl }) (lit< tt) (lit≤ tt) refl refl,
+  asking_comes start 1 3 0xA1 _ (record { plugged = refl; free = refl; few = refl }) refl refl,
   (
     start,
     fails,
     (
       alone_came,
-      asking_comes start 2 3 0xA1 _ (record { plugged = refl; free = refl; few = refl }) (lit< tt) (lit≤ tt) refl refl,
+      asking_comes start 2 3 0xA1 _ (record { plugged = refl; free = refl; few = refl }) refl refl,
       (
         alone_polled,
         answers_alone,
         (
           early_came,
-          asking_comes alone_polled 3 3 0xA1 _ (record { plugged = refl; free = refl; few = refl }) (lit< tt) (lit≤ tt) refl refl,
+          asking_comes alone_polled 3 3 0xA1 _ (record { plugged = refl; free = refl; few = refl }) refl refl,
           (alone_polled, is_busy, refl),
         ),
       ),

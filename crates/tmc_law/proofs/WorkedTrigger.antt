@@ -37,6 +37,6 @@ takes_trigger =
 pub triggers : Runs start triggering done
 triggers = (
   came,
-  out_comes start 1 12 trigger_text (record { plugged = refl; free = refl; few = refl }) (lit< tt) (lit≤ tt) refl refl,
+  out_comes start 1 12 trigger_text (record { plugged = refl; free = refl; few = refl }) refl refl,
   (done, takes_trigger, refl),
 )

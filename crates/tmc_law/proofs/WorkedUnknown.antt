@@ -72,7 +72,7 @@ no_string SetInterface has = omega (arith, has.request_type, has.request, has.va
 
 pub stalls_string : Runs start (stalling string_submit) start
 stalls_string = stalls string_submit string_setup
-    (asking_comes start 1 255 0x80 _ (record { plugged = refl; free = refl; few = refl }) (lit< tt) (lit≤ tt) refl refl)
+    (asking_comes start 1 255 0x80 _ (record { plugged = refl; free = refl; few = refl }) refl refl)
     (record { fits = record { request_type = lit< tt; request = lit< tt; value = lit< tt; index = lit< tt; length = lit< tt }; layout = refl })
     (no_class string_setup (lit< tt)) no_string refl
 
@@ -94,7 +94,7 @@ no_configure SetInterface has = omega (arith, has.request_type, has.request, has
 
 pub stalls_configure : Runs start (stalling configure_submit) start
 stalls_configure = stalls configure_submit configure_setup
-    (telling_comes start 1 0x00 _ (record { plugged = refl; free = refl; few = refl }) (lit< tt) refl refl)
+    (telling_comes start 1 0x00 _ (record { plugged = refl; free = refl; few = refl }) refl refl)
     (record { fits = record { request_type = lit< tt; request = lit< tt; value = lit< tt; index = lit< tt; length = lit< tt }; layout = refl })
     (no_class configure_setup (lit< tt)) no_configure refl
 
@@ -116,7 +116,7 @@ no_select SetInterface has = omega (arith, has.request_type, has.request, has.va
 
 pub stalls_select : Runs start (stalling select_submit) start
 stalls_select = stalls select_submit select_setup
-    (telling_comes start 1 0x01 _ (record { plugged = refl; free = refl; few = refl }) (lit< tt) refl refl)
+    (telling_comes start 1 0x01 _ (record { plugged = refl; free = refl; few = refl }) refl refl)
     (record { fits = record { request_type = lit< tt; request = lit< tt; value = lit< tt; index = lit< tt; length = lit< tt }; layout = refl })
     (no_class select_setup (lit< tt)) no_select refl
 
@@ -159,6 +159,6 @@ no_pulse SetInterface has = omega (arith, has.request_type)
 
 pub stalls_pulse : Runs start (stalling pulse_submit) start
 stalls_pulse = stalls pulse_submit pulse_setup
-    (asking_comes start 1 1 0xA1 _ (record { plugged = refl; free = refl; few = refl }) (lit< tt) (lit≤ tt) refl refl)
+    (asking_comes start 1 1 0xA1 _ (record { plugged = refl; free = refl; few = refl }) refl refl)
     (record { fits = record { request_type = lit< tt; request = lit< tt; value = lit< tt; index = lit< tt; length = lit< tt }; layout = refl })
     no_class_pulse no_pulse refl

@@ -34,7 +34,7 @@ unlinks = (
     unlink_comes unlinked unlinked 5 3 _ refl (lit< tt) (lit< tt) (Misses tt refl refl),
     (
       next_came,
-      in_comes unlinked 6 4096 (record { plugged = refl; free = refl; few = refl }) (lit< tt) (lit≤ tt) refl,
+      in_comes unlinked 6 4096 (record { plugged = refl; free = refl; few = refl }) refl refl,
       (
         record start { log = read_log },
         record {
@@ -87,7 +87,7 @@ takes_rest = record {
 pub unlinks_out : Runs start unlinking_out part
 unlinks_out = (
   first_came,
-  out_comes start 1 112 spaces_text (record { plugged = refl; free = refl; few = refl }) (lit< tt) (lit≤ tt) refl refl,
+  out_comes start 1 112 spaces_text (record { plugged = refl; free = refl; few = refl }) refl refl,
   (
     inside,
     takes_first,
@@ -96,7 +96,7 @@ unlinks_out = (
       unlink_comes inside part_left 2 1 _ refl (lit< tt) (lit< tt) (Hits BulkOut [] later [] refl refl refl refl refl),
       (
         rest_came,
-        out_comes part_left 3 48 (replicate 48 32) (record { plugged = refl; free = refl; few = refl }) (lit< tt) (lit≤ tt) refl refl,
+        out_comes part_left 3 48 (replicate 48 32) (record { plugged = refl; free = refl; few = refl }) refl refl,
         (part, takes_rest, refl),
       ),
     ),

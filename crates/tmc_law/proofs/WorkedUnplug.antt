@@ -22,16 +22,16 @@ pulse_came = record out_came { control = arrived pulse_submit [] ∷ [] }
 pub unplugs : Runs start unplugging (record start { presence = Unplugged })
 unplugs = (
   notify_came,
-  notify_comes start 1 8 (record { plugged = refl; free = refl; few = refl }) (lit< tt) (lit≤ tt) refl,
+  notify_comes start 1 8 (record { plugged = refl; free = refl; few = refl }) refl refl,
   (
     in_came,
-    in_comes notify_came 2 4096 (record { plugged = refl; free = refl; few = refl }) (lit< tt) (lit≤ tt) refl,
+    in_comes notify_came 2 4096 (record { plugged = refl; free = refl; few = refl }) refl refl,
     (
       out_came,
-      out_comes in_came 3 20 query_text (record { plugged = refl; free = refl; few = refl }) (lit< tt) (lit≤ tt) refl refl,
+      out_comes in_came 3 20 query_text (record { plugged = refl; free = refl; few = refl }) refl refl,
       (
         pulse_came,
-        asking_comes out_came 4 1 0xA1 _ (record { plugged = refl; free = refl; few = refl }) (lit< tt) (lit≤ tt) refl refl,
+        asking_comes out_came 4 1 0xA1 _ (record { plugged = refl; free = refl; few = refl }) refl refl,
         (record start { presence = Unplugged }, record { plugged = refl; leads = record { answered = refl; is = refl } }, refl),
       ),
     ),

@@ -25,7 +25,7 @@ empty_came = record start { bulk_out = arrived (out_submit 1 0) [] ∷ [] }
 pub sends_nothing : Runs start sending_nothing start
 sends_nothing = (
   empty_came,
-  out_comes start 1 0 [] (record { plugged = refl; free = refl; few = refl }) (lit< tt) (lit≤ tt) refl refl,
+  out_comes start 1 0 [] (record { plugged = refl; free = refl; few = refl }) refl refl,
   (start, record { plugged = refl; leads = (refl, Empty (arrived (out_submit 1 0) []) [] refl refl refl refl refl) }, refl),
 )
 
@@ -74,13 +74,13 @@ spoils_request = record {
 pub sends_inside : Runs start sending_inside halted
 sends_inside = (
   part_came,
-  out_comes start 1 16 part_text (record { plugged = refl; free = refl; few = refl }) (lit< tt) (lit≤ tt) refl refl,
+  out_comes start 1 16 part_text (record { plugged = refl; free = refl; few = refl }) refl refl,
   (
     part_taken,
     takes_part,
     (
       request_came,
-      out_comes part_taken 2 12 request_text (record { plugged = refl; free = refl; few = refl }) (lit< tt) (lit≤ tt) refl refl,
+      out_comes part_taken 2 12 request_text (record { plugged = refl; free = refl; few = refl }) refl refl,
       (halted, spoils_request, refl),
     ),
   ),
@@ -106,13 +106,13 @@ spoils_trigger = record {
 pub triggers_inside : Runs start triggering_inside halted
 triggers_inside = (
   part_came,
-  out_comes start 1 16 part_text (record { plugged = refl; free = refl; few = refl }) (lit< tt) (lit≤ tt) refl refl,
+  out_comes start 1 16 part_text (record { plugged = refl; free = refl; few = refl }) refl refl,
   (
     part_taken,
     takes_part,
     (
       trigger_came,
-      out_comes part_taken 2 12 trigger_text (record { plugged = refl; free = refl; few = refl }) (lit< tt) (lit≤ tt) refl refl,
+      out_comes part_taken 2 12 trigger_text (record { plugged = refl; free = refl; few = refl }) refl refl,
       (halted, spoils_trigger, refl),
     ),
   ),
@@ -137,13 +137,13 @@ spoils_second = record {
 pub sends_while_owed : Runs start sending_while_owed halted_owed
 sends_while_owed = (
   came,
-  out_comes start 1 12 request_text (record { plugged = refl; free = refl; few = refl }) (lit< tt) (lit≤ tt) refl refl,
+  out_comes start 1 12 request_text (record { plugged = refl; free = refl; few = refl }) refl refl,
   (
     owed,
     takes_request,
     (
       second_came,
-      out_comes owed 2 20 second_text (record { plugged = refl; free = refl; few = refl }) (lit< tt) (lit≤ tt) refl refl,
+      out_comes owed 2 20 second_text (record { plugged = refl; free = refl; few = refl }) refl refl,
       (halted_owed, spoils_second, refl),
     ),
   ),
@@ -169,6 +169,6 @@ spoils_long = record {
 pub sends_too_much : Runs start sending_too_much halted
 sends_too_much = (
   long_came,
-  out_comes start 1 64 long_text (record { plugged = refl; free = refl; few = refl }) (lit< tt) (lit≤ tt) refl refl,
+  out_comes start 1 64 long_text (record { plugged = refl; free = refl; few = refl }) refl refl,
   (halted, spoils_long, refl),
 )

@@ -1,5 +1,6 @@
 -- what the laws speak of
 use Rattle.std.specs.Prelude.{◌≡◌, ◌≢◌, ℕ, ◌+◌, Bool, false, ◌==◌, ◌||◌, if◌then◌else◌, List, [], ◌∷◌, ◌++◌, None}
+use Rattle.tmc_base.specs.declared.field.Field.{Field}
 use Rattle.usbip_wire.specs.declared.dirs.Outstanding.{Outstanding}
 use Rattle.usbip_wire.specs.declared.dirs.Outstanding.TheVariants as outstanding
 use Rattle.usbip_wire.specs.Dirs.{find, others}
@@ -7,10 +8,29 @@ use Rattle.usbip_wire.specs.Down as down
 use Rattle.usbip_wire.specs.Up as up
 use Rattle.instr_plain.specs.declared.log.LogEntry.{LogEntry}
 use Rattle.instr_plain.specs.declared.log.LogEntry.TheVariants.{Exec, Took, Clear}
-use Rattle.tmc_law.specs.State.{Pending}
+use Rattle.tmc_law.specs.State.{State, Pending, Plugged, Closed}
 use Rattle.tmc_law.specs.Put.{Put, Submitted, Unlinked}
-use Rattle.tmc_law.specs.Step.{Move, Comes}
-use Rattle.tmc_law.specs.Run.{Entry, taken}
+use Rattle.tmc_law.specs.Step.{Move, Comes, Refuses, IsRefused}
+use Rattle.tmc_law.specs.Run.{Entry, Runs, taken, inputs, SpellAll}
+
+-- bytes to the device with this devid are refused at a field, and nothing is put out
+abbrev pub refusal : (devid : ℕ) (refused : List ℕ) → Field → Entry
+refusal devid refused f = record { move = Refuses devid refused f; puts = [] }
+
+-- A run from this state took in these bytes, and its last step closed the device at this field: the bytes are the
+-- spellings of its inputs, and then bytes that are refused at the field in the state before that step.
+pub record EndsRefused (devid : ℕ) (s : State) (run : List Entry) (t : State) (bytes : List ℕ) (f : Field) : Type 0 where
+  pub before : List Entry
+  pub mid : State
+  pub front : List ℕ
+  pub refused : List ℕ
+  pub goes : Runs s before mid
+  pub plugged : mid.presence ≡ Plugged
+  pub last : run ≡ before ++ refusal devid refused f ∷ []
+  pub closed : t ≡ record mid { presence = Closed f }
+  pub took : bytes ≡ front ++ refused
+  pub spelled : SpellAll (up.Spells devid) (inputs run) front
+  pub refuses : IsRefused devid mid refused f
 
 -- no submit with this number arrives
 abbrev pub NoneArrives : ℕ → List up.Message → Type 0

@@ -46,3 +46,5 @@ pub mod WorkedRemote
 pub mod WorkedChecks
 pub mod WorkedUnlink
 pub mod WorkedTold
+pub mod WorkedBehind
+pub mod WorkedArriving

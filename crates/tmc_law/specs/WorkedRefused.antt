@@ -7,7 +7,7 @@ use Rattle.tmc_base.specs.declared.field.Name.TheVariants as name
 use Rattle.tmc_law.specs.State.{Pending, arrived}
 use Rattle.tmc_law.specs.Step.{Refuses}
 use Rattle.tmc_law.specs.Run.{Entry}
-use Rattle.tmc_law.specs.WorkedSession.{in_submit, submits, step}
+use Rattle.tmc_law.specs.WorkedSession.{devid, in_submit, submits, step}
 
 -- a submit of 4096 bytes on Bulk-IN, with number 1
 abbrev pub again_text : List ℕ
@@ -29,11 +29,11 @@ command_field = record { layer = Urb; name = name.Command; offset = 0 }
 
 -- the number is that of a pending submit
 abbrev pub coming_twice : List Entry
-coming_twice = submits (in_submit 1 4096) [] ∷ step (Refuses again_text number_field) [] ∷ []
+coming_twice = submits (in_submit 1 4096) [] ∷ step (Refuses devid again_text number_field) [] ∷ []
 
 -- there is no message 7
 abbrev pub coming_wrong : List Entry
-coming_wrong = step (Refuses (0x00 ∷ 0x00 ∷ 0x00 ∷ 0x07 ∷ []) command_field) [] ∷ []
+coming_wrong = step (Refuses devid (0x00 ∷ 0x00 ∷ 0x00 ∷ 0x07 ∷ []) command_field) [] ∷ []
 
 -- a submit of 4096 bytes on Bulk-IN, with number 257
 abbrev pub many_text : List ℕ
@@ -52,4 +52,4 @@ one_came seqnum = arrived (in_submit seqnum 4096) []
 
 -- 256 submits are as many as may be pending
 abbrev pub coming_many : List Entry
-coming_many = map one_comes (range_with_len 1 256) ++ step (Refuses many_text pending_field) [] ∷ []
+coming_many = map one_comes (range_with_len 1 256) ++ step (Refuses devid many_text pending_field) [] ∷ []

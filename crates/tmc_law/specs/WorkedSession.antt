@@ -8,33 +8,37 @@ use Rattle.tmc_law.specs.Put.{Put, Submitted}
 use Rattle.tmc_law.specs.Step.{Move, Comes}
 use Rattle.tmc_law.specs.Run.{Entry}
 
+-- the number by which the instrument of these sessions is imported: bus 1, device 2
+abbrev pub devid : ℕ
+devid = 0x00010002
+
 -- what a submit has in place of a setup packet on an endpoint other than 0
 abbrev pub no_setup : List ℕ
 no_setup = 0 ∷ 0 ∷ 0 ∷ 0 ∷ 0 ∷ 0 ∷ 0 ∷ 0 ∷ []
 
 -- a submit that sends so many bytes on Bulk-OUT
 abbrev pub out_submit : (seqnum size : ℕ) → SubmitHead
-out_submit seqnum size = record { seqnum = seqnum; devid = 0x00010002; dir = Out; ep = 1; length = size; setup = no_setup }
+out_submit seqnum size = record { seqnum = seqnum; devid = devid; dir = Out; ep = 1; length = size; setup = no_setup }
 
 -- one that wants at most so many bytes on Bulk-IN
 abbrev pub in_submit : (seqnum size : ℕ) → SubmitHead
-in_submit seqnum size = record { seqnum = seqnum; devid = 0x00010002; dir = In; ep = 2; length = size; setup = no_setup }
+in_submit seqnum size = record { seqnum = seqnum; devid = devid; dir = In; ep = 2; length = size; setup = no_setup }
 
 -- one that wants a packet on Interrupt-IN
 abbrev pub notify_submit : (seqnum size : ℕ) → SubmitHead
-notify_submit seqnum size = record { seqnum = seqnum; devid = 0x00010002; dir = In; ep = 3; length = size; setup = no_setup }
+notify_submit seqnum size = record { seqnum = seqnum; devid = devid; dir = In; ep = 3; length = size; setup = no_setup }
 
 -- a control request whose answer has at most so many bytes
 abbrev pub asking_submit : (seqnum size : ℕ) (setup : List ℕ) → SubmitHead
-asking_submit seqnum size setup = record { seqnum = seqnum; devid = 0x00010002; dir = In; ep = 0; length = size; setup = setup }
+asking_submit seqnum size setup = record { seqnum = seqnum; devid = devid; dir = In; ep = 0; length = size; setup = setup }
 
 -- a control request that has no data
 abbrev pub telling_submit : (seqnum : ℕ) (setup : List ℕ) → SubmitHead
-telling_submit seqnum setup = record { seqnum = seqnum; devid = 0x00010002; dir = Out; ep = 0; length = 0; setup = setup }
+telling_submit seqnum setup = record { seqnum = seqnum; devid = devid; dir = Out; ep = 0; length = 0; setup = setup }
 
 -- an unlink of the submit with the second number
 abbrev pub unlink : (seqnum target : ℕ) → UnlinkHead
-unlink seqnum target = record { seqnum = seqnum; devid = 0x00010002; target = target }
+unlink seqnum target = record { seqnum = seqnum; devid = devid; target = target }
 
 -- what happens, and what is put out
 abbrev pub step : Move → List Put → Entry

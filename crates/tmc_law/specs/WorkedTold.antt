@@ -54,3 +54,10 @@ told_query =
     ∷ puts_out []
     ∷ puts_out (success_down 3 32 ++ response_text)
     ∷ []
+
+-- The same in two calls: one brings all three messages, and in the other the device goes on as far as it can.
+abbrev pub told_at_once : List RunStep
+told_at_once =
+    takes_in (query_up ++ (request_up ++ response_up))
+    ∷ puts_out (success_down 1 20 ++ (success_down 2 12 ++ (success_down 3 32 ++ response_text)))
+    ∷ []

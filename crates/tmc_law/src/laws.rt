@@ -1,56 +1,79 @@
 //! What holds of all lawful runs. Each function does nothing, and its contract is the law.
 
 ghost use Rattle.std.specs.Prelude.{◌≡◌, ◌↔◌, ℕ, ◌<◌, ◌≤◌, List, [], ◌∷◌, ◌++◌, length};
+ghost use Rattle.tmc_base.specs.declared.field.Field.{Field};
 ghost use Rattle.tmc_base.specs.declared.run_step.RunStep.{RunStep};
 ghost use Rattle.usbip_wire.specs.declared.unlink.UnlinkHead.{UnlinkHead};
 ghost use Rattle.tmc_base.specs.Told as told;
 ghost use Rattle.tmc_base.specs.Told.{in_bytes, out_bytes};
-ghost use Rattle.usbip_wire.specs.Given.{IsBytes};
 ghost use Rattle.usbip_wire.specs.Up as up;
 ghost use Rattle.usbip_wire.specs.Stream.{Reads};
 ghost use Rattle.instr_plain.specs.declared.log.LogEntry.{LogEntry};
 ghost use Rattle.instr_plain.specs.declared.log.LogEntry.TheVariants.{Exec};
 ghost use Rattle.instr_plain.specs.Log.{Stands, Response};
 ghost use Rattle.tmc_law.specs.Endpoint.{Endpoint};
-ghost use Rattle.tmc_law.specs.State.{State, start, queue_of};
+ghost use Rattle.tmc_law.specs.State.{State, start, queue_of, Plugged, Closed};
 ghost use Rattle.tmc_law.specs.Put.{Put, unlink_answer, unlinked};
-ghost use Rattle.tmc_law.specs.Step.{Steps, Comes, Spells};
-ghost use Rattle.tmc_law.specs.Run.{Entry, Runs, inputs, outputs, SpellsPut, IsFront, Fits};
-ghost use Rattle.tmc_law.specs.Told.{Tells, SpellAll};
-ghost use Rattle.tmc_law.specs.Laws.{NoneArrives, NoneAnswers, NoneAgain, AreInOrder, answers_to, NoneRenews, bytes_taken, IsAccepted, AreNew};
+ghost use Rattle.tmc_law.specs.Step.{Steps, Comes, IsRefused};
+ghost use Rattle.tmc_law.specs.Run.{Entry, Runs, TakesAll, inputs, outputs, SpellAll, SpellsPut, IsFront, Fits};
+ghost use Rattle.tmc_law.specs.Told.{Tells};
+ghost use Rattle.tmc_law.specs.Laws.{NoneArrives, NoneAnswers, NoneAgain, AreInOrder, answers_to, NoneRenews, bytes_taken, IsAccepted, AreNew, refusal, EndsRefused};
 
 use instr_plain::{keeps_responses, one_response};
-use usbip_wire::{streams_are_read, urbs_are_determined};
+use usbip_wire::urbs_are_determined;
 
 /// A run's fronts are runs, and two runs of which the second starts where the first ended join end to end. The
-/// same holds of told runs.
+/// same holds of told runs, and of the bytes that a run takes in.
 pub fn runs_join()
     ensures apart { (a b : List Entry) (s t : State) → Runs s (a ++ b) t → (m : State) × Runs s a m × Runs m b t }
     ensures together { (a b : List Entry) (s m t : State) → Runs s a m → Runs m b t → Runs s (a ++ b) t }
-    ensures told_apart { (a b : List RunStep) (s t : State) → Tells s (a ++ b) t → (m : State) × Tells s a m × Tells m b t }
-    ensures told_together { (a b : List RunStep) (s m t : State) → Tells s a m → Tells m b t → Tells s (a ++ b) t }
+    ensures told_apart { (devid : ℕ) (a b : List RunStep) (s t : State) → Tells devid s (a ++ b) t
+        → (m : State) × Tells devid s a m × Tells devid m b t }
+    ensures told_together { (devid : ℕ) (a b : List RunStep) (s m t : State) → Tells devid s a m → Tells devid m b t
+        → Tells devid s (a ++ b) t }
+    ensures taken_apart { (devid : ℕ) (a b : List Entry) (bytes : List ℕ) → TakesAll devid (a ++ b) bytes
+        → (front rest : List ℕ) × (bytes ≡ front ++ rest) × TakesAll devid a front × TakesAll devid b rest }
+    ensures taken_together { (devid : ℕ) (a b : List Entry) (front rest : List ℕ) → TakesAll devid a front
+        → TakesAll devid b rest → TakesAll devid (a ++ b) (front ++ rest) }
 {}
 
-/// Told steps are a run's, whose messages are spelled by the bytes that they took in and put out, and each run whose
-/// messages are spelled so is told by some steps. The bytes that were sent say which messages a run took in, and a run
-/// fits what its steps fit.
+/// Told steps are a run that took in and put out their bytes, and each run is told by some steps. A run fits what its
+/// steps fit. The inputs of a lawful run are the first messages that the bytes sent read as.
 pub fn told_runs_are_lawful()
-    ensures runs { (steps : List RunStep) (s t : State) → Tells s steps t
-        → (run : List Entry) × Runs s run t × SpellAll Spells (inputs run) (in_bytes steps) × SpellAll SpellsPut (outputs run) (out_bytes steps) }
-    ensures tells { (run : List Entry) (s t : State) (took put : List ℕ) → Runs s run t
-        → SpellAll Spells (inputs run) took → SpellAll SpellsPut (outputs run) put
-        → (steps : List RunStep) × Tells s steps t × (in_bytes steps ≡ took) × (out_bytes steps ≡ put) }
-    ensures took { (run : List Entry) (bytes more rest : List ℕ) (messages : List up.Message)
-        → SpellAll Spells (inputs run) bytes → Reads Spells (bytes ++ more) messages rest → IsFront (inputs run) messages }
-    ensures fits { (run : List Entry) (steps : List RunStep) (sent received : List ℕ)
-        → SpellAll Spells (inputs run) (in_bytes steps) → SpellAll SpellsPut (outputs run) (out_bytes steps)
-        → IsBytes sent → told.Fits sent received steps → Fits run sent received }
-    ensures fits_told { (run : List Entry) (s t : State) (sent received : List ℕ) → Runs s run t → Fits run sent received
-        → (steps : List RunStep) × Tells s steps t × told.Fits sent received steps }
+    ensures runs { (devid : ℕ) (steps : List RunStep) (s t : State) → Tells devid s steps t
+        → (run : List Entry) × Runs s run t × TakesAll devid run (in_bytes steps) × SpellAll SpellsPut (outputs run) (out_bytes steps) }
+    ensures tells { (devid : ℕ) (run : List Entry) (s t : State) (took put : List ℕ) → Runs s run t
+        → TakesAll devid run took → SpellAll SpellsPut (outputs run) put
+        → (steps : List RunStep) × Tells devid s steps t × (in_bytes steps ≡ took) × (out_bytes steps ≡ put) }
+    ensures took { (devid : ℕ) (run : List Entry) (s t : State) (bytes more rest : List ℕ) (messages : List up.Message)
+        → Runs s run t → TakesAll devid run bytes → Reads (up.Spells devid) (bytes ++ more) messages rest
+        → IsFront (inputs run) messages }
+    ensures fits { (devid : ℕ) (run : List Entry) (steps : List RunStep) (sent received : List ℕ)
+        → TakesAll devid run (in_bytes steps) → SpellAll SpellsPut (outputs run) (out_bytes steps)
+        → told.Fits sent received steps → Fits devid run sent received }
+    ensures fits_told { (devid : ℕ) (run : List Entry) (s t : State) (sent received : List ℕ) → Runs s run t
+        → Fits devid run sent received → (steps : List RunStep) × Tells devid s steps t × told.Fits sent received steps }
 {
     urbs_are_determined();
-    streams_are_read();
 }
+
+/// A run that did not end closed takes in the spellings of its inputs in a row, and no other bytes.
+pub fn runs_take_in_messages()
+    ensures { (devid : ℕ) (run : List Entry) (s t : State) (bytes : List ℕ) → Runs s run t
+        → ((f : Field) → t.presence ≡ Closed f → ⊥)
+        → TakesAll devid run bytes ↔ SpellAll (up.Spells devid) (inputs run) bytes }
+{}
+
+/// A run that ended closed at a field took in the spellings of its inputs, and then bytes that are refused there in the
+/// state before its last step. Behind the inputs of a run that ended plugged, refused bytes make such a run.
+pub fn a_closed_run_ends_with_refused_bytes()
+    ensures ends { (devid : ℕ) (run : List Entry) (s t : State) (bytes : List ℕ) (f : Field) → s.presence ≡ Plugged
+        → Runs s run t → TakesAll devid run bytes → t.presence ≡ Closed f → EndsRefused devid s run t bytes f }
+    ensures closes { (devid : ℕ) (run : List Entry) (s m : State) (front refused : List ℕ) (f : Field) → Runs s run m
+        → m.presence ≡ Plugged → SpellAll (up.Spells devid) (inputs run) front → IsRefused devid m refused f
+        → Runs s (run ++ refusal devid refused f ∷ []) (record m { presence = Closed f })
+            × TakesAll devid (run ++ refusal devid refused f ∷ []) (front ++ refused) }
+{}
 
 /// The log only grows, a device's instrument stands for its log, and no later entry changes an earlier response.
 pub fn the_log_grows()

@@ -15,12 +15,12 @@ ghost use Rattle.tmc_law.specs.Halts.{halts, halt_answers};
 ghost use Rattle.tmc_law.specs.BulkIn.{NoPacketWanted};
 ghost use Rattle.tmc_law.specs.Put.{Put, answer_of, ended, success, stalled};
 ghost use Rattle.tmc_law.specs.Queues.{pending_most};
-ghost use Rattle.tmc_law.specs.Step.{Move, Spells, Comes, Refuses, Take, Begin, Fill, Pend, Poll, Steps};
-ghost use Rattle.tmc_law.specs.Run.{Runs, outputs, SpellsPut};
+ghost use Rattle.tmc_law.specs.Step.{Move, Comes, Refuses, Take, Begin, Fill, Pend, Poll, Steps};
+ghost use Rattle.tmc_law.specs.Run.{Runs, TakesAll, Fits, outputs, SpellsPut};
 ghost use Rattle.tmc_law.specs.WorkedQuery.{asking, answering, query_log, query_down, identity};
 ghost use Rattle.tmc_law.specs.WorkedRead.{reading, read_log};
 ghost use Rattle.tmc_law.specs.WorkedUnlink.{unlinking, unlinking_out};
-ghost use Rattle.tmc_law.specs.WorkedTold.{told_query};
+ghost use Rattle.tmc_law.specs.WorkedTold.{told_query, told_at_once};
 ghost use Rattle.tmc_law.specs.Told.{Tells};
 ghost use Rattle.tmc_law.specs.WorkedClear.{clearing, clear_log};
 ghost use Rattle.tmc_law.specs.WorkedAbortIn.{aborting_in, checking_in};
@@ -38,7 +38,9 @@ ghost use Rattle.tmc_law.specs.WorkedUnknown.{stalling, string_submit, configure
 ghost use Rattle.tmc_law.specs.WorkedDeclined.{declining};
 ghost use Rattle.tmc_law.specs.WorkedDeclinedIn.{declining_in};
 ghost use Rattle.tmc_law.specs.WorkedRefused.{number_field, command_field, pending_field, coming_twice, coming_wrong, coming_many, one_came};
-ghost use Rattle.tmc_law.specs.WorkedSession.{in_submit};
+ghost use Rattle.tmc_law.specs.WorkedBehind.{coming_behind, closed_behind, behind_up, told_behind, fine_up};
+ghost use Rattle.tmc_law.specs.WorkedArriving.{other_submit, coming_to_no_endpoint, coming_for_another};
+ghost use Rattle.tmc_law.specs.WorkedSession.{devid, in_submit};
 ghost use Rattle.tmc_law.specs.WorkedService.{requesting, service_log};
 ghost use Rattle.tmc_law.specs.WorkedInterrupt.{interrupting, interrupt_log};
 ghost use Rattle.tmc_law.specs.WorkedUnplug.{unplugging};
@@ -47,15 +49,18 @@ ghost use Rattle.tmc_law.specs.WorkedBare.{requesting_nothing, bare_log};
 ghost use Rattle.tmc_law.specs.WorkedTrigger.{triggering, trigger_log};
 ghost use Rattle.tmc_law.specs.WorkedSpoiled.{sending_unknown, sending_long, sending_short, sending_rest};
 
+use usbip_wire::urbs_are_determined;
+
 /// The query `*IDN?`, from its arrival to the last packet of its response, and the bytes of the answers.
 pub fn a_query_is_answered()
     ensures runs { Runs start (asking ++ answering) (record start { log = query_log }) }
     ensures spelled { InRow SpellsPut (outputs (asking ++ answering)) query_down [] }
 {}
 
-/// The same as bytes, step by step.
+/// The same as bytes, step by step, and in two calls of which one is three moves and the other is five.
 pub fn a_query_is_told()
-    ensures { Tells start told_query (record start { log = query_log }) }
+    ensures stepwise { Tells devid start told_query (record start { log = query_log }) }
+    ensures at_once { Tells devid start told_at_once (record start { log = query_log }) }
 {}
 
 /// An unlink hits a Bulk-IN submit with a packet in it, and a second one misses. The packet is lost, and the next
@@ -231,6 +236,24 @@ pub fn refused_bytes_close()
     }) }
 {}
 
+/// Behind two messages bytes are refused that came with them in one piece: the run takes in the messages and then what
+/// it refuses, and no call need tell more than that. Where the bytes that follow are another message, it does not fit.
+pub fn bytes_are_refused_behind_messages()
+    ensures runs { Runs start coming_behind closed_behind }
+    ensures takes { TakesAll devid coming_behind behind_up }
+    ensures told { Tells devid start told_behind closed_behind }
+    ensures others { (received : List ℕ) → Fits devid coming_behind fine_up received → ⊥ }
+{
+    urbs_are_determined();
+}
+
+/// A submit arrives whatever its endpoint and its devid: one on endpoint 16 is turned away, and one for another device
+/// is queued.
+pub fn submits_arrive_for_any_device()
+    ensures endpoint { Runs start coming_to_no_endpoint start }
+    ensures devid { Runs start coming_for_another (record start { bulk_in = arrived other_submit [] ∷ [] }) }
+{}
+
 /// A submit of no bytes is answered. A header that does not suit the state halts Bulk-OUT: a request or a trigger
 /// inside a message, a message while a response is owed, and one that would be too long.
 pub fn headers_have_to_suit()
@@ -307,9 +330,9 @@ pub fn no_number_comes_twice()
 pub fn no_more_come_than_may_be_pending()
     ensures none { (s t : State) (head : SubmitHead) (transferred : List ℕ) (puts : List Put) → pending_most ≤ length (pending s)
         → Steps s (Comes (up.Submit head transferred)) puts t → ⊥ }
-    ensures refused { (s : State) (head : SubmitHead) (transferred bytes rest : List ℕ) → s.presence ≡ Plugged
-        → pending_most ≤ length (pending s) → Spells (up.Submit head transferred) bytes
-        → Steps s (Refuses (bytes ++ rest) pending_field) [] (record s { presence = Closed pending_field }) }
+    ensures refused { (devid : ℕ) (s : State) (head : SubmitHead) (transferred bytes rest : List ℕ) → s.presence ≡ Plugged
+        → pending_most ≤ length (pending s) → up.Spells devid (up.Submit head transferred) bytes
+        → Steps s (Refuses devid (bytes ++ rest) pending_field) [] (record s { presence = Closed pending_field }) }
 {}
 
 /// A submit on a halted endpoint is turned away, and nothing else happens.

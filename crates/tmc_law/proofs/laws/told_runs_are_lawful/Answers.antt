@@ -1,5 +1,5 @@
-use Rattle.tmc_law.specs.Step.{devid}
-use Rattle.tmc_law.proofs.Telling.{untold, told, took, fits, fits_told}
+use Rattle.tmc_law.proofs.Refused.{took_first}
+use Rattle.tmc_law.proofs.Telling.{untold, told, fits, fits_told}
 use Rattle.tmc_law.proofs.laws.told_runs_are_lawful.Goals as goal
 
 pub returns-clause-runs : goal.returns-clause-runs
@@ -9,10 +9,10 @@ pub returns-clause-tells : goal.returns-clause-tells
 returns-clause-tells c = told
 
 pub returns-clause-took : goal.returns-clause-took
-returns-clause-took c = took (c.urbs_are_determined.ensures.free devid)
+returns-clause-took c = λ devid. took_first devid (c.urbs_are_determined.ensures.free devid)
 
 pub returns-clause-fits : goal.returns-clause-fits
-returns-clause-fits c = fits (c.urbs_are_determined.ensures.free devid) (c.streams_are_read.ensures.urbs devid)
+returns-clause-fits c = fits
 
 pub returns-clause-fits_told : goal.returns-clause-fits_told
 returns-clause-fits_told c = fits_told
