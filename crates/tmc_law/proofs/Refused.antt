@@ -169,7 +169,7 @@ closes devid run s m front refused f goes plugged row refuses =
     (record m { presence = Closed f }, record { plugged = plugged; leads = (refuses, refl, refl) }, refl) in (
       joined.together run (refusal devid refused f ∷ []) s m (record m { presence = Closed f }) goes last,
       joined.taken_together devid run (refusal devid refused f ∷ []) front refused (takes devid run s m front goes (plugged_open m plugged) row)
-      (refused, [], sym (append-nil refused), (refl, refl), refl),
+          (refused, [], sym (append-nil refused), (refl, refl), refl),
     )
 
 -- ---- inputs

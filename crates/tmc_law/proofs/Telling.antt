@@ -20,7 +20,7 @@ untold devid (step ∷ steps) s t (mid, means, more) =
       together means.run rest.0 s mid t means.goes rest.1,
       taken_together devid means.run rest.0 step.took (in_bytes steps) means.took rest.2,
       subst (λ (puts : List Put). SpellAll SpellsPut puts (step.put ++ out_bytes steps)) (sym (outputs_together means.run rest.0))
-      (rows.together SpellsPut (outputs means.run) (outputs rest.0) step.put (out_bytes steps) means.put rest.3),
+          (rows.together SpellsPut (outputs means.run) (outputs rest.0) step.put (out_bytes steps) means.put rest.3),
     )
 
 -- a run with these spellings is told by some steps, as by one

@@ -1,5 +1,5 @@
 -- behind the first packet of a response, its transfer is aborted, step by step
-use Rattle.std.proofs.Common.{ℕ, true, false, [], ◌∷◌, refl, lit<, lit≤}
+use Rattle.std.proofs.Common.{ℕ, true, false, [], ◌∷◌, refl, lit<}
 use Rattle.tmc_wire.specs.declared.class_request.ClassRequest.TheVariants.{AbortIn, CheckIn}
 use Rattle.tmc_wire.specs.ControlTable.{row}
 use Rattle.tmc_law.specs.Endpoint.{ends}

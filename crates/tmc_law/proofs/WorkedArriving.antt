@@ -1,7 +1,7 @@
 -- submits that no bytes of this link spell, step by step
-use Rattle.std.proofs.Common.{◌≡◌, [], ◌∷◌, refl, arith}
+use Rattle.std.proofs.Common.{[], ◌∷◌, refl, arith}
 use Rattle.tmc_law.specs.Endpoint.{Endpoint, Control, BulkOut, BulkIn, InterruptIn}
-use Rattle.tmc_law.specs.State.{State, start, arrived}
+use Rattle.tmc_law.specs.State.{start, arrived}
 use Rattle.tmc_law.specs.Queues.{IsTaken, TurnedAway}
 use Rattle.tmc_law.specs.Run.{Runs}
 use Rattle.tmc_law.specs.WorkedArriving.{far_submit, other_submit, coming_to_no_endpoint, coming_for_another}

@@ -1,5 +1,5 @@
 -- a request where there is no response, and its abort, step by step
-use Rattle.std.proofs.Common.{true, false, [], ◌∷◌, refl, lit<, lit≤}
+use Rattle.std.proofs.Common.{true, false, [], ◌∷◌, refl, lit<}
 use Rattle.std.proofs.lemmas.Bool.{eqb-false}
 use Rattle.tmc_wire.specs.declared.header.OutHeader.TheVariants.{Request}
 use Rattle.tmc_wire.specs.declared.class_request.ClassRequest.TheVariants.{AbortIn, CheckIn}

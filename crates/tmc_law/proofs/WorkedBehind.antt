@@ -1,14 +1,14 @@
 -- bytes that are refused behind two messages, step by step
-use Rattle.std.proofs.Common.{◌≡◌, ◌∙◌, ℕ, List, [], ◌∷◌, ◌++◌, refl, sym, ap, subst, append_assoc, lit<}
+use Rattle.std.proofs.Common.{◌≡◌, ◌∙◌, ℕ, List, [], ◌++◌, refl, ap, append_assoc, lit<}
 use Rattle.usbip_wire.specs.Up as up
 use Rattle.usbip_wire.specs.Laws.{ArePrefixFree}
-use Rattle.tmc_law.specs.State.{State, start, Closed}
+use Rattle.tmc_law.specs.State.{start}
 use Rattle.tmc_law.specs.Step.{Steps, Refuses, ByField}
 use Rattle.tmc_law.specs.Run.{Runs, TakesAll, Fits}
 use Rattle.tmc_law.specs.Told.{Tells}
 use Rattle.tmc_law.specs.WorkedSession.{devid}
 use Rattle.tmc_law.specs.WorkedQuery.{query_submit, request_submit, query_text, request_text}
-use Rattle.tmc_law.specs.WorkedTold.{query_up, request_up, response_up, takes_in}
+use Rattle.tmc_law.specs.WorkedTold.{query_up, request_up, response_up}
 use Rattle.tmc_law.specs.WorkedRefused.{command_field}
 use Rattle.tmc_law.specs.WorkedBehind.{unknown_text, coming_behind, closed_behind, behind_up, told_behind, fine_up}
 use Rattle.tmc_law.proofs.WorkedComing.{out_comes}

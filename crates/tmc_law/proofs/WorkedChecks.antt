@@ -1,5 +1,5 @@
 -- checks of a clear, step by step
-use Rattle.std.proofs.Common.{ℕ, true, false, [], ◌∷◌, refl, lit<, lit≤}
+use Rattle.std.proofs.Common.{ℕ, true, false, [], ◌∷◌, refl, lit<}
 use Rattle.tmc_wire.specs.declared.class_request.ClassRequest.TheVariants.{Clear, CheckClear}
 use Rattle.tmc_wire.specs.ControlTable.{row}
 use Rattle.instr_plain.specs.Standing.{at_power_on}

@@ -1,5 +1,5 @@
 -- a short descriptor, short capabilities, and a request that the device does not know, step by step
-use Rattle.std.proofs.Common.{◌≡◌, true, false, [], ◌∷◌, refl, ap, arith, lit<, lit≤}
+use Rattle.std.proofs.Common.{◌≡◌, true, false, [], ◌∷◌, refl, ap, arith, lit<}
 use Rattle.usb_setup.specs.declared.setup.Setup.{Setup}
 use Rattle.tmc_wire.specs.declared.class_request.ClassRequest.{ClassRequest}
 use Rattle.tmc_wire.specs.declared.class_request.ClassRequest.TheVariants.{AbortOut, CheckOut, AbortIn, CheckIn, Clear, CheckClear, Capabilities, Pulse, ReadStatus, Ren, GoLocal, Lockout}

@@ -1,5 +1,5 @@
 -- aborts of Bulk-IN that do not begin, step by step
-use Rattle.std.proofs.Common.{◌≢◌, ℕ, Bool, true, false, [], ◌∷◌, refl, lit<, lit≤}
+use Rattle.std.proofs.Common.{◌≢◌, ℕ, Bool, true, false, [], ◌∷◌, refl, lit<}
 use Rattle.std.proofs.lemmas.Bool.{eqb-false}
 use Rattle.tmc_wire.specs.declared.class_request.ClassRequest.TheVariants.{AbortIn, CheckIn}
 use Rattle.tmc_wire.specs.ControlTable.{row}

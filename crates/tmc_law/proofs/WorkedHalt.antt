@@ -1,5 +1,5 @@
 -- behind the first packet of a response, Bulk-IN halts, step by step
-use Rattle.std.proofs.Common.{◌≢◌, true, false, [], ◌∷◌, refl, lit<, lit≤, arith}
+use Rattle.std.proofs.Common.{◌≢◌, true, false, [], ◌∷◌, refl, lit<, arith}
 use Rattle.usb_setup.specs.declared.setup.Setup.{Setup}
 use Rattle.usbip_wire.specs.Up as up
 use Rattle.tmc_law.specs.Endpoint.{Endpoint, Control, BulkOut, BulkIn, InterruptIn}

@@ -1,5 +1,5 @@
 -- the instrument is operated from remote and locked, step by step
-use Rattle.std.proofs.Common.{true, false, [], ◌∷◌, refl, lit<, lit≤}
+use Rattle.std.proofs.Common.{true, false, [], ◌∷◌, refl, lit<}
 use Rattle.tmc_wire.specs.declared.class_request.ClassRequest.TheVariants.{Ren, Capabilities, Pulse, GoLocal, Lockout}
 use Rattle.tmc_wire.specs.ControlTable.{row}
 use Rattle.instr_plain.specs.declared.remote.RemoteState.TheVariants.{Remote, LocalLockout, RemoteLockout}

@@ -1,5 +1,5 @@
 -- requests that are near to rows of the tables, step by step
-use Rattle.std.proofs.Common.{◌≡◌, ◌<◌, true, false, [], ◌∷◌, refl, ap, arith, lit<, lit≤}
+use Rattle.std.proofs.Common.{◌≡◌, ◌<◌, true, false, [], ◌∷◌, refl, ap, arith, lit<}
 use Rattle.usb_setup.specs.declared.setup.Setup.{Setup}
 use Rattle.usbip_wire.specs.declared.submit.SubmitHead.{SubmitHead}
 use Rattle.usbip_wire.specs.Up as up

@@ -1,5 +1,5 @@
 -- submits on all endpoints, and then the device is unplugged, step by step
-use Rattle.std.proofs.Common.{[], ◌∷◌, refl, lit<, lit≤}
+use Rattle.std.proofs.Common.{[], ◌∷◌, refl}
 use Rattle.tmc_law.specs.State.{State, start, arrived, Unplugged}
 use Rattle.tmc_law.specs.Run.{Runs}
 use Rattle.tmc_law.specs.WorkedSession.{out_submit, in_submit, notify_submit}

@@ -1,5 +1,5 @@
 -- submits that this link's messages do not spell: they arrive all the same
-use Rattle.std.specs.Prelude.{ℕ, List, [], ◌∷◌}
+use Rattle.std.specs.Prelude.{List, [], ◌∷◌}
 use Rattle.usbip_wire.specs.declared.submit.SubmitHead.{SubmitHead}
 use Rattle.usbip_wire.specs.Up as up
 use Rattle.tmc_law.specs.Put.{stalled}

@@ -72,7 +72,7 @@ pub fn a_closed_run_ends_with_refused_bytes()
     ensures closes { (devid : ℕ) (run : List Entry) (s m : State) (front refused : List ℕ) (f : Field) → Runs s run m
         → m.presence ≡ Plugged → SpellAll (up.Spells devid) (inputs run) front → IsRefused devid m refused f
         → Runs s (run ++ refusal devid refused f ∷ []) (record m { presence = Closed f })
-            × TakesAll devid (run ++ refusal devid refused f ∷ []) (front ++ refused) }
+        × TakesAll devid (run ++ refusal devid refused f ∷ []) (front ++ refused) }
 {}
 
 /// The log only grows, a device's instrument stands for its log, and no later entry changes an earlier response.
