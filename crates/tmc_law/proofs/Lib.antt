@@ -33,6 +33,8 @@ pub mod ClassLayouts
 pub mod PieceTransfers
 pub mod Rising
 pub mod Flags
+pub mod AnsweredTo
+pub mod AnswersFit
 pub mod WorkedSpelling
 pub mod WorkedJoined
 pub mod WorkedArrived

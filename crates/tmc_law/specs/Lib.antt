@@ -19,6 +19,7 @@ pub mod Laws
 pub mod Layouts
 pub mod Numbers
 pub mod HaltCauses
+pub mod AnswerFits
 pub mod WorkedSession
 pub mod WorkedQuery
 pub mod WorkedRead

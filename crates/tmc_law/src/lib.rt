@@ -8,6 +8,7 @@
 //! The types here are the data that a device and its users share.
 #![tactic(auto)]
 
+mod answers;
 mod dev_event;
 mod halt_causes;
 mod input;
@@ -20,6 +21,7 @@ mod output;
 mod tests;
 mod worked;
 
+pub use answers::answers_fit;
 pub use dev_event::DevEvent;
 pub use halt_causes::halts_have_causes;
 pub use input::Input;
