@@ -35,6 +35,8 @@ pub mod Rising
 pub mod Flags
 pub mod AnsweredTo
 pub mod AnswersFit
+pub mod Reaching
+pub mod Orders
 pub mod WorkedSpelling
 pub mod WorkedJoined
 pub mod WorkedArrived

@@ -20,6 +20,7 @@ pub mod Layouts
 pub mod Numbers
 pub mod HaltCauses
 pub mod AnswerFits
+pub mod Reached
 pub mod WorkedSession
 pub mod WorkedQuery
 pub mod WorkedRead

@@ -1,0 +1,25 @@
+//! What holds of each state that can be reached. Each function does nothing, and its contract is the law.
+
+ghost use Rattle.std.specs.Prelude.{◌≤◌, List, length};
+ghost use Rattle.tmc_law.specs.Endpoint.{Endpoint};
+ghost use Rattle.tmc_law.specs.State.{State, start, queue_of, pending};
+ghost use Rattle.tmc_law.specs.Queues.{pending_most};
+ghost use Rattle.tmc_law.specs.Run.{Entry, Runs};
+ghost use Rattle.tmc_law.specs.Reached.{HaltsAreEmpty, FirstBegins, AllStand, AreDistinct, IsInOrder};
+
+/// What is pending in a state that can be reached: nothing at a halted endpoint, at most 256 submits with distinct numbers,
+/// each at its endpoint, of which only the first of each queue has moved bytes or was polled.
+pub fn pending_submits_are_sound()
+    ensures halted { (run : List Entry) (s : State) → Runs start run s → HaltsAreEmpty s }
+    ensures first { (run : List Entry) (s : State) (endpoint : Endpoint) → Runs start run s → FirstBegins (queue_of endpoint s) }
+    ensures stand { (run : List Entry) (s : State) (endpoint : Endpoint) → Runs start run s → AllStand endpoint (queue_of endpoint s) }
+    ensures distinct { (run : List Entry) (s : State) → Runs start run s → AreDistinct (pending s) }
+    ensures few { (run : List Entry) (s : State) → Runs start run s → length (pending s) ≤ pending_most }
+{}
+
+/// What is under way on the bulk endpoints in a state that can be reached. A message that waits for execution excludes an
+/// unfinished one, and a Bulk-IN transfer in progress excludes both. A Bulk-OUT transfer in progress is of a message and
+/// still wants bytes, at least those of the submit that it began with.
+pub fn transfers_are_in_order()
+    ensures { (run : List Entry) (s : State) → Runs start run s → IsInOrder s }
+{}
