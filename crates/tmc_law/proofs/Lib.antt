@@ -37,6 +37,7 @@ pub mod AnsweredTo
 pub mod AnswersFit
 pub mod Reaching
 pub mod Orders
+pub mod Packets
 pub mod WorkedSpelling
 pub mod WorkedJoined
 pub mod WorkedArrived

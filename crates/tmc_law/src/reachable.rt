@@ -5,7 +5,7 @@ ghost use Rattle.tmc_law.specs.Endpoint.{Endpoint};
 ghost use Rattle.tmc_law.specs.State.{State, start, queue_of, pending};
 ghost use Rattle.tmc_law.specs.Queues.{pending_most};
 ghost use Rattle.tmc_law.specs.Run.{Entry, Runs};
-ghost use Rattle.tmc_law.specs.Reached.{HaltsAreEmpty, FirstBegins, AllStand, AreDistinct, IsInOrder};
+ghost use Rattle.tmc_law.specs.Reached.{HaltsAreEmpty, FirstBegins, AllStand, AreDistinct, AreFew, IsInOrder};
 
 /// What is pending in a state that can be reached: nothing at a halted endpoint, at most 256 submits with distinct numbers,
 /// each at its endpoint, of which only the first of each queue has moved bytes or was polled.
@@ -22,4 +22,9 @@ pub fn pending_submits_are_sound()
 /// still wants bytes, at least those of the submit that it began with.
 pub fn transfers_are_in_order()
     ensures { (run : List Entry) (s : State) → Runs start run s → IsInOrder s }
+{}
+
+/// At most one status packet and one service packet are queued in a state that can be reached.
+pub fn few_packets_are_queued()
+    ensures { (run : List Entry) (s : State) → Runs start run s → AreFew s.packets }
 {}
