@@ -1,5 +1,5 @@
 -- what each answer of a step answers
-use Rattle.std.proofs.Common.{◌≡◌, ◌∙◌, ◌⊎◌, inl, inr, ℕ, ℤ, ◌+◌, ◌*◌, ◌≤◌, Bool, true, false, List, [], ◌∷◌, ◌++◌, map, length, take, drop, min, refl, ap, sym, subst, append_assoc, length-append, length-take, take-append-drop, arith}
+use Rattle.std.proofs.Common.{◌≡◌, ◌∙◌, ◌⊎◌, inl, inr, ℕ, ℤ, ◌+◌, ◌*◌, ◌≤◌, true, false, List, [], ◌∷◌, ◌++◌, map, length, take, min, refl, ap, sym, subst, append_assoc, length-append, length-take, arith}
 use Rattle.usbip_wire.specs.declared.submit.SubmitHead.{SubmitHead}
 use Rattle.usbip_wire.specs.declared.unlink.UnlinkHead.{UnlinkHead}
 use Rattle.usbip_wire.specs.declared.urb.Dir.{Dir}
@@ -12,7 +12,7 @@ use Rattle.tmc_law.specs.Endpoint.{Endpoint, Control, BulkOut, BulkIn, Interrupt
 use Rattle.tmc_law.specs.State.{State, Pending, Transfer, Piece, Running, Nothing, AbortsOut, AbortsIn, Clears, Packet, StatusPacket, ServicePacket, room, queue_of, is_halted}
 use Rattle.tmc_law.specs.Put.{Put, answer_of, ended, success, stalled, unlinked, unplugged}
 use Rattle.tmc_law.specs.Control.{sent_back, control_answer}
-use Rattle.tmc_law.specs.Queues.{Arrives, Queued, TurnedAway, Unlinks, Hits, Polled, Misses, Holds}
+use Rattle.tmc_law.specs.Queues.{Arrives, Queued, TurnedAway, Unlinks, Hits, Polled, Misses}
 use Rattle.tmc_law.specs.Halts.{halts, halt_answers, all_ended, HaltsItself, DoesHalt, Unplugs}
 use Rattle.tmc_law.specs.BulkOut as out
 use Rattle.tmc_law.specs.BulkIn as «in»
@@ -80,17 +80,19 @@ sent_within In n size layout h = omega (arith, h, length-take n layout)
 others : (s t : State) (move : Move) (e : Endpoint) (status : ℤ) (before rest : List Pending) → queue_of e s ≡ before ++ rest → StatusBy move status
     → (status ≡ stalled → (e ≡ Control) ⊎ (is_halted e t ≡ true)) → (status ≡ success → ⊥) → Ok s move t (map (λ submit. answer_of submit.head status []) rest)
 others s t move e status before [] is by halted none = tt
-others s t move e status before (submit ∷ rest) is by halted none =
-    (ToPending e before submit rest status [] is refl (omega arith) by halted (λ own good. absurd (none good)),
-    others s t move e status (before ++ submit ∷ []) rest (is ∙ sym (append_assoc before (submit ∷ []) rest)) by halted none)
+others s t move e status before (submit ∷ rest) is by halted none = (
+  ToPending e before submit rest status [] is refl (omega arith) by halted (λ own good. absurd (none good)),
+  others s t move e status (before ++ submit ∷ []) rest (is ∙ sym (append_assoc before (submit ∷ []) rest)) by halted none,
+)
 
 -- the first one has these bytes
 first_others : (s t : State) (move : Move) (e : Endpoint) (status : ℤ) (first : Pending) (rest : List Pending) (moved : List ℕ) → queue_of e s ≡ first ∷ rest → length moved ≤ first.head.length
     → StatusBy move status → (status ≡ stalled → (e ≡ Control) ⊎ (is_halted e t ≡ true)) → (status ≡ success → ⊥)
     → Ok s move t (answer_of first.head status moved ∷ map (λ submit. answer_of submit.head status []) rest)
-first_others s t move e status first rest moved is short by halted none =
-    (ToPending e [] first rest status moved is refl short by halted (λ own good. absurd (none good)),
-    others s t move e status (first ∷ []) rest is by halted none)
+first_others s t move e status first rest moved is short by halted none = (
+  ToPending e [] first rest status moved is refl short by halted (λ own good. absurd (none good)),
+  others s t move e status (first ∷ []) rest is by halted none,
+)
 
 all_end : (s t : State) (move : Move) (e : Endpoint) (status : ℤ) (queue : List Pending) → IsSound s → queue_of e s ≡ queue → StatusBy move status
     → (status ≡ stalled → (e ≡ Control) ⊎ (is_halted e t ≡ true)) → (status ≡ success → ⊥) → Ok s move t (all_ended status queue)
@@ -262,9 +264,10 @@ serves Lockout submit behind s served sound h = operates _ s _ served.state serv
 
 answers : (s t : State) (puts : List Put) → IsSound s → class.Answers s puts t → Ok s Answer t puts
 answers s t puts sound (class.ByClass submit behind setup request served queue asks row serving put is) =
-    ok_put s t Answer puts (control_answer submit setup served.layout ∷ served.behind) put
-    (answered s t Answer submit behind setup served.layout queue (inl refl),
-    subst (λ (x : State). Ok s Answer x served.behind) (sym is) (serves request submit behind s served sound serving))
+    ok_put s t Answer puts (control_answer submit setup served.layout ∷ served.behind) put (
+      answered s t Answer submit behind setup served.layout queue (inl refl),
+      subst (λ (x : State). Ok s Answer x served.behind) (sym is) (serves request submit behind s served sound serving),
+    )
 answers s t puts sound (class.ByStandard submit behind setup request queue asks row put is) =
     ok_put s t Answer puts _ put (answered s t Answer submit behind setup _ queue (inl refl), tt)
 answers s t puts sound (class.Unknown submit behind setup queue asks unknown put is) =
@@ -320,10 +323,12 @@ polled_control InterruptIn (x ∷ before) submit behind h polled = absurd (none_
 unlinks : (s t : State) (head : UnlinkHead) (puts : List Put) → IsSound s → Unlinks s head puts t → Ok s (Comes (up.Unlink head)) t puts
 unlinks s t head puts sound (Hits e before submit behind queue target fresh put is) = ok_put s t _ puts _ put (ToUnlink head unlinked refl refl (inr refl), tt)
 unlinks s t head puts sound (Polled e before submit behind setup tag queue target polled asks row put is) =
-    ok_put s t _ puts _ put
-    (ToPending e before submit behind success (sent_back submit.head.dir (min setup.length submit.head.length) _) queue refl
-    (sent_within submit.head.dir (min setup.length submit.head.length) submit.head.length _ (omega arith)) refl (λ h. absurd (not_stalled h))
-    (λ own. absurd (control_other (sym (polled_control e before submit behind (subst (λ (q : List Pending). FirstPolled e q) queue (sound.polled e)) polled) ∙ own))), (ToUnlink head success refl refl (inl refl), tt))
+    ok_put s t _ puts _ put (
+      ToPending e before submit behind success (sent_back submit.head.dir (min setup.length submit.head.length) _) queue refl
+          (sent_within submit.head.dir (min setup.length submit.head.length) submit.head.length _ (omega arith)) refl (λ h. absurd (not_stalled h))
+          (λ own. absurd (control_other (sym (polled_control e before submit behind (subst (λ (q : List Pending). FirstPolled e q) queue (sound.polled e)) polled) ∙ own))),
+      (ToUnlink head success refl refl (inl refl), tt),
+    )
 unlinks s t head puts sound (Misses avoids put is) = ok_put s t _ puts _ put (ToUnlink head success refl refl (inl refl), tt)
 
 pub answers_to : (s t : State) (move : Move) (puts : List Put) → IsSound s → Leads s move puts t → Ok s move t puts

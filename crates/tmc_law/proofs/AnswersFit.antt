@@ -8,13 +8,13 @@ use Rattle.usbip_wire.specs.RetSubmit.{Returns}
 use Rattle.usbip_wire.specs.Up as up
 use Rattle.tmc_law.specs.Endpoint.{Endpoint, Control, BulkOut, BulkIn, InterruptIn, number_of}
 use Rattle.tmc_law.specs.State.{State, Pending, queue_of, start}
-use Rattle.tmc_law.specs.Put.{Put, Submitted, Unlinked, answer_of, unlink_answer, returned, success, stalled, unlinked, unplugged}
+use Rattle.tmc_law.specs.Put.{Put, answer_of, unlink_answer, returned, success, stalled, unlinked}
 use Rattle.tmc_law.specs.Step.{Move, Comes, Refuses, Take, Exec, Begin, Fill, Answer, Pend, Poll, Notify, Halt, Unplug, Leads, Steps}
 use Rattle.tmc_law.specs.Run.{Entry, Runs, SpellsPut}
-use Rattle.tmc_law.specs.AnswerFits.{AllAnswers, StatusBy, IsAnswer, ToPending, ToArriving, ToUnlink, FitsSubmit, FitsUnlink, FitsAsked, HasPacket, written}
+use Rattle.tmc_law.specs.AnswerFits.{AllAnswers, StatusBy, IsAnswer, ToPending, ToArriving, ToUnlink, FitsAsked, HasPacket, written}
 use Rattle.tmc_law.proofs.Queued.{FitsAt, AllFit, IsSound}
 use Rattle.tmc_law.proofs.Sound.{sound}
-use Rattle.tmc_law.proofs.AnswerBytes.{EachWide, each_wide, IsStatus, success_is, stalled_is, unlinked_is, unplugged_is, submit_spelled, unlink_spelled}
+use Rattle.tmc_law.proofs.AnswerBytes.{each_wide, IsStatus, success_is, stalled_is, unlinked_is, unplugged_is, submit_spelled, unlink_spelled}
 use Rattle.tmc_law.proofs.AnsweredTo.{answers_to, fits_in}
 
 either : (status : ℤ) → (status ≡ success) ⊎ (status ≡ stalled) → IsStatus status

@@ -38,6 +38,10 @@ pub mod AnswersFit
 pub mod Reaching
 pub mod Orders
 pub mod Packets
+pub mod OneMeaning
+pub mod OneEffect
+pub mod OneAnswer
+pub mod OneOutcome
 pub mod WorkedSpelling
 pub mod WorkedJoined
 pub mod WorkedArrived

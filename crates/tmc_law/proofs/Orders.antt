@@ -1,5 +1,5 @@
 -- what is under way on the bulk endpoints in each state that can be reached
-use Rattle.std.proofs.Common.{◌≡◌, ◌∙◌, ◌≢◌, ◌⊎◌, inl, inr, ℕ, ◌+◌, ◌-◌, ◌*◌, ◌<◌, ◌≤◌, Bool, true, false, List, [], ◌∷◌, ◌++◌, Option, Some, None, length, take, drop, min, refl, ap, sym, subst, length-append, length-take, length-drop, arith}
+use Rattle.std.proofs.Common.{◌≡◌, ◌∙◌, ◌≢◌, ◌⊎◌, inl, inr, ℕ, ◌+◌, ◌-◌, ◌*◌, ◌<◌, ◌≤◌, true, false, List, [], ◌∷◌, ◌++◌, Option, Some, None, length, take, drop, refl, ap, sym, subst, length-append, length-take, length-drop, arith}
 use Rattle.std.proofs.lemmas.Bool.{cases_lt}
 use Rattle.usbip_wire.specs.declared.submit.SubmitHead.{SubmitHead}
 use Rattle.usbip_wire.specs.declared.unlink.UnlinkHead.{UnlinkHead}
@@ -13,7 +13,7 @@ use Rattle.tmc_wire.specs.Standard.{header_size}
 use Rattle.tmc_wire.specs.Header.{IsOutHeader}
 use Rattle.instr_plain.specs.declared.log.LogEntry.{LogEntry}
 use Rattle.tmc_law.specs.Endpoint.{Endpoint, Control, BulkOut, BulkIn, InterruptIn, packet_size}
-use Rattle.tmc_law.specs.State.{State, Pending, Transfer, Waiting, Side, Idle, Owed, Sending, Running, Nothing, AbortsOut, AbortsIn, Clears, start, arrived, queue_of, with_queue, with_halt}
+use Rattle.tmc_law.specs.State.{State, Pending, Transfer, Waiting, Side, Idle, Owed, Sending, Running, Nothing, AbortsOut, AbortsIn, Clears, start, arrived, queue_of, with_queue}
 use Rattle.tmc_law.specs.Put.{Put}
 use Rattle.tmc_law.specs.Logging.{Logs}
 use Rattle.tmc_law.specs.Halts.{halts, HaltsItself, DoesHalt}
@@ -26,7 +26,7 @@ use Rattle.tmc_law.specs.Aborts.{Served, cut}
 use Rattle.tmc_law.specs.Status as status
 use Rattle.tmc_law.specs.Class as class
 use Rattle.tmc_law.specs.Standard.{Standard, ClearHalt, SetConfiguration, SetInterface, standard_effect}
-use Rattle.tmc_law.specs.Step.{Move, Comes, Refuses, Take, Exec, Begin, Fill, Answer, Pend, Poll, Notify, Halt, Unplug, Leads, Steps}
+use Rattle.tmc_law.specs.Step.{Move, Comes, Refuses, Take, Exec, Begin, Fill, Answer, Pend, Poll, Notify, Halt, Unplug, Leads}
 use Rattle.tmc_law.specs.Run.{Entry, Runs}
 use Rattle.tmc_law.specs.Reached.{IsFresh, AreFresh, FirstBegins, IsMessage, GoesOn, IsOrderly, IsInOrder}
 use Rattle.tmc_law.proofs.Queued.{Sized, FitsAt, AllFit, IsSound}

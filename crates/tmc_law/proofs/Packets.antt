@@ -1,5 +1,5 @@
 -- at most one packet of each kind is queued in each state that can be reached
-use Rattle.std.proofs.Common.{◌≡◌, ◌∙◌, ℕ, ◌+◌, ◌≤◌, Bool, true, false, cond, not, ◌&&◌, List, [], ◌∷◌, ◌++◌, refl, ap, sym, subst, arith}
+use Rattle.std.proofs.Common.{◌≡◌, ◌∙◌, ℕ, ◌+◌, Bool, true, false, cond, not, ◌&&◌, List, [], ◌∷◌, ◌++◌, refl, ap, sym, subst, arith}
 use Rattle.usbip_wire.specs.declared.submit.SubmitHead.{SubmitHead}
 use Rattle.usbip_wire.specs.declared.unlink.UnlinkHead.{UnlinkHead}
 use Rattle.usbip_wire.specs.Up as up
@@ -8,7 +8,7 @@ use Rattle.tmc_wire.specs.declared.class_request.ClassRequest.TheVariants.{Abort
 use Rattle.instr_plain.specs.declared.log.LogEntry.{LogEntry}
 use Rattle.instr_plain.specs.Standing.{Standing, polled_byte}
 use Rattle.tmc_law.specs.Endpoint.{Endpoint, Control, BulkOut, BulkIn, InterruptIn}
-use Rattle.tmc_law.specs.State.{State, Pending, Transfer, Running, Nothing, AbortsOut, AbortsIn, Clears, Packet, StatusPacket, ServicePacket, start, queue_of, with_queue}
+use Rattle.tmc_law.specs.State.{State, Pending, Transfer, Running, Nothing, AbortsOut, AbortsIn, Clears, Packet, StatusPacket, ServicePacket, start, with_queue}
 use Rattle.tmc_law.specs.Put.{Put}
 use Rattle.tmc_law.specs.Logging.{Logs, is_service, is_queued, with_service}
 use Rattle.tmc_law.specs.Halts.{halts, HaltsItself, DoesHalt}
@@ -21,7 +21,7 @@ use Rattle.tmc_law.specs.Status as status
 use Rattle.tmc_law.specs.Status.{is_status}
 use Rattle.tmc_law.specs.Class as class
 use Rattle.tmc_law.specs.Standard.{Standard, ClearHalt, SetConfiguration, SetInterface, standard_effect}
-use Rattle.tmc_law.specs.Step.{Move, Comes, Refuses, Take, Exec, Begin, Fill, Answer, Pend, Poll, Notify, Halt, Unplug, Leads, Steps}
+use Rattle.tmc_law.specs.Step.{Move, Comes, Refuses, Take, Exec, Begin, Fill, Answer, Pend, Poll, Notify, Halt, Unplug, Leads}
 use Rattle.tmc_law.specs.Run.{Entry, Runs}
 use Rattle.tmc_law.specs.Reached.{queued_of, AreFew}
 

@@ -1,18 +1,18 @@
 -- what holds of the queues in each state that can be reached
-use Rattle.std.proofs.Common.{◌≡◌, ◌∙◌, ◌⊎◌, inl, inr, ℕ, ◌+◌, ◌<◌, ◌≤◌, true, false, List, [], ◌∷◌, ◌++◌, length, refl, ap, sym, subst, length-append, arith}
+use Rattle.std.proofs.Common.{◌≡◌, ◌∙◌, ◌⊎◌, inl, inr, ℕ, ◌+◌, ◌≤◌, true, false, List, [], ◌∷◌, ◌++◌, length, refl, ap, sym, subst, length-append, arith}
 use Rattle.usbip_wire.specs.declared.submit.SubmitHead.{SubmitHead}
 use Rattle.usbip_wire.specs.declared.urb.Dir.{Dir}
 use Rattle.usbip_wire.specs.declared.urb.Dir.TheVariants.{Out, In}
 use Rattle.usbip_wire.specs.Up as up
 use Rattle.tmc_law.specs.Endpoint.{Endpoint, Control, BulkOut, BulkIn, InterruptIn}
-use Rattle.tmc_law.specs.State.{State, Pending, start, arrived, queue_of, with_queue, is_halted, pending, Avoids}
+use Rattle.tmc_law.specs.State.{State, Pending, start, arrived, queue_of, with_queue, is_halted, pending}
 use Rattle.tmc_law.specs.Put.{Put}
 use Rattle.tmc_law.specs.Queues.{Arrives, Queued, TurnedAway, pending_most}
-use Rattle.tmc_law.specs.Step.{Move, Comes, Refuses, Take, Exec, Begin, Fill, Answer, Pend, Poll, Notify, Halt, Unplug, Leads, Steps}
+use Rattle.tmc_law.specs.Step.{Move, Comes, Leads, Steps}
 use Rattle.tmc_law.specs.Run.{Entry, Runs}
 use Rattle.tmc_law.specs.HaltCauses.{HaltedBy}
-use Rattle.tmc_law.specs.Reached.{HaltsAreEmpty, IsFresh, AreFresh, FirstBegins, HasBytes, StandsAt, AllStand, AreDistinct}
-use Rattle.tmc_law.proofs.Queued.{times, here, times-pending, times_own, none_times, Each, each-with, same_queue, SameQueues, Sized, FitsAt, AllFit, IsSound}
+use Rattle.tmc_law.specs.Reached.{HaltsAreEmpty, IsFresh, AreFresh, FirstBegins, HasBytes, AllStand, AreDistinct}
+use Rattle.tmc_law.proofs.Queued.{times, times-pending, times_own, none_times, Each, each-with, SameQueues, Sized, AllFit, IsSound}
 use Rattle.tmc_law.proofs.Acts.{Acts, Done, Replies, Leaves, Changes, Says}
 use Rattle.tmc_law.proofs.Sound.{Does, Arriving, Acting, Stays, acts_keep, does, sound, sound_step, sound_start}
 use Rattle.tmc_law.proofs.Flags.{flags, halted_now}
@@ -103,7 +103,6 @@ total-with InterruptIn queue s = omega arith
 total_same : (s t : State) → SameQueues s t → total t ≡ total s
 total_same s t h = rw (h.control, h.bulk_out, h.bulk_in, h.interrupt_in) refl
 
-
 acts_total : (t s : State) (puts : List Put) → Acts t s puts → total t ≤ total s
 acts_total t s puts (Done _ same) = rw (total_same s t same) (omega arith)
 acts_total t s _ (Replies _ puts e submit behind status moved queue ok within rest) =
@@ -178,9 +177,10 @@ all_stand e (submit ∷ queue) h = (record { number = h.0.number; way = h.0.way;
 
 are_distinct : (queue : List Pending) → ((n : ℕ) → times n queue ≤ 1) → AreDistinct queue
 are_distinct [] h = tt
-are_distinct (submit ∷ queue) h =
-    (none_times submit.head.seqnum queue (omega (arith, h submit.head.seqnum, times_own submit queue)),
-    are_distinct queue (λ n. omega (arith, h n)))
+are_distinct (submit ∷ queue) h = (
+  none_times submit.head.seqnum queue (omega (arith, h submit.head.seqnum, times_own submit queue)),
+  are_distinct queue (λ n. omega (arith, h n)),
+)
 
 pub stand : (run : List Entry) (s : State) (e : Endpoint) → Runs start run s → AllStand e (queue_of e s)
 stand run s e goes = all_stand e (queue_of e s) ((sound run s goes).fits e)

@@ -1,5 +1,5 @@
 -- the numbers of what took effect, what waits, and what is pending or comes on Bulk-OUT rise, and stay so under each move
-use Rattle.std.proofs.Common.{◌≡◌, ◌∙◌, ◌⊎◌, inl, inr, ℕ, ◌<◌, Bool, true, false, cond, eqb, List, [], ◌∷◌, ◌++◌, Option, Some, None, refl, ap, sym, subst, append_assoc, append-nil}
+use Rattle.std.proofs.Common.{◌≡◌, ◌∙◌, ◌⊎◌, inl, inr, ℕ, Bool, true, false, cond, eqb, List, [], ◌∷◌, ◌++◌, Option, Some, None, refl, ap, sym, subst, append_assoc, append-nil}
 use Rattle.std.proofs.lemmas.Bool.{eq-eqb}
 use Rattle.usbip_wire.specs.declared.submit.SubmitHead.{SubmitHead}
 use Rattle.usbip_wire.specs.Up as up
@@ -142,7 +142,7 @@ effect submit behind transfer s w t free line log none queue (out.RequestsNothin
     (then_less w (record w { side = Owed tag size }) t (kept w (record w { side = Owed tag size }) refl refl refl) (logs entry.Bare (record w { side = Owed tag size }) t refl l))
 effect submit behind transfer s w t free line log none queue (out.Triggers tag header l) = λ rest.
     let behind_it : tail t rest ≡ numbers_of behind ++ rest =
-        ap (λ (x : State). tail x rest) l.is ∙ ap (λ (o : Option Waiting). waits o ++ (numbers_of w.bulk_out ++ rest)) none ∙ ap (λ (q : List Pending). numbers_of q ++ rest) queue in
+    ap (λ (x : State). tail x rest) l.is ∙ ap (λ (o : Option Waiting). waits o ++ (numbers_of w.bulk_out ++ rest)) none ∙ ap (λ (q : List Pending). numbers_of q ++ rest) queue in
     subst (λ (l : List ℕ). Sub (l ++ tail t rest) (numbers_with s rest))
     (sym (ap (λ (x : State). effects x.log) l.is ∙ effects-append w.log (entry.Trigger submit.head.seqnum ∷ []) ∙ ap (λ (x : List LogEntry). effects x ++ submit.head.seqnum ∷ []) log))
     (subst (λ (l : List ℕ). Sub l (numbers_with s rest)) (sym (append_assoc (effects s.log) (submit.head.seqnum ∷ []) (tail t rest)))

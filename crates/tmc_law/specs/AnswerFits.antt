@@ -12,7 +12,7 @@ use Rattle.tmc_law.specs.Endpoint.{Endpoint, Control, InterruptIn, number_of}
 use Rattle.tmc_law.specs.State.{State, Pending, is_halted}
 use Rattle.tmc_law.specs.Put.{Put, Submitted, Unlinked, answer_of, unlink_answer, success, stalled, unlinked, unplugged}
 use Rattle.tmc_law.specs.Queues.{Holds}
-use Rattle.tmc_law.specs.Step.{Move, Comes, Refuses, Take, Exec, Begin, Fill, Answer, Pend, Poll, Notify, Halt, Unplug}
+use Rattle.tmc_law.specs.Step.{Move, Comes, Take, Fill, Answer, Pend, Notify, Halt, Unplug}
 
 -- what holds of each answer
 abbrev pub AllAnswers : (Put → Type 0) → List Put → Type 0

@@ -5,7 +5,7 @@ use Rattle.usbip_wire.specs.declared.urb.Dir.TheVariants.{Out, In}
 use Rattle.tmc_wire.specs.declared.header.OutHeader.{OutHeader}
 use Rattle.tmc_wire.specs.declared.header.OutHeader.TheVariants.{Message}
 use Rattle.tmc_law.specs.Endpoint.{Endpoint, number_of, way_of}
-use Rattle.tmc_law.specs.State.{State, Pending, Transfer, Waiting, Side, Idle, Packet, Avoids, queue_of, is_halted, pending}
+use Rattle.tmc_law.specs.State.{State, Pending, Transfer, Waiting, Side, Idle, Packet, Avoids, queue_of, is_halted}
 use Rattle.tmc_law.specs.BulkOut.{wants}
 use Rattle.tmc_law.specs.Status.{is_status}
 use Rattle.tmc_law.specs.Logging.{is_service}

@@ -9,6 +9,7 @@
 #![tactic(auto)]
 
 mod answers;
+mod determined;
 mod dev_event;
 mod halt_causes;
 mod input;
@@ -23,6 +24,7 @@ mod tests;
 mod worked;
 
 pub use answers::answers_fit;
+pub use determined::steps_are_determined;
 pub use dev_event::DevEvent;
 pub use halt_causes::halts_have_causes;
 pub use input::Input;
