@@ -5,6 +5,8 @@ pub mod Logged
 pub mod Spared
 pub mod Rows
 pub mod Refused
+pub mod Overdone
+pub mod Arrivals
 pub mod Telling
 pub mod AnswerBytes
 pub mod Outstanding

@@ -1,16 +1,16 @@
 -- bytes that are refused behind two messages, step by step
-use Rattle.std.proofs.Common.{◌≡◌, ◌∙◌, ℕ, List, [], ◌++◌, refl, ap, append_assoc, lit<}
+use Rattle.std.proofs.Common.{◌≡◌, ◌∙◌, ℕ, List, [], ◌∷◌, ◌++◌, refl, ap, append_assoc, lit<}
 use Rattle.usbip_wire.specs.Up as up
 use Rattle.usbip_wire.specs.Laws.{ArePrefixFree}
 use Rattle.tmc_law.specs.State.{start}
 use Rattle.tmc_law.specs.Step.{Steps, Refuses, ByField}
 use Rattle.tmc_law.specs.Run.{Runs, TakesAll, Fits}
 use Rattle.tmc_law.specs.Told.{Tells}
-use Rattle.tmc_law.specs.WorkedSession.{devid}
+use Rattle.tmc_law.specs.WorkedSession.{devid, submits, step}
 use Rattle.tmc_law.specs.WorkedQuery.{query_submit, request_submit, query_text, request_text}
 use Rattle.tmc_law.specs.WorkedTold.{query_up, request_up, response_up}
 use Rattle.tmc_law.specs.WorkedRefused.{command_field}
-use Rattle.tmc_law.specs.WorkedBehind.{unknown_text, coming_behind, closed_behind, behind_up, told_behind, fine_up}
+use Rattle.tmc_law.specs.WorkedBehind.{unknown_text, coming_behind, closed_behind, behind_up, told_behind, told_in_parts, fine_up}
 use Rattle.tmc_law.proofs.WorkedComing.{out_comes}
 use Rattle.tmc_law.proofs.WorkedQuery.{query_came, request_came}
 use Rattle.tmc_law.proofs.WorkedTold.{query_spelled, request_spelled}
@@ -34,6 +34,35 @@ takes_behind = (query_up, request_up ++ unknown_text, refl, query_spelled, (requ
 
 pub tells_behind : Tells devid start told_behind closed_behind
 tells_behind = (closed_behind, record { run = coming_behind; goes = comes_behind; took = takes_behind; put = refl }, refl)
+
+pub tells_in_parts : Tells devid start told_in_parts closed_behind
+tells_in_parts = (
+  query_came,
+  record {
+    run = submits query_submit query_text ∷ [];
+    goes = (query_came, out_comes start 1 20 query_text (record { plugged = refl; free = refl; few = refl }) refl refl, refl);
+    took = (query_up, [], refl, query_spelled, refl);
+    put = refl;
+  },
+  (
+    query_came,
+    record { run = []; goes = refl; took = refl; put = refl },
+    (
+      closed_behind,
+      record {
+        run = submits request_submit request_text ∷ step (Refuses devid unknown_text command_field) [] ∷ [];
+        goes = (
+          request_came,
+          out_comes query_came 2 12 request_text (record { plugged = refl; free = refl; few = refl }) refl refl,
+          (closed_behind, refuses_unknown, refl),
+        );
+        took = (request_up, unknown_text, refl, request_spelled, (unknown_text, [], refl, (refl, refl), refl));
+        put = refl;
+      },
+      refl,
+    ),
+  ),
+)
 
 -- the fourth byte of a message is not its number 7
 not_seven : (rest : List ℕ) → response_up ≡ unknown_text ++ rest → ⊥

@@ -1,6 +1,7 @@
 -- what the laws speak of
 use Rattle.std.specs.Prelude.{◌≡◌, ◌≢◌, ℕ, ◌+◌, Bool, false, ◌==◌, ◌||◌, if◌then◌else◌, List, [], ◌∷◌, ◌++◌, None}
 use Rattle.tmc_base.specs.declared.field.Field.{Field}
+use Rattle.usbip_wire.specs.declared.submit.SubmitHead.{SubmitHead}
 use Rattle.usbip_wire.specs.declared.dirs.Outstanding.{Outstanding}
 use Rattle.usbip_wire.specs.declared.dirs.Outstanding.TheVariants as outstanding
 use Rattle.usbip_wire.specs.Dirs.{find, others}
@@ -10,7 +11,7 @@ use Rattle.instr_plain.specs.declared.log.LogEntry.{LogEntry}
 use Rattle.instr_plain.specs.declared.log.LogEntry.TheVariants.{Exec, Took, Clear}
 use Rattle.tmc_law.specs.State.{State, Pending, Plugged, Closed}
 use Rattle.tmc_law.specs.Put.{Put, Submitted, Unlinked}
-use Rattle.tmc_law.specs.Step.{Move, Comes, Refuses, IsRefused}
+use Rattle.tmc_law.specs.Step.{Move, Comes, Refuses, IsRefused, IsOver}
 use Rattle.tmc_law.specs.Run.{Entry, Runs, taken, inputs, SpellAll}
 
 -- bytes to the device with this devid are refused at a field, and nothing is put out
@@ -31,6 +32,20 @@ pub record EndsRefused (devid : ℕ) (s : State) (run : List Entry) (t : State) 
   pub took : bytes ≡ front ++ refused
   pub spelled : SpellAll (up.Spells devid) (inputs run) front
   pub refuses : IsRefused devid mid refused f
+
+-- A run to the device with this devid ended at a submit that came behind its inputs, and that the state before its last
+-- step could not take.
+pub record EndsOver (devid : ℕ) (s : State) (run : List Entry) (messages : List up.Message) (f : Field) : Type 0 where
+  pub before : List Entry
+  pub mid : State
+  pub refused : List ℕ
+  pub head : SubmitHead
+  pub transferred : List ℕ
+  pub behind : List up.Message
+  pub goes : Runs s before mid
+  pub last : run ≡ before ++ refusal devid refused f ∷ []
+  pub next : messages ≡ inputs run ++ up.Submit head transferred ∷ behind
+  pub over : IsOver mid head f
 
 -- no submit with this number arrives
 abbrev pub NoneArrives : ℕ → List up.Message → Type 0

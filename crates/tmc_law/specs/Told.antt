@@ -6,7 +6,8 @@ use Rattle.tmc_law.specs.State.{State, start}
 use Rattle.tmc_law.specs.Run.{Entry, Runs, TakesAll, outputs, SpellAll, SpellsPut}
 
 -- A told step is what one call on a link did: some run of a lawful device with this devid leads from the one state to the
--- other, takes in these bytes and puts out those.
+-- other, takes in these bytes and puts out those. Bytes of a message that is not whole were sent, and are taken in with
+-- its last one.
 pub record Means (devid : ℕ) (s : State) (step : RunStep) (t : State) : Type 0 where
   pub run : List Entry
   pub goes : Runs s run t

@@ -1,4 +1,4 @@
--- bytes that are refused behind two messages, in one piece with them
+-- bytes that are refused behind two messages
 use Rattle.std.specs.Prelude.{ℕ, List, [], ◌∷◌, ◌++◌}
 use Rattle.tmc_base.specs.declared.run_step.RunStep.{RunStep}
 use Rattle.tmc_law.specs.State.{State, start, arrived, Closed}
@@ -26,9 +26,14 @@ closed_behind = record start {
 abbrev pub behind_up : List ℕ
 behind_up = query_up ++ (request_up ++ unknown_text)
 
--- one call took in all three
+-- one call brought all of it
 abbrev pub told_behind : List RunStep
 told_behind = takes_in behind_up ∷ []
+
+-- Three calls brought it: the first one a part of the second message too, and the next one more of that, but not its end.
+-- What is not whole is taken in by no step, and the last one has it with the bytes that are refused.
+abbrev pub told_in_parts : List RunStep
+told_in_parts = takes_in query_up ∷ takes_in [] ∷ takes_in (request_up ++ unknown_text) ∷ []
 
 -- three messages: no byte is to be refused
 abbrev pub fine_up : List ℕ

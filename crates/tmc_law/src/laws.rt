@@ -3,9 +3,11 @@
 ghost use Rattle.std.specs.Prelude.{◌≡◌, ◌↔◌, ℕ, ◌<◌, ◌≤◌, List, [], ◌∷◌, ◌++◌, length};
 ghost use Rattle.tmc_base.specs.declared.field.Field.{Field};
 ghost use Rattle.tmc_base.specs.declared.run_step.RunStep.{RunStep};
+ghost use Rattle.usbip_wire.specs.declared.submit.SubmitHead.{SubmitHead};
 ghost use Rattle.usbip_wire.specs.declared.unlink.UnlinkHead.{UnlinkHead};
 ghost use Rattle.tmc_base.specs.Told as told;
 ghost use Rattle.tmc_base.specs.Told.{in_bytes, out_bytes};
+ghost use Rattle.usbip_wire.specs.Given.{IsBytes};
 ghost use Rattle.usbip_wire.specs.Up as up;
 ghost use Rattle.usbip_wire.specs.Stream.{Reads};
 ghost use Rattle.instr_plain.specs.declared.log.LogEntry.{LogEntry};
@@ -14,16 +16,17 @@ ghost use Rattle.instr_plain.specs.Log.{Stands, Response};
 ghost use Rattle.tmc_law.specs.Endpoint.{Endpoint};
 ghost use Rattle.tmc_law.specs.State.{State, start, queue_of, Plugged, Closed};
 ghost use Rattle.tmc_law.specs.Put.{Put, unlink_answer, unlinked};
+ghost use Rattle.tmc_law.specs.Queues.{IsSubmit, IsUnlink};
 ghost use Rattle.tmc_law.specs.Step.{Steps, Comes, IsRefused};
 ghost use Rattle.tmc_law.specs.Run.{Entry, Runs, TakesAll, inputs, outputs, SpellAll, SpellsPut, IsFront, Fits};
 ghost use Rattle.tmc_law.specs.Told.{Tells};
-ghost use Rattle.tmc_law.specs.Laws.{NoneArrives, NoneAnswers, NoneAgain, AreInOrder, answers_to, NoneRenews, bytes_taken, IsAccepted, AreNew, refusal, EndsRefused};
+ghost use Rattle.tmc_law.specs.Laws.{NoneArrives, NoneAnswers, NoneAgain, AreInOrder, answers_to, NoneRenews, bytes_taken, IsAccepted, AreNew, refusal, EndsRefused, EndsOver};
 
 use instr_plain::{keeps_responses, one_response};
-use usbip_wire::urbs_are_determined;
+use usbip_wire::{bad_fields_are_alone, bad_fields_are_refused, urbs_are_determined};
 
 /// A run's fronts are runs, and two runs of which the second starts where the first ended join end to end. The
-/// same holds of told runs, and of the bytes that a run takes in.
+/// same holds of told runs, and of what a run takes in and puts out.
 pub fn runs_join()
     ensures apart { (a b : List Entry) (s t : State) → Runs s (a ++ b) t → (m : State) × Runs s a m × Runs m b t }
     ensures together { (a b : List Entry) (s m t : State) → Runs s a m → Runs m b t → Runs s (a ++ b) t }
@@ -35,6 +38,8 @@ pub fn runs_join()
         → (front rest : List ℕ) × (bytes ≡ front ++ rest) × TakesAll devid a front × TakesAll devid b rest }
     ensures taken_together { (devid : ℕ) (a b : List Entry) (front rest : List ℕ) → TakesAll devid a front
         → TakesAll devid b rest → TakesAll devid (a ++ b) (front ++ rest) }
+    ensures inputs { (a b : List Entry) → inputs (a ++ b) ≡ inputs a ++ inputs b }
+    ensures outputs { (a b : List Entry) → outputs (a ++ b) ≡ outputs a ++ outputs b }
 {}
 
 /// Told steps are a run that took in and put out their bytes, and each run is told by some steps. A run fits what its
@@ -73,6 +78,25 @@ pub fn a_closed_run_ends_with_refused_bytes()
         → m.presence ≡ Plugged → SpellAll (up.Spells devid) (inputs run) front → IsRefused devid m refused f
         → Runs s (run ++ refusal devid refused f ∷ []) (record m { presence = Closed f })
         × TakesAll devid (run ++ refusal devid refused f ∷ []) (front ++ refused) }
+{}
+
+/// Where all bytes that a device is sent are those of messages, it closes at none but a submit behind its inputs that is
+/// one too many, or has the number of one that is pending.
+pub fn messages_are_refused_by_what_is_pending()
+    ensures { (devid : ℕ) (run : List Entry) (s t : State) (sent received later : List ℕ) (messages : List up.Message) (f : Field)
+        → s.presence ≡ Plugged → Runs s run t → Fits devid run sent received → t.presence ≡ Closed f
+        → SpellAll (up.Spells devid) messages (sent ++ later) → EndsOver devid s run messages f }
+{
+    urbs_are_determined();
+    bad_fields_are_refused();
+    bad_fields_are_alone();
+}
+
+/// A message that is spelled by bytes is one that may come.
+pub fn what_is_spelled_may_come()
+    ensures submit { (devid : ℕ) (head : SubmitHead) (transferred bytes : List ℕ) → IsBytes bytes
+        → up.Spells devid (up.Submit head transferred) bytes → IsSubmit head transferred }
+    ensures unlink { (devid : ℕ) (head : UnlinkHead) (bytes : List ℕ) → up.Spells devid (up.Unlink head) bytes → IsUnlink head }
 {}
 
 /// The log only grows, a device's instrument stands for its log, and no later entry changes an earlier response.

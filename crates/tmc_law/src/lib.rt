@@ -31,8 +31,8 @@ pub use input::Input;
 pub use instr_plain::{LogEntry, RemoteAct};
 pub use laws::{
     a_closed_run_ends_with_refused_bytes, a_hit_is_final, answers_are_accepted, answers_keep_order,
-    no_more_is_taken_than_there_is, runs_join, runs_take_in_messages, the_log_grows,
-    told_runs_are_lawful,
+    messages_are_refused_by_what_is_pending, no_more_is_taken_than_there_is, runs_join,
+    runs_take_in_messages, the_log_grows, told_runs_are_lawful, what_is_spelled_may_come,
 };
 pub use layouts::{
     class_answers_are_laid_out, packets_are_laid_out, pieces_are_transfers,

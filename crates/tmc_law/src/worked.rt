@@ -38,7 +38,7 @@ ghost use Rattle.tmc_law.specs.WorkedUnknown.{stalling, string_submit, configure
 ghost use Rattle.tmc_law.specs.WorkedDeclined.{declining};
 ghost use Rattle.tmc_law.specs.WorkedDeclinedIn.{declining_in};
 ghost use Rattle.tmc_law.specs.WorkedRefused.{number_field, command_field, pending_field, coming_twice, coming_wrong, coming_many, one_came};
-ghost use Rattle.tmc_law.specs.WorkedBehind.{coming_behind, closed_behind, behind_up, told_behind, fine_up};
+ghost use Rattle.tmc_law.specs.WorkedBehind.{coming_behind, closed_behind, behind_up, told_behind, told_in_parts, fine_up};
 ghost use Rattle.tmc_law.specs.WorkedArriving.{other_submit, coming_to_no_endpoint, coming_for_another};
 ghost use Rattle.tmc_law.specs.WorkedSession.{devid, in_submit};
 ghost use Rattle.tmc_law.specs.WorkedService.{requesting, service_log};
@@ -236,12 +236,13 @@ pub fn refused_bytes_close()
     }) }
 {}
 
-/// Behind two messages bytes are refused that came with them in one piece: the run takes in the messages and then what
-/// it refuses, and no call need tell more than that. Where the bytes that follow are another message, it does not fit.
+/// Bytes are refused behind two messages: the run takes in the messages and then these bytes. One call may have brought
+/// all of it, or three of which the second completed nothing. The run fits no bytes in which a third message follows.
 pub fn bytes_are_refused_behind_messages()
     ensures runs { Runs start coming_behind closed_behind }
     ensures takes { TakesAll devid coming_behind behind_up }
     ensures told { Tells devid start told_behind closed_behind }
+    ensures in_parts { Tells devid start told_in_parts closed_behind }
     ensures others { (received : List ℕ) → Fits devid coming_behind fine_up received → ⊥ }
 {
     urbs_are_determined();

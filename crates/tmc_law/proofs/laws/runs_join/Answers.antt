@@ -1,4 +1,4 @@
-use Rattle.tmc_law.proofs.Joined.{apart, together, told_apart, told_together, taken_apart, taken_together}
+use Rattle.tmc_law.proofs.Joined.{apart, together, told_apart, told_together, taken_apart, taken_together, inputs_together, outputs_together}
 use Rattle.tmc_law.proofs.laws.runs_join.Goals as goal
 
 pub returns-clause-apart : goal.returns-clause-apart
@@ -18,3 +18,9 @@ returns-clause-taken_apart c = taken_apart
 
 pub returns-clause-taken_together : goal.returns-clause-taken_together
 returns-clause-taken_together c = taken_together
+
+pub returns-clause-inputs : goal.returns-clause-inputs
+returns-clause-inputs c = inputs_together
+
+pub returns-clause-outputs : goal.returns-clause-outputs
+returns-clause-outputs c = outputs_together
