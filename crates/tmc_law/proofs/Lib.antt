@@ -44,6 +44,7 @@ pub mod OneMeaning
 pub mod OneEffect
 pub mod OneAnswer
 pub mod OneOutcome
+pub mod PolledFor
 pub mod WorkedSpelling
 pub mod WorkedJoined
 pub mod WorkedArrived

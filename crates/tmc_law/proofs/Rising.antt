@@ -21,7 +21,7 @@ use Rattle.tmc_law.specs.Class as class
 use Rattle.tmc_law.specs.Standard.{Standard, ClearHalt, SetConfiguration, SetInterface, standard_effect}
 use Rattle.tmc_law.specs.Logging.{Logs}
 use Rattle.tmc_law.specs.Step.{Move, Comes, Refuses, Take, Exec, Begin, Fill, Answer, Pend, Poll, Notify, Halt, Unplug, Leads, Steps}
-use Rattle.tmc_law.specs.Run.{taken}
+use Rattle.tmc_law.specs.Run.{Entry, Runs, taken, inputs}
 use Rattle.tmc_law.specs.Numbers.{AllAbove, AllBelow, Rises, effect_of, effects, waits, numbers_of, coming_out, numbers}
 
 -- ---- lists of numbers_with
@@ -377,3 +377,10 @@ below_sub n a (y ∷ b) (inr h) k = subst (λ (l : List ℕ). AllBelow n l) (sym
 
 pub numbers_below : (n : ℕ) (s t : State) (move : Move) (puts : List Put) (ups : List up.Message) → Steps s move puts t → AllBelow n (numbers s (taken move ++ ups)) → AllBelow n (numbers t ups)
 numbers_below n s t move puts ups step below = below_sub n (numbers t ups) (numbers s (taken move ++ ups)) (fewer_now s t move puts ups step.leads) below
+
+-- over a run
+pub numbers_run : (run : List Entry) (s t : State) (ups : List up.Message) → Runs s run t → Rises (numbers s (inputs run ++ ups)) → Rises (numbers t ups)
+numbers_run [] s t ups is rises = subst (λ (x : State). Rises (numbers x ups)) (sym is) rises
+numbers_run (entry ∷ run) s t ups goes rises =
+    numbers_run run goes.0 t ups goes.2
+    (numbers_rise s goes.0 entry.move entry.puts (inputs run ++ ups) goes.1 (subst (λ (l : List up.Message). Rises (numbers s l)) (append_assoc (taken entry.move) (inputs run) ups) rises))

@@ -2,12 +2,16 @@
 use Rattle.std.specs.Prelude.{◌≡◌, ◌≢◌, ℕ, ◌+◌, ◌≤◌, Bool, true, false, if◌then◌else◌, List, [], ◌∷◌, length, Option, Some, None, slice_index}
 use Rattle.usbip_wire.specs.declared.urb.Dir.{Dir}
 use Rattle.usbip_wire.specs.declared.urb.Dir.TheVariants.{Out, In}
+use Rattle.usb_setup.specs.declared.setup.Setup.{Setup}
+use Rattle.tmc_wire.specs.declared.class_request.ClassRequest.TheVariants.{ReadStatus}
+use Rattle.tmc_wire.specs.ControlTable.{IsRow}
 use Rattle.tmc_wire.specs.declared.header.OutHeader.{OutHeader}
 use Rattle.tmc_wire.specs.declared.header.OutHeader.TheVariants.{Message}
-use Rattle.tmc_law.specs.Endpoint.{Endpoint, number_of, way_of}
+use Rattle.tmc_law.specs.Endpoint.{Endpoint, number_of, way_of, ends}
 use Rattle.tmc_law.specs.State.{State, Pending, Transfer, Waiting, Side, Idle, Packet, Avoids, queue_of, is_halted}
 use Rattle.tmc_law.specs.BulkOut.{wants}
-use Rattle.tmc_law.specs.Status.{is_status}
+use Rattle.tmc_law.specs.Control.{Asks}
+use Rattle.tmc_law.specs.Status.{IsStatusTag, is_status}
 use Rattle.tmc_law.specs.Logging.{is_service}
 
 -- nothing is pending at a halted endpoint
@@ -26,6 +30,19 @@ AreFresh (submit ∷ submits) = IsFresh submit × AreFresh submits
 abbrev pub FirstBegins : List Pending → Type 0
 FirstBegins [] = Unit {0}
 FirstBegins (first ∷ others) = AreFresh others
+
+-- a control submit that asks for the status byte, with a tag of 2 to 127
+pub record AsksStatus (submit : Pending) : Type 0 where
+  pub setup : Setup
+  pub tag : ℕ
+  pub asks : Asks submit setup
+  pub row : IsRow ends (ReadStatus tag) setup
+  pub tagged : IsStatusTag tag
+
+-- where the status byte was polled for the first control submit, it asks for it
+abbrev pub PolledAsks : List Pending → Type 0
+PolledAsks [] = Unit {0}
+PolledAsks (first ∷ others) = first.polled ≡ true → AsksStatus first
 
 -- the bytes that were moved and those that are left are those of an OUT submit, and at most those that an IN submit asks for
 abbrev pub HasBytes : Dir → Pending → Type 0

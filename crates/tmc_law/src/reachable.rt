@@ -5,13 +5,15 @@ ghost use Rattle.tmc_law.specs.Endpoint.{Endpoint};
 ghost use Rattle.tmc_law.specs.State.{State, start, queue_of, pending};
 ghost use Rattle.tmc_law.specs.Queues.{pending_most};
 ghost use Rattle.tmc_law.specs.Run.{Entry, Runs};
-ghost use Rattle.tmc_law.specs.Reached.{HaltsAreEmpty, FirstBegins, AllStand, AreDistinct, AreFew, IsInOrder};
+ghost use Rattle.tmc_law.specs.Reached.{HaltsAreEmpty, FirstBegins, PolledAsks, AllStand, AreDistinct, AreFew, IsInOrder};
 
 /// What is pending in a state that can be reached: nothing at a halted endpoint, at most 256 submits with distinct numbers,
-/// each at its endpoint, of which only the first of each queue has moved bytes or was polled.
+/// each at its endpoint, of which only the first of each queue has moved bytes or was polled. The status byte was polled for
+/// a control request that asks for it.
 pub fn pending_submits_are_sound()
     ensures halted { (run : List Entry) (s : State) → Runs start run s → HaltsAreEmpty s }
     ensures first { (run : List Entry) (s : State) (endpoint : Endpoint) → Runs start run s → FirstBegins (queue_of endpoint s) }
+    ensures polled { (run : List Entry) (s : State) → Runs start run s → PolledAsks s.control }
     ensures stand { (run : List Entry) (s : State) (endpoint : Endpoint) → Runs start run s → AllStand endpoint (queue_of endpoint s) }
     ensures distinct { (run : List Entry) (s : State) → Runs start run s → AreDistinct (pending s) }
     ensures few { (run : List Entry) (s : State) → Runs start run s → length (pending s) ≤ pending_most }

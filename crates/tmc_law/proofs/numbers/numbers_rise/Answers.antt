@@ -6,3 +6,6 @@ returns-clause-rise c = rising.numbers_rise
 
 pub returns-clause-below : goal.returns-clause-below
 returns-clause-below c = rising.numbers_below
+
+pub returns-clause-run : goal.returns-clause-run
+returns-clause-run c = rising.numbers_run
