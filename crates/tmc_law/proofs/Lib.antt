@@ -82,3 +82,4 @@ pub mod WorkedUnlink
 pub mod WorkedTold
 pub mod WorkedBehind
 pub mod WorkedArriving
+pub mod WorkedLaws

@@ -13,6 +13,7 @@ mod determined;
 mod dev_event;
 mod halt_causes;
 mod input;
+mod instances;
 mod laws;
 mod layouts;
 mod log;
@@ -28,6 +29,7 @@ pub use determined::steps_are_determined;
 pub use dev_event::DevEvent;
 pub use halt_causes::halts_have_causes;
 pub use input::Input;
+pub use instances::worked_runs_meet_the_laws;
 pub use instr_plain::{LogEntry, RemoteAct};
 pub use laws::{
     a_closed_run_ends_with_refused_bytes, a_hit_is_final, answers_are_accepted, answers_keep_order,
