@@ -11,7 +11,7 @@ use Rattle.tmc_law.specs.State.{State, Pending, Transfer, Running, Nothing, Abor
 use Rattle.tmc_law.specs.Put.{Put}
 use Rattle.tmc_law.specs.Logging.{Logs}
 use Rattle.tmc_law.specs.Halts.{halts, HaltsItself, DoesHalt}
-use Rattle.tmc_law.specs.Queues.{Arrives, Queued, TurnedAway, Unlinks, Hits, Polled, Misses}
+use Rattle.tmc_law.specs.Queues.{Holds, Arrives, Queued, TurnedAway, Unlinks, Hits, Polled, Misses}
 use Rattle.tmc_law.specs.BulkOut as out
 use Rattle.tmc_law.specs.BulkIn as «in»
 use Rattle.tmc_law.specs.Aborts as aborts
@@ -21,8 +21,15 @@ use Rattle.tmc_law.specs.Class as class
 use Rattle.tmc_law.specs.Standard.{Standard, ClearHalt, SetConfiguration, SetInterface, standard_effect}
 use Rattle.tmc_law.specs.Step.{Move, Comes, Refuses, Take, Exec, Begin, Fill, Answer, Pend, Poll, Notify, Halt, Unplug, Leads}
 use Rattle.tmc_law.specs.Run.{Entry, Runs}
-use Rattle.tmc_law.specs.Reached.{AreFresh, FirstBegins, PolledAsks}
+use Rattle.tmc_law.specs.Reached.{AreFresh, FirstBegins, AsksStatus}
+use Rattle.tmc_law.proofs.Queued.{NonePolled, FirstPolled}
+use Rattle.tmc_law.proofs.Sound.{sound}
 use Rattle.tmc_law.proofs.Reaching.{IsReached, reached_start, reached_step, AllFirst}
+
+-- where the status byte was polled for the first control submit, it asks for it
+abbrev PolledAsks : List Pending → Type 0
+PolledAsks [] = Unit {0}
+PolledAsks (first ∷ others) = first.polled ≡ true → AsksStatus first
 
 abbrev Asked : State → Type 0
 Asked s = PolledAsks s.control
@@ -222,5 +229,24 @@ asked_run s [] t r asked is = to s t is asked
 asked_run s (entry ∷ run) t r asked goes =
     asked_run goes.0 run t (reached_step s entry.move entry.puts goes.0 r goes.1) (asked_goes s goes.0 entry.move entry.puts r.first asked goes.1.leads) goes.2
 
-pub polled_asks : (run : List Entry) (s : State) → Runs start run s → PolledAsks s.control
+polled_asks : (run : List Entry) (s : State) → Runs start run s → PolledAsks s.control
 polled_asks run s goes = asked_run start run s reached_start tt goes
+
+none_polled : (before : List Pending) (submit : Pending) (behind : List Pending) → NonePolled (before ++ submit ∷ behind) → submit.polled ≡ true → ⊥
+none_polled [] submit behind h polled = true_false (sym h.0 ∙ polled)
+none_polled (x ∷ before) submit behind h polled = none_polled before submit behind h.1 polled
+
+-- where a submit was polled
+polled_first : (e : Endpoint) (before : List Pending) (submit : Pending) (behind : List Pending) → FirstPolled e (before ++ submit ∷ behind) → submit.polled ≡ true → (e ≡ Control) × (before ≡ [])
+polled_first Control [] submit behind h polled = (refl, refl)
+polled_first BulkOut [] submit behind h polled = absurd (none_polled [] submit behind h polled)
+polled_first BulkIn [] submit behind h polled = absurd (none_polled [] submit behind h polled)
+polled_first InterruptIn [] submit behind h polled = absurd (none_polled [] submit behind h polled)
+polled_first e (x ∷ before) submit behind h polled = absurd (none_polled before submit behind h.1 polled)
+
+pub polled_for : (run : List Entry) (s : State) (e : Endpoint) (before : List Pending) (submit : Pending) (behind : List Pending) → Runs start run s → Holds s e before submit behind → submit.polled ≡ true
+    → (e ≡ Control) × (before ≡ []) × AsksStatus submit
+polled_for run s e before submit behind goes holds polled =
+    let place = polled_first e before submit behind (subst (λ (q : List Pending). FirstPolled e q) holds ((sound run s goes).polled e)) polled in
+    let queue : s.control ≡ submit ∷ behind = subst (λ (x : Endpoint). queue_of x s ≡ submit ∷ behind) place.0 (holds ∙ ap (λ (x : List Pending). x ++ submit ∷ behind) place.1) in
+    (place.0, place.1, subst (λ (q : List Pending). PolledAsks q) queue (polled_asks run s goes) polled)

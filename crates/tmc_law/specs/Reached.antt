@@ -39,11 +39,6 @@ pub record AsksStatus (submit : Pending) : Type 0 where
   pub row : IsRow ends (ReadStatus tag) setup
   pub tagged : IsStatusTag tag
 
--- where the status byte was polled for the first control submit, it asks for it
-abbrev pub PolledAsks : List Pending → Type 0
-PolledAsks [] = Unit {0}
-PolledAsks (first ∷ others) = first.polled ≡ true → AsksStatus first
-
 -- the bytes that were moved and those that are left are those of an OUT submit, and at most those that an IN submit asks for
 abbrev pub HasBytes : Dir → Pending → Type 0
 HasBytes Out submit = length submit.moved + length submit.left ≡ submit.head.length

@@ -1,11 +1,11 @@
 //! What holds of each state that can be reached. Each function does nothing, and its contract is the law.
 
-ghost use Rattle.std.specs.Prelude.{◌≤◌, List, length};
-ghost use Rattle.tmc_law.specs.Endpoint.{Endpoint};
-ghost use Rattle.tmc_law.specs.State.{State, start, queue_of, pending};
-ghost use Rattle.tmc_law.specs.Queues.{pending_most};
+ghost use Rattle.std.specs.Prelude.{◌≡◌, ◌≤◌, true, List, [], length};
+ghost use Rattle.tmc_law.specs.Endpoint.{Endpoint, Control};
+ghost use Rattle.tmc_law.specs.State.{State, Pending, start, queue_of, pending};
+ghost use Rattle.tmc_law.specs.Queues.{Holds, pending_most};
 ghost use Rattle.tmc_law.specs.Run.{Entry, Runs};
-ghost use Rattle.tmc_law.specs.Reached.{HaltsAreEmpty, FirstBegins, PolledAsks, AllStand, AreDistinct, AreFew, IsInOrder};
+ghost use Rattle.tmc_law.specs.Reached.{HaltsAreEmpty, FirstBegins, AsksStatus, AllStand, AreDistinct, AreFew, IsInOrder};
 
 /// What is pending in a state that can be reached: nothing at a halted endpoint, at most 256 submits with distinct numbers,
 /// each at its endpoint, of which only the first of each queue has moved bytes or was polled. The status byte was polled for
@@ -13,7 +13,9 @@ ghost use Rattle.tmc_law.specs.Reached.{HaltsAreEmpty, FirstBegins, PolledAsks, 
 pub fn pending_submits_are_sound()
     ensures halted { (run : List Entry) (s : State) → Runs start run s → HaltsAreEmpty s }
     ensures first { (run : List Entry) (s : State) (endpoint : Endpoint) → Runs start run s → FirstBegins (queue_of endpoint s) }
-    ensures polled { (run : List Entry) (s : State) → Runs start run s → PolledAsks s.control }
+    ensures polled { (run : List Entry) (s : State) (endpoint : Endpoint) (before : List Pending) (submit : Pending) (behind : List Pending)
+        → Runs start run s → Holds s endpoint before submit behind → submit.polled ≡ true
+        → (endpoint ≡ Control) × (before ≡ []) × AsksStatus submit }
     ensures stand { (run : List Entry) (s : State) (endpoint : Endpoint) → Runs start run s → AllStand endpoint (queue_of endpoint s) }
     ensures distinct { (run : List Entry) (s : State) → Runs start run s → AreDistinct (pending s) }
     ensures few { (run : List Entry) (s : State) → Runs start run s → length (pending s) ≤ pending_most }

@@ -1,5 +1,5 @@
 use Rattle.tmc_law.proofs.Reaching.{reached, stand, distinct, few}
-use Rattle.tmc_law.proofs.PolledFor.{polled_asks}
+use Rattle.tmc_law.proofs.PolledFor.{polled_for}
 use Rattle.tmc_law.proofs.reachable.pending_submits_are_sound.Goals as goal
 
 pub returns-clause-halted : goal.returns-clause-halted
@@ -18,4 +18,4 @@ pub returns-clause-few : goal.returns-clause-few
 returns-clause-few c = few
 
 pub returns-clause-polled : goal.returns-clause-polled
-returns-clause-polled c = polled_asks
+returns-clause-polled c = polled_for
