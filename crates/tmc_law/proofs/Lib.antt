@@ -45,6 +45,7 @@ pub mod OneEffect
 pub mod OneAnswer
 pub mod OneOutcome
 pub mod PolledFor
+pub mod Taking
 pub mod WorkedSpelling
 pub mod WorkedJoined
 pub mod WorkedArrived

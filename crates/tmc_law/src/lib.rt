@@ -43,7 +43,10 @@ pub use layouts::{
 pub use log::Log;
 pub use numbers::numbers_rise;
 pub use output::Output;
-pub use reachable::{few_packets_are_queued, pending_submits_are_sound, transfers_are_in_order};
+pub use reachable::{
+    few_packets_are_queued, pending_submits_are_sound, transfers_are_in_order,
+    what_arrives_can_be_taken,
+};
 pub use worked::{
     a_bare_request_is_aborted, a_busy_device_takes_no_header, a_halt_drops_a_response,
     a_halted_endpoint_takes_nothing, a_message_comes_in_parts, a_message_interrupts_a_response,

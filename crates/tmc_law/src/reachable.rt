@@ -1,9 +1,14 @@
 //! What holds of each state that can be reached. Each function does nothing, and its contract is the law.
 
-ghost use Rattle.std.specs.Prelude.{◌≡◌, ◌≤◌, true, List, [], length};
+ghost use Rattle.std.specs.Prelude.{◌≡◌, ℕ, ◌<◌, ◌≤◌, true, List, [], length};
+ghost use Rattle.usbip_wire.specs.declared.submit.SubmitHead.{SubmitHead};
+ghost use Rattle.usbip_wire.specs.declared.unlink.UnlinkHead.{UnlinkHead};
+ghost use Rattle.usbip_wire.specs.Up as up;
 ghost use Rattle.tmc_law.specs.Endpoint.{Endpoint, Control};
-ghost use Rattle.tmc_law.specs.State.{State, Pending, start, queue_of, pending};
-ghost use Rattle.tmc_law.specs.Queues.{Holds, pending_most};
+ghost use Rattle.tmc_law.specs.State.{State, Pending, Plugged, Avoids, start, queue_of, pending};
+ghost use Rattle.tmc_law.specs.Queues.{Holds, IsSubmit, IsUnlink, pending_most};
+ghost use Rattle.tmc_law.specs.Put.{Put};
+ghost use Rattle.tmc_law.specs.Step.{Steps, Comes};
 ghost use Rattle.tmc_law.specs.Run.{Entry, Runs};
 ghost use Rattle.tmc_law.specs.Reached.{HaltsAreEmpty, FirstBegins, AsksStatus, AllStand, AreDistinct, AreFew, IsInOrder};
 
@@ -31,4 +36,14 @@ pub fn transfers_are_in_order()
 /// At most one status packet and one service packet are queued in a state that can be reached.
 pub fn few_packets_are_queued()
     ensures { (run : List Entry) (s : State) → Runs start run s → AreFew s.packets }
+{}
+
+/// Whatever arrives can be taken in by a device that is plugged: a submit whose number is not pending, where fewer than 256
+/// are, and any unlink.
+pub fn what_arrives_can_be_taken()
+    ensures submits { (s : State) (head : SubmitHead) (transferred : List ℕ) → s.presence ≡ Plugged → IsSubmit head transferred
+        → Avoids head.seqnum (pending s) → length (pending s) < pending_most
+        → (puts : List Put) × (t : State) × Steps s (Comes (up.Submit head transferred)) puts t }
+    ensures unlinks { (run : List Entry) (s : State) (head : UnlinkHead) → Runs start run s → s.presence ≡ Plugged → IsUnlink head
+        → (puts : List Put) × (t : State) × Steps s (Comes (up.Unlink head)) puts t }
 {}
