@@ -46,6 +46,7 @@ pub mod OneAnswer
 pub mod OneOutcome
 pub mod PolledFor
 pub mod Taking
+pub mod AnswersOnce
 pub mod WorkedSpelling
 pub mod WorkedJoined
 pub mod WorkedArrived

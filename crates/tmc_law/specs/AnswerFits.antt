@@ -9,10 +9,11 @@ use Rattle.usbip_wire.specs.RetSubmit.{Returns, ret_submit_bytes, unused}
 use Rattle.usbip_wire.specs.RetUnlink.{ret_unlink_bytes, unused as unused_unlink}
 use Rattle.usbip_wire.specs.Up as up
 use Rattle.tmc_law.specs.Endpoint.{Endpoint, Control, InterruptIn, number_of}
-use Rattle.tmc_law.specs.State.{State, Pending, is_halted}
+use Rattle.tmc_law.specs.State.{State, Pending, Avoids, pending, is_halted}
 use Rattle.tmc_law.specs.Put.{Put, Submitted, Unlinked, answer_of, unlink_answer, success, stalled, unlinked, unplugged}
 use Rattle.tmc_law.specs.Queues.{Holds}
 use Rattle.tmc_law.specs.Step.{Move, Comes, Take, Fill, Answer, Pend, Notify, Halt, Unplug}
+use Rattle.tmc_law.specs.Laws.{NoneAnswers}
 
 -- what holds of each answer
 abbrev pub AllAnswers : (Put → Type 0) → List Put → Type 0
@@ -77,3 +78,9 @@ abbrev pub HasPacket : Put → Type 0
 HasPacket (Submitted asked answer transferred) =
     asked.ep ≡ number_of InterruptIn → answer.status ≡ success → (answer.actual ≡ 2) × (length transferred ≡ 2)
 HasPacket (Unlinked asked answer) = Unit {0}
+
+-- each submit is answered once in a step, and its number is not pending behind it
+abbrev pub AreOnce : List Put → State → Type 0
+AreOnce [] t = Unit {0}
+AreOnce (Submitted asked answer transferred ∷ puts) t = NoneAnswers answer.seqnum puts × Avoids answer.seqnum (pending t) × AreOnce puts t
+AreOnce (Unlinked asked answer ∷ puts) t = AreOnce puts t
