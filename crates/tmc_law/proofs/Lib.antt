@@ -39,7 +39,7 @@ pub mod AnsweredTo
 pub mod AnswersFit
 pub mod Reaching
 pub mod Orders
-pub mod Packets
+pub mod FewPackets
 pub mod OneMeaning
 pub mod OneEffect
 pub mod OneAnswer
