@@ -12,7 +12,7 @@ use Rattle.tmc_law.specs.Laws.{NoneArrives, NoneAnswers}
 use Rattle.tmc_law.proofs.Queued.{times, here, times-append, times_own, here-with, not_here, here_not, IsSound}
 use Rattle.tmc_law.proofs.Counted.{answered, none_answered, acts_count, arrival_count}
 use Rattle.tmc_law.specs.Acts.{unlinks_of, Does, Arriving, Acting}
-use Rattle.tmc_law.proofs.Sound.{ does, sound, sound_step}
+use Rattle.tmc_law.proofs.Sound.{does, sound, sound_step}
 
 -- ---- what does not arrive
 

@@ -36,6 +36,20 @@ pub mod LaidSteps
 pub mod PacketLayouts
 pub mod ClassLayouts
 pub mod PieceTransfers
+pub mod Rising
+pub mod Flags
+pub mod AnsweredTo
+pub mod AnswersFit
+pub mod Reaching
+pub mod Orders
+pub mod FewPackets
+pub mod OneMeaning
+pub mod OneEffect
+pub mod OneAnswer
+pub mod OneOutcome
+pub mod PolledFor
+pub mod Taking
+pub mod AnswersOnce
 pub mod WorkedSpelling
 pub mod WorkedJoined
 pub mod WorkedArrived
@@ -73,3 +87,4 @@ pub mod WorkedUnlink
 pub mod WorkedTold
 pub mod WorkedBehind
 pub mod WorkedArriving
+pub mod WorkedLaws

@@ -5,7 +5,8 @@ use Rattle.std.specs.Prelude.{slice_index}
 use Rattle.usbip_wire.specs.declared.urb.Dir.{Dir}
 use Rattle.usbip_wire.specs.declared.urb.Dir.TheVariants.{Out, In}
 use Rattle.tmc_law.specs.Endpoint.{Endpoint, Control, BulkOut, BulkIn, InterruptIn, number_of, way_of}
-use Rattle.tmc_law.specs.Acts.{SameQueues, Unpolled, FitsAt}
+use Rattle.tmc_law.specs.Acts.{SameQueues, Unpolled}
+use Rattle.tmc_law.specs.Reached.{AllFit}
 use Rattle.tmc_law.specs.State.{State, Pending, queue_of, with_queue, pending, Avoids}
 use Rattle.tmc_law.specs.Queues.{IsSubmit}
 
@@ -127,11 +128,6 @@ NonePolled (submit ∷ submits) = (submit.polled ≡ false) × NonePolled submit
 abbrev pub FirstPolled : Endpoint → List Pending → Type 0
 FirstPolled e [] = Unit {0}
 FirstPolled e (first ∷ others) = Unpolled e first × NonePolled others
-
--- each pending submit fits
-abbrev pub AllFit : Endpoint → List Pending → Type 0
-AllFit e [] = Unit {0}
-AllFit e (submit ∷ submits) = FitsAt e submit × AllFit e submits
 
 -- the numbers of the pending submits are distinct, only the first control submit may be polled, and all fit
 pub record IsSound (s : State) : Type 0 where

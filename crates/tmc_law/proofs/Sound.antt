@@ -12,7 +12,8 @@ use Rattle.tmc_law.specs.Put.{Put}
 use Rattle.tmc_law.specs.Queues.{IsSubmit, Arrives, Queued, TurnedAway, IsTaken}
 use Rattle.tmc_law.specs.Step.{Move, Comes, Refuses, Take, Exec, Begin, Fill, Answer, Pend, Poll, Notify, Halt, Unplug, Leads, Steps}
 use Rattle.tmc_law.specs.Run.{Entry, Runs}
-use Rattle.tmc_law.proofs.Queued.{here, not_here, Each, each-with, each_same, NonePolled, FirstPolled, AllFit}
+use Rattle.tmc_law.proofs.Queued.{here, not_here, Each, each-with, each_same, NonePolled, FirstPolled}
+use Rattle.tmc_law.specs.Reached.{AllFit}
 pub use Rattle.tmc_law.proofs.Queued.{IsSound}
 use Rattle.usbip_wire.specs.declared.unlink.UnlinkHead.{UnlinkHead}
 use Rattle.tmc_law.specs.Acts.{Unpolled, Sized, FitsAt, IsLater, Acts, Done, Replies, Changes, Hit, Miss, unlinks_of, IsArrival}

@@ -20,6 +20,10 @@ pub mod Run
 pub mod Told
 pub mod Laws
 pub mod Layouts
+pub mod Numbers
+pub mod HaltCauses
+pub mod AnswerFits
+pub mod Reached
 pub mod WorkedSession
 pub mod WorkedQuery
 pub mod WorkedRead

@@ -8,20 +8,30 @@
 //! The types here are the data that a device and its users share.
 #![tactic(auto)]
 
+mod answers;
+mod determined;
 mod dev_event;
+mod halt_causes;
 mod input;
+mod instances;
 mod laws;
 mod layouts;
 mod log;
+mod numbers;
 mod output;
+mod reachable;
 mod setups;
 mod steps;
 #[cfg(test)]
 mod tests;
 mod worked;
 
+pub use answers::answers_fit;
+pub use determined::steps_are_determined;
 pub use dev_event::DevEvent;
+pub use halt_causes::halts_have_causes;
 pub use input::Input;
+pub use instances::worked_runs_meet_the_laws;
 pub use instr_plain::{LogEntry, RemoteAct};
 pub use laws::{
     a_closed_run_ends_with_refused_bytes, a_hit_is_final, answers_are_accepted, answers_keep_order,
@@ -33,7 +43,12 @@ pub use layouts::{
     the_ends_are_the_descriptors,
 };
 pub use log::Log;
+pub use numbers::numbers_rise;
 pub use output::Output;
+pub use reachable::{
+    few_packets_are_queued, pending_submits_are_sound, transfers_are_in_order,
+    what_arrives_can_be_taken,
+};
 pub use setups::setups_have_one_meaning;
 pub use steps::{a_step_logs_at_most_once, packets_are_of_transfers, steps_act};
 pub use worked::{
