@@ -2,8 +2,9 @@
 //!
 //! The definitions in `specs/` are the law: the states of a device, its steps and its runs, by USB 2.0, USBTMC 1.0,
 //! USB488 1.0 and IEEE 488.2. A device is proved against them, and a host is proved over every device that keeps
-//! them. The functions of `laws`, `layouts` and `worked` do nothing. A contract of the first two says what holds of all
-//! lawful runs; those of `worked` show sessions that the law allows, and moves that it refuses.
+//! them. The functions of `laws`, `reachable`, `determined`, `answers`, `halt_causes`, `numbers`, `layouts`, `worked` and
+//! `instances` do nothing. A contract of the last two shows sessions that the law allows, and moves that it refuses;
+//! those of the others say what holds of all lawful runs.
 //!
 //! The types here are the data that a device and its users share.
 #![tactic(auto)]
