@@ -20,6 +20,7 @@ pub mod FirstRefused
 pub mod Firsts
 pub mod Free
 pub mod Places
+pub mod Edges
 pub mod Alone
 pub mod Listed
 pub mod UpStream

@@ -2,12 +2,16 @@
 
 ghost use Rattle.std.specs.Prelude.{◌≡◌, ◌↔◌, ℕ, ◌<◌, ◌≤◌, ◌^◌, true, None, is_some, List, [], ◌∷◌, ◌++◌, length};
 ghost use Rattle.tmc_base.specs.declared.field.Field.{Field};
+ghost use Rattle.tmc_base.specs.declared.field.Layer.TheVariants as layer;
+ghost use Rattle.tmc_base.specs.declared.field.Name.TheVariants as name;
 ghost use Rattle.usbip_wire.specs.declared.device.DeviceRecord.{DeviceRecord};
 ghost use Rattle.usbip_wire.specs.declared.dirs.Outstanding.{Outstanding};
 ghost use Rattle.usbip_wire.specs.declared.down.Down.{Down};
-ghost use Rattle.usbip_wire.specs.declared.fields.TheConstants.{COMMAND};
+ghost use Rattle.usbip_wire.specs.declared.dirs.TheConstants.{DIRS_MAX};
+ghost use Rattle.usbip_wire.specs.declared.device.TheConstants.{DEVICE_RECORD};
+ghost use Rattle.usbip_wire.specs.declared.fields.TheConstants.{VERSION, CODE, COMMAND, SEQNUM, DEVID, DIRECTION, ENDPOINT, BUFFER_LENGTH, ACTUAL_LENGTH, PACKETS};
 ghost use Rattle.usbip_wire.specs.declared.op.TheConstants.{USBIP_VERSION, REQ_DEVLIST, REP_DEVLIST, REQ_IMPORT, REP_IMPORT};
-ghost use Rattle.usbip_wire.specs.declared.urb.TheConstants.{CMD_SUBMIT, CMD_UNLINK, RET_SUBMIT, RET_UNLINK, NOT_ISOCHRONOUS, ENDPOINT_MAX, URB_HEADER};
+ghost use Rattle.usbip_wire.specs.declared.urb.TheConstants.{CMD_SUBMIT, CMD_UNLINK, RET_SUBMIT, RET_UNLINK, NOT_ISOCHRONOUS, ENDPOINT_MAX, URB_HEADER, HELD_MAX};
 ghost use Rattle.usbip_wire.specs.declared.up.UpPhase.TheVariants as up_phase;
 ghost use Rattle.usbip_wire.specs.declared.down.DownPhase.{DownPhase};
 ghost use Rattle.usbip_wire.specs.declared.down.DownPhase.TheVariants as down_phase;
@@ -25,10 +29,12 @@ ghost use Rattle.usbip_wire.specs.Up.{Spells};
 ghost use Rattle.usbip_wire.specs.Stream.{Reads};
 ghost use Rattle.usbip_wire.specs.UpFed as up_fed;
 ghost use Rattle.usbip_wire.specs.UpPieces as up_pieces;
-ghost use Rattle.usbip_wire.specs.Urb.{fields};
+ghost use Rattle.usbip_wire.specs.Urb.{fields, message_max};
 
 /// The numbers of the protocol: the version, the codes of operations and of URBs, what stands in place of the
-/// number of packets where a transfer is not isochronous, the highest endpoint, and the bytes of an URB's header.
+/// number of packets where a transfer is not isochronous, the highest endpoint, and the bytes of an URB's header and
+/// of a device record. Each judged field has its layer, its name and its place. What a reader holds is a message at
+/// most. So many submits and unlinks are outstanding at most.
 pub fn numbers_are_the_protocols()
     ensures version { USBIP_VERSION ≡ 0x0111 }
     ensures list { (REQ_DEVLIST ≡ 0x8005) × (REP_DEVLIST ≡ 0x0005) }
@@ -38,6 +44,19 @@ pub fn numbers_are_the_protocols()
     ensures packets { NOT_ISOCHRONOUS ≡ 0xffffffff }
     ensures endpoint { ENDPOINT_MAX ≡ 15 }
     ensures header { URB_HEADER ≡ 48 }
+    ensures device_record { DEVICE_RECORD ≡ 312 }
+    ensures outstanding { DIRS_MAX ≡ 16 }
+    ensures held { HELD_MAX ≡ message_max }
+    ensures version_field { VERSION ≡ record { layer = layer.Op; name = name.Version; offset = 0 } }
+    ensures code_field { CODE ≡ record { layer = layer.Op; name = name.Code; offset = 2 } }
+    ensures command_field { COMMAND ≡ record { layer = layer.Urb; name = name.Command; offset = 0 } }
+    ensures seqnum_field { SEQNUM ≡ record { layer = layer.Urb; name = name.Seqnum; offset = 4 } }
+    ensures devid_field { DEVID ≡ record { layer = layer.Urb; name = name.Devid; offset = 8 } }
+    ensures direction_field { DIRECTION ≡ record { layer = layer.Urb; name = name.Direction; offset = 12 } }
+    ensures endpoint_field { ENDPOINT ≡ record { layer = layer.Urb; name = name.Endpoint; offset = 16 } }
+    ensures buffer_length_field { BUFFER_LENGTH ≡ record { layer = layer.Urb; name = name.BufferLength; offset = 24 } }
+    ensures actual_length_field { ACTUAL_LENGTH ≡ record { layer = layer.Urb; name = name.ActualLength; offset = 24 } }
+    ensures packets_field { PACKETS ≡ record { layer = layer.Urb; name = name.Packets; offset = 32 } }
 {}
 
 /// No request of an operation begins another, the bytes determine the requests and the rest, and what was
