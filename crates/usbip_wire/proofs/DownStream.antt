@@ -51,7 +51,7 @@ part_long devices interfaces (down.RetUnlink head) front s = absurd s
 part_long devices interfaces down.More front s = absurd s
 part_long devices interfaces (down.Bad f) front s = absurd s
 
-answer_long : (entries : List Outstanding) (m : Message) (front : List ℕ) → SpellsAnswer entries m front → 0 < length front
+pub answer_long : (entries : List Outstanding) (m : Message) (front : List ℕ) → SpellsAnswer entries m front → 0 < length front
 unfolding ret_submit_bytes ret_unlink_bytes fields
 answer_long entries (RetSubmit head transferred) front s = rw s.2.layout (omega arith)
 answer_long entries (RetUnlink head) front s = rw s.1.layout (omega arith)

@@ -21,6 +21,10 @@ pub mod Firsts
 pub mod Free
 pub mod Places
 pub mod Edges
+pub mod Ranged
+pub mod Added
+pub mod FromLast
+pub mod AnswerTurns
 pub mod Alone
 pub mod Listed
 pub mod UpStream
