@@ -16,7 +16,9 @@ use crate::printed::{client_text, device_text, more_line};
 use crate::script::Phase;
 use std::alloc::Global;
 use tmc_base::Memory;
-use usbip_wire::{DIRS_MAX, Dir, Dirs, Down, DownReader, Outstanding, Up, UpReader};
+use usbip_wire::{
+    DIRS_MAX, Dir, Dirs, Down, DownReader, Outstanding, Up, UpReader, entries_may_be_added,
+};
 
 /// The device that URB messages go to: bus 1, device 2.
 const DEVID: u32 = 0x0001_0002;
@@ -105,6 +107,7 @@ impl Reading {
         if self.dirs.len() == DIRS_MAX {
             return Err(LineWhat::TooMany);
         }
+        entries_may_be_added();
         match entry {
             Outstanding::Submit {
                 seqnum,

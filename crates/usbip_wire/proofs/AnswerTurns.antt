@@ -110,6 +110,9 @@ behind_bytes : (front rest bytes : List ℕ) → bytes ≡ front ++ rest → IsB
 behind_bytes front rest bytes e fits =
     subst IsBytes (ap (λ (l : List ℕ). drop (length front) l) e ∙ drop_at front rest (length front) refl) (IsBytes-drop (length front) bytes fits)
 
+onto : (bytes front behind more rest : List ℕ) → bytes ≡ front ++ behind → behind ≡ more ++ rest → bytes ≡ (front ++ more) ++ rest
+onto bytes front behind more rest e f = e ∙ (ap (λ (l : List ℕ). front ++ l) f ∙ sym (append_assoc front more rest))
+
 one : (awaited : List Awaited) (bytes : List ℕ) → IsBytes bytes → ((next : List Awaited) (after : List ℕ) → length after < length bytes → IsBytes after → Reading next after)
     → (r : Result (Down × List ℕ) Stop) → read (answer_form (entries_of awaited)) bytes ≡ r → Reading awaited bytes
 one awaited bytes fits go (Err stop) e =
@@ -123,7 +126,7 @@ one awaited bytes fits go (Ok (what, rest)) e =
       next.1,
       record {
         front = s.0 ++ next.2.front;
-        holds = s.1 ∙ (ap (λ (l : List ℕ). s.0 ++ l) next.2.holds ∙ sym (append_assoc s.0 next.2.front next.1));
+        holds = onto bytes s.0 rest next.2.front next.1 s.1 next.2.holds;
         spelled = (s.0, next.2.front, refl, b.1, next.2.spelled);
         none_whole = next.2.none_whole;
       },

@@ -1,5 +1,5 @@
 -- messages in range have spellings, each of its length
-use Rattle.std.proofs.Common.{◌≡◌, ℕ, ◌+◌, ◌<◌, ◌^◌, Option, Some, None, List, [], ◌∷◌, ◌++◌, length, refl, ap, ◌∙◌, inl, arith, lit<}
+use Rattle.std.proofs.Common.{◌≡◌, ℕ, ◌+◌, ◌<◌, ◌^◌, Some, None, List, ◌++◌, length, refl, inl, arith, lit<}
 use Rattle.std.proofs.lemmas.List.{length-append}
 use Rattle.usbip_wire.specs.declared.device.DeviceRecord.{DeviceRecord}
 use Rattle.usbip_wire.specs.declared.device.TheConstants.{DEVICE_RECORD}
@@ -16,10 +16,9 @@ use Rattle.usbip_wire.specs.declared.urb.Dir.TheVariants.{Out, In}
 use Rattle.usbip_wire.specs.Device.{IsRecord, record_bytes}
 use Rattle.usbip_wire.specs.DevList.{SpellsPart}
 use Rattle.usbip_wire.specs.Down as down
-use Rattle.usbip_wire.specs.ImportReply.{import_bytes, import_size}
 use Rattle.usbip_wire.specs.Laws.{HaveSpellings}
 use Rattle.usbip_wire.specs.Op.{op_header}
-use Rattle.usbip_wire.specs.OpRequest.{IsRequest, SpellsRequest, request_bytes, request_size}
+use Rattle.usbip_wire.specs.OpRequest.{IsRequest, SpellsRequest, request_size}
 use Rattle.usbip_wire.specs.Range.{IsSubmit, IsUnlink, IsRetSubmit, IsRetUnlink, IsSent, sent_bytes, sent_size, IsAnswer, answer_bytes, answer_size, written_request, IsPart, part_bytes, part_size}
 use Rattle.usbip_wire.specs.RetSubmit as ret_submit
 use Rattle.usbip_wire.specs.RetSubmit.{Asked, SpellsRetSubmit, ret_submit_bytes, ret_submit_words}
