@@ -1,4 +1,5 @@
 pub mod Wide
+pub mod Appends
 pub mod Answered
 pub mod Recorded
 pub mod Entries
