@@ -14,8 +14,8 @@ use Rattle.event_text.specs.Pieces.{bytes_in, IsBadOf, IsTextOf}
 use Rattle.event_text.specs.Printed.{message_line, more_line}
 use Rattle.event_text.specs.Read.{fed_with}
 use Rattle.event_text.specs.Shown.{Standing, InTurn, Stops, Gives, PrintAll, Shown, begun, ending, taken, stopped, bad_text}
-use Rattle.event_text.proofs.Joined.{flat_on, more_bad, turn_good}
-use Rattle.event_text.proofs.Lawful.{Lawful, alone}
+use Rattle.event_text.proofs.Joined.{flat_on, turn_good}
+use Rattle.event_text.proofs.Lawful.{Lawful, alone, more_bad}
 use Rattle.event_text.proofs.Long.{no_message, no_bad}
 
 -- ---- what is outstanding does not count
@@ -123,10 +123,10 @@ piece_stopped phase bytes body piece text ms ns last (Some f) row same good stop
   printed = printed;
 }
 
-piece_by : (phase : Phase) (bytes body piece text : List ℕ) (now new : Standing) (bad : Option Field) (ms : List Message) (rest : List ℕ) → now.bad ≡ bad
+piece_by : Lawful → (phase : Phase) (bytes body piece text : List ℕ) (now new : Standing) (bad : Option Field) (ms : List Message) (rest : List ℕ) → now.bad ≡ bad
     → Row phase ms bytes rest → now.reading ≡ stream_of Out phase → Kept phase rest now bad → body ≡ flat_map message_line ms ++ bad_text bad
     → Gives bad now piece text new → SoFar phase (bytes ++ piece) (body ++ text) new
-piece_by phase bytes body piece text now new None ms rest good row same kept printed takes =
+piece_by laws phase bytes body piece text now new None ms rest good row same kept printed takes =
     let r = turn_row phase (fed_with now piece) takes.messages takes.last same takes.row in
     let on : Row phase takes.messages (rest ++ piece) takes.last.rest =
     subst (λ (l : List ℕ). Row phase takes.messages (l ++ piece) takes.last.rest) kept.0 r.0 in
@@ -134,25 +134,25 @@ piece_by phase bytes body piece text now new None ms rest good row same kept pri
     (piece_stopped phase bytes body piece text ms takes.messages takes.last takes.bad (row_on phase ms takes.messages bytes piece rest takes.last.rest row on) r.1
     (turn_good (fed_with now piece) takes.messages takes.last takes.row ∙ good) takes.stops
     (text_on ms takes.messages body text (bad_text takes.bad) printed takes.printed))
-piece_by phase bytes body piece text now new (Some f) ms rest bad row same kept printed none =
+piece_by laws phase bytes body piece text now new (Some f) ms rest bad row same kept printed none =
     subst (λ z. SoFar phase (bytes ++ piece) (body ++ text) z) (sym none.1) (record {
       messages = ms;
       rest = rest ++ piece;
       row = row_more phase ms bytes piece rest row;
       same = same;
-      kept = subst (λ (b : Option Field). Kept phase (rest ++ piece) now b) (sym bad) (more_bad (stream_of Out phase) [] rest piece f kept);
+      kept = subst (λ (b : Option Field). Kept phase (rest ++ piece) now b) (sym bad) (more_bad laws (stream_of Out phase) [] rest piece f kept);
       printed =
           ap (λ (l : List ℕ). body ++ l) none.0
           ∙ (append-nil body ∙ (printed ∙ ap (λ (b : Option Field). flat_map message_line ms ++ bad_text b) (sym bad)));
     })
 
-lines_on : (phase : Phase) (bytes body : List ℕ) (now : Standing) (lines : List Line) (text : List ℕ) (last : Standing) → SoFar phase bytes body now
+lines_on : Lawful → (phase : Phase) (bytes body : List ℕ) (now : Standing) (lines : List Line) (text : List ℕ) (last : Standing) → SoFar phase bytes body now
     → PrintAll now lines text last → SoFar phase (bytes ++ bytes_in lines) (body ++ text) last
-lines_on phase bytes body now [] text last so (none, is) =
+lines_on laws phase bytes body now [] text last so (none, is) =
     subst (λ z. SoFar phase (bytes ++ []) (body ++ text) z) (sym is)
     (subst (λ (l : List ℕ). SoFar phase l (body ++ text) now) (sym (append-nil bytes))
     (subst (λ (l : List ℕ). SoFar phase bytes l now) (sym (ap (λ (l : List ℕ). body ++ l) none ∙ append-nil body)) so))
-lines_on phase bytes body now (Adds entry ∷ lines) text last so (front, back, middle, e, (free, none, is), more) =
+lines_on laws phase bytes body now (Adds entry ∷ lines) text last so (front, back, middle, e, (free, none, is), more) =
     let added : SoFar phase bytes body middle = subst (λ z. SoFar phase bytes body z) (sym is) (record {
       messages = so.messages;
       rest = so.rest;
@@ -162,16 +162,16 @@ lines_on phase bytes body now (Adds entry ∷ lines) text last so (front, back, 
       printed = so.printed;
     }) in
     subst (λ (l : List ℕ). SoFar phase (bytes ++ bytes_in lines) (body ++ l) last) (sym (e ∙ ap (λ (l : List ℕ). l ++ back) none))
-    (lines_on phase bytes body middle lines back last added more)
+    (lines_on laws phase bytes body middle lines back last added more)
   where
     kept_same : (bad : Option Field) → Kept phase so.rest now bad → Kept phase so.rest (record now { entries = now.entries ++ entry ∷ [] }) bad
     kept_same None kept = kept
     kept_same (Some f) kept = kept
-lines_on phase bytes body now (Bytes piece ∷ lines) text last so (front, back, middle, e, first, more) =
-    let one = piece_by phase bytes body piece front now middle now.bad so.messages so.rest refl so.row so.same so.kept so.printed first in
+lines_on laws phase bytes body now (Bytes piece ∷ lines) text last so (front, back, middle, e, first, more) =
+    let one = piece_by laws phase bytes body piece front now middle now.bad so.messages so.rest refl so.row so.same so.kept so.printed first in
     subst (λ (l : List ℕ). SoFar phase l (body ++ text) last) (append_assoc bytes piece (bytes_in lines))
     (subst (λ (l : List ℕ). SoFar phase ((bytes ++ piece) ++ bytes_in lines) l last) (append_assoc body front back ∙ ap (λ (l : List ℕ). body ++ l) (sym e))
-    (lines_on phase (bytes ++ piece) (body ++ front) middle lines back last one more))
+    (lines_on laws phase (bytes ++ piece) (body ++ front) middle lines back last one more))
 
 -- ---- the text
 
@@ -199,5 +199,5 @@ ended laws phase bytes body text last (Some f) ms rest row kept printed e = reco
 
 pub client_text : Lawful → (phase : Phase) (lines : List Line) (text : List ℕ) → Shown Out phase lines text → IsTextOf (stream_of Out phase) (bytes_in lines) text
 client_text laws phase lines text shown =
-    let so = lines_on phase [] [] (begun Out phase) lines shown.body shown.last (none_yet phase) shown.prints in
+    let so = lines_on laws phase [] [] (begun Out phase) lines shown.body shown.last (none_yet phase) shown.prints in
     ended laws phase (bytes_in lines) shown.body text shown.last shown.last.bad so.messages so.rest so.row so.kept so.printed shown.ended

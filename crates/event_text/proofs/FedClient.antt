@@ -59,7 +59,7 @@ ops_stepped : (entries : List Outstanding) (start piece : List ℕ) (used : ℕ)
     → Answers Ops start piece used what new → Stepped (before Ops entries start) piece (client_gave used what) (client_text what (data_of new)) (standing_of (Client new) entries)
 ops_stepped entries start piece used sent.More new none (all, empty, calm, is) =
     more_stepped Ops entries start piece new (none_requests entries (start ++ piece) empty) calm is
-ops_stepped entries start piece used (sent.Bad f) new none (within, bad, is) = (f, bad, refl, bad_is Ops entries start piece used f new is)
+ops_stepped entries start piece used (sent.Bad f) new none (within, ends, bad, is) = (f, bad, refl, bad_is Ops entries start piece used f new is)
 ops_stepped entries start piece used (sent.Op request) new none (within, means, calm, is) =
     whole_stepped (before Ops entries start) piece used (Request request) _ (standing_of (Client new) entries) none within means refl
     (whole_is Ops entries start piece used new is)
@@ -71,7 +71,7 @@ urbs_stepped : (entries : List Outstanding) (start piece : List ℕ) (used : ℕ
     → Stepped (before (Urbs devid) entries start) piece (client_gave used what) (client_text what (data_of new)) (standing_of (Client new) entries)
 urbs_stepped entries start piece used sent.More new none (all, empty, calm, is) =
     more_stepped (Urbs devid) entries start piece new (none_urbs entries (start ++ piece) empty) calm is
-urbs_stepped entries start piece used (sent.Bad f) new none (within, bad, is) = (f, bad, refl, bad_is (Urbs devid) entries start piece used f new is)
+urbs_stepped entries start piece used (sent.Bad f) new none (within, ends, bad, is) = (f, bad, refl, bad_is (Urbs devid) entries start piece used f new is)
 urbs_stepped entries start piece used (sent.Op request) new none (within, means, calm, is) = absurd means
 urbs_stepped entries start piece used (sent.Submit head) new none (within, means, calm, is) =
     whole_stepped (before (Urbs devid) entries start) piece used (FromClient (upward.Submit head (drop URB_HEADER (start ++ take used piece)))) _

@@ -76,7 +76,7 @@ ops_stepped : (devices interfaces : ℕ) (entries : List Outstanding) (start pie
     → Stepped (before (Ops devices interfaces) entries start) piece (device_gave used what) (device_text what (data_of new)) (standing_of (Device new) (answered entries what))
 ops_stepped devices interfaces entries start piece used got.More new none (all, empty, calm, is) =
     more_stepped (Ops devices interfaces) entries start piece new (none_parts devices interfaces entries (start ++ piece) empty) calm is
-ops_stepped devices interfaces entries start piece used (got.Bad f) new none (within, bad, is) =
+ops_stepped devices interfaces entries start piece used (got.Bad f) new none (within, ends, bad, is) =
     (f, bad, refl, bad_is (Ops devices interfaces) entries start piece used f new is)
 ops_stepped devices interfaces entries start piece used (got.Count status number) new none (within, means, calm, is) =
     part_stepped devices interfaces entries start piece used (got.Count status number) _ new _ none within means refl is refl
@@ -94,7 +94,7 @@ urbs_stepped : (entries : List Outstanding) (start piece : List ℕ) (used : ℕ
     → Stepped (before Urbs entries start) piece (device_gave used what) (device_text what (data_of new)) (standing_of (Device new) (answered entries what))
 urbs_stepped entries start piece used got.More new none (all, empty, calm, is) =
     more_stepped Urbs entries start piece new (none_answers entries (start ++ piece) empty) calm is
-urbs_stepped entries start piece used (got.Bad f) new none (within, bad, is) = (f, bad, refl, bad_is Urbs entries start piece used f new is)
+urbs_stepped entries start piece used (got.Bad f) new none (within, ends, bad, is) = (f, bad, refl, bad_is Urbs entries start piece used f new is)
 urbs_stepped entries start piece used (got.Count status number) new none (within, means, calm, is) = absurd means
 urbs_stepped entries start piece used (got.Device device) new none (within, means, calm, is) = absurd means
 urbs_stepped entries start piece used (got.Interface class subclass protocol) new none (within, means, calm, is) = absurd means

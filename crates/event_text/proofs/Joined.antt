@@ -2,29 +2,17 @@
 use Rattle.std.proofs.Common.{◌≡◌, ℕ, Option, Some, None, List, [], ◌∷◌, ◌++◌, refl, sym, ap, subst, ◌∙◌, append-nil, append_assoc}
 use Rattle.std.specs.List.{flat_map}
 use Rattle.tmc_base.specs.declared.field.Field.{Field}
-use Rattle.usbip_wire.specs.declared.dirs.Outstanding.{Outstanding}
 use Rattle.usbip_wire.specs.declared.urb.Dir.{Dir}
-use Rattle.usbip_wire.specs.DownForm.{answer_form, ops_form}
-use Rattle.usbip_wire.specs.UpForm.{request_form, urb_form}
-use Rattle.usbip_wire.proofs.Forms as forms
 use Rattle.event_text.specs.declared.script.Line.{Line}
 use Rattle.event_text.specs.declared.script.Line.TheVariants.{Adds, Bytes}
 use Rattle.event_text.specs.declared.script.Phase.{Phase}
-use Rattle.event_text.specs.Message.{Stream, Message, Requests, Urbs, Parts, Answers, BadAt, devid}
+use Rattle.event_text.specs.Message.{Message}
 use Rattle.event_text.specs.Pieces.{onto, merged}
 use Rattle.event_text.specs.Printed.{message_line}
 use Rattle.event_text.specs.Read.{fed_with}
 use Rattle.event_text.specs.Shown.{Standing, InTurn, Stops, Takes, Gives, Prints, PrintAll, Shown, begun, ending, taken, stopped, bad_text}
 use Rattle.event_text.proofs.Determined.{print_all_one}
-use Rattle.event_text.proofs.Lawful.{Lawful}
-
--- ---- a bad field stays bad when more follows
-
-pub more_bad : (reading : Stream) (entries : List Outstanding) (rest more : List ℕ) (f : Field) → BadAt reading entries rest f → BadAt reading entries (rest ++ more) f
-more_bad Requests entries rest more f bad = forms.more_bad request_form rest more f bad
-more_bad Urbs entries rest more f bad = forms.more_bad (urb_form devid) rest more f bad
-more_bad (Parts devices interfaces) entries rest more f bad = forms.more_bad (ops_form devices interfaces) rest more f bad
-more_bad Answers entries rest more f bad = forms.more_bad (answer_form entries) rest more f bad
+use Rattle.event_text.proofs.Lawful.{Lawful, more_bad}
 
 -- ---- messages in turn
 
@@ -72,66 +60,66 @@ both_good s m n p q t u ms last row is printed second = record {
       ∙ ap (λ (l : List ℕ). l ++ bad_text second.bad) (sym (flat_on ms second.messages))));
 }
 
-then_bad : (s m n : Standing) (p q t u : List ℕ) (ms : List Message) (last : Standing) (f : Field) → InTurn (fed_with s p) ms last → Stops last (Some f)
+then_bad : Lawful → (s m n : Standing) (p q t u : List ℕ) (ms : List Message) (last : Standing) (f : Field) → InTurn (fed_with s p) ms last → Stops last (Some f)
     → m ≡ stopped last (Some f) → t ≡ flat_map message_line ms ++ bad_text (Some f) → u ≡ [] → n ≡ m → Takes s (p ++ q) (t ++ u) n
-then_bad s m n p q t u ms last f row stops is printed none same = record {
+then_bad laws s m n p q t u ms last f row stops is printed none same = record {
   messages = ms;
   last = fed_with last q;
   bad = Some f;
   row = row_more s p q ms last row;
-  stops = more_bad last.reading last.entries last.rest q f stops;
+  stops = more_bad laws last.reading last.entries last.rest q f stops;
   marked = same ∙ is;
   printed = ap (λ (l : List ℕ). t ++ l) none ∙ (append-nil t ∙ printed);
 }
 
-takes_by : (s m n : Standing) (p q t u : List ℕ) (ms : List Message) (last : Standing) (bad : Option Field) → s.bad ≡ None → InTurn (fed_with s p) ms last → Stops last bad
+takes_by : Lawful → (s m n : Standing) (p q t u : List ℕ) (ms : List Message) (last : Standing) (bad : Option Field) → s.bad ≡ None → InTurn (fed_with s p) ms last → Stops last bad
     → m ≡ stopped last bad → t ≡ flat_map message_line ms ++ bad_text bad → Gives m.bad m q u n → Takes s (p ++ q) (t ++ u) n
-takes_by s m n p q t u ms last None good row stops is printed second =
+takes_by laws s m n p q t u ms last None good row stops is printed second =
     let fine : m.bad ≡ None = ap (λ (z : Standing). z.bad) is ∙ (turn_good (fed_with s p) ms last row ∙ good) in
     both_good s m n p q t u ms last row is printed (subst (λ (b : Option Field). Gives b m q u n) fine second)
-takes_by s m n p q t u ms last (Some f) good row stops is printed second =
+takes_by laws s m n p q t u ms last (Some f) good row stops is printed second =
     let none : Gives (Some f) m q u n = subst (λ (b : Option Field). Gives b m q u n) (ap (λ (z : Standing). z.bad) is) second in
-    then_bad s m n p q t u ms last f row stops is printed none.0 none.1
+    then_bad laws s m n p q t u ms last f row stops is printed none.0 none.1
 
-gives_joined : (b : Option Field) (s m n : Standing) (p q t u : List ℕ) → s.bad ≡ b → Gives b s p t m → Gives m.bad m q u n → Gives b s (p ++ q) (t ++ u) n
-gives_joined None s m n p q t u is first second = takes_by s m n p q t u first.messages first.last first.bad is first.row first.stops first.marked first.printed second
-gives_joined (Some f) s m n p q t u is first second =
+gives_joined : Lawful → (b : Option Field) (s m n : Standing) (p q t u : List ℕ) → s.bad ≡ b → Gives b s p t m → Gives m.bad m q u n → Gives b s (p ++ q) (t ++ u) n
+gives_joined laws None s m n p q t u is first second = takes_by laws s m n p q t u first.messages first.last first.bad is first.row first.stops first.marked first.printed second
+gives_joined laws (Some f) s m n p q t u is first second =
     let again : Gives s.bad s q u n = subst (λ (z : Standing). Gives z.bad z q u n) first.1 second in
     let none : Gives (Some f) s q u n = subst (λ (b : Option Field). Gives b s q u n) is again in
     (ap (λ (l : List ℕ). l ++ u) first.0 ∙ none.0, none.1)
 
-pub joined : (s m n : Standing) (p q t u : List ℕ) → Prints s (Bytes p) t m → Prints m (Bytes q) u n → Prints s (Bytes (p ++ q)) (t ++ u) n
-joined s m n p q t u first second = gives_joined s.bad s m n p q t u refl first second
+pub joined : Lawful → (s m n : Standing) (p q t u : List ℕ) → Prints s (Bytes p) t m → Prints m (Bytes q) u n → Prints s (Bytes (p ++ q)) (t ++ u) n
+joined laws s m n p q t u first second = gives_joined laws s.bad s m n p q t u refl first second
 
 -- ---- a list of lines
 
-onto_prints : (s : Standing) (p : List ℕ) (lines : List Line) (front back : List ℕ) (middle last : Standing) → Prints s (Bytes p) front middle
+onto_prints : Lawful → (s : Standing) (p : List ℕ) (lines : List Line) (front back : List ℕ) (middle last : Standing) → Prints s (Bytes p) front middle
     → PrintAll middle lines back last → PrintAll s (onto (Bytes p) lines) (front ++ back) last
-onto_prints s p [] front back middle last first more = (front, back, middle, refl, first, more)
-onto_prints s p (Adds entry ∷ lines) front back middle last first more = (front, back, middle, refl, first, more)
-onto_prints s p (Bytes q ∷ lines) front back middle last first (next, others, second, e, prints, more) = (
+onto_prints laws s p [] front back middle last first more = (front, back, middle, refl, first, more)
+onto_prints laws s p (Adds entry ∷ lines) front back middle last first more = (front, back, middle, refl, first, more)
+onto_prints laws s p (Bytes q ∷ lines) front back middle last first (next, others, second, e, prints, more) = (
   front ++ next,
   others,
   second,
   ap (λ (l : List ℕ). front ++ l) e ∙ sym (append_assoc front next others),
-  joined s middle second p q front next first prints,
+  joined laws s middle second p q front next first prints,
   more,
 )
 
-pub merged_prints : (s : Standing) (lines : List Line) (text : List ℕ) (last : Standing) → PrintAll s lines text last → PrintAll s (merged lines) text last
-merged_prints s [] text last prints = prints
-merged_prints s (Adds entry ∷ lines) text last (front, back, middle, e, first, more) = (front, back, middle, e, first, merged_prints middle lines back last more)
-merged_prints s (Bytes p ∷ lines) text last (front, back, middle, e, first, more) =
+pub merged_prints : Lawful → (s : Standing) (lines : List Line) (text : List ℕ) (last : Standing) → PrintAll s lines text last → PrintAll s (merged lines) text last
+merged_prints laws s [] text last prints = prints
+merged_prints laws s (Adds entry ∷ lines) text last (front, back, middle, e, first, more) = (front, back, middle, e, first, merged_prints laws middle lines back last more)
+merged_prints laws s (Bytes p ∷ lines) text last (front, back, middle, e, first, more) =
     subst (λ (l : List ℕ). PrintAll s (onto (Bytes p) (merged lines)) l last) (sym e)
-    (onto_prints s p (merged lines) front back middle last first (merged_prints middle lines back last more))
+    (onto_prints laws s p (merged lines) front back middle last first (merged_prints laws middle lines back last more))
 
 -- lines that are the same when their pieces are joined have one text
 pub cuts_one : Lawful → (way : Dir) (phase : Phase) (lines others : List Line) (text other : List ℕ) → merged lines ≡ merged others
     → Shown way phase lines text → Shown way phase others other → text ≡ other
 cuts_one laws way phase lines others text other same p q =
-    let first = merged_prints (begun way phase) lines p.body p.last p.prints in
+    let first = merged_prints laws (begun way phase) lines p.body p.last p.prints in
     let second : PrintAll (begun way phase) (merged lines) q.body q.last =
-    subst (λ (l : List Line). PrintAll (begun way phase) l q.body q.last) (sym same) (merged_prints (begun way phase) others q.body q.last q.prints) in
+    subst (λ (l : List Line). PrintAll (begun way phase) l q.body q.last) (sym same) (merged_prints laws (begun way phase) others q.body q.last q.prints) in
     let r = print_all_one laws (begun way phase) (merged lines) p.body q.body p.last q.last first second in
     p.ended
     ∙ (ap (λ (l : List ℕ). l ++ ending p.last.bad p.last.rest) r.texts

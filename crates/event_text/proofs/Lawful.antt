@@ -1,5 +1,6 @@
 -- the laws of the spellings, for each stream
-use Rattle.std.proofs.Common.{◌≡◌, ℕ, List, refl, sym, ap, ◌∙◌}
+use Rattle.std.proofs.Common.{◌≡◌, ◌⊎◌, inl, inr, ℕ, List, ◌++◌, refl, sym, ap, ◌∙◌, arith}
+use Rattle.std.proofs.lemmas.Bool.{cases_lt}
 use Rattle.tmc_base.specs.declared.field.Field.{Field}
 use Rattle.usbip_wire.specs.declared.dirs.Outstanding.{Outstanding}
 use Rattle.usbip_wire.specs.declared.down.DownPhase.TheVariants as down_phase
@@ -7,7 +8,8 @@ use Rattle.usbip_wire.specs.declared.up.UpPhase.TheVariants as up_phase
 use Rattle.usbip_wire.specs.DevList.{SpellsPart}
 use Rattle.usbip_wire.specs.Down as downward
 use Rattle.usbip_wire.specs.DownFed as down_fed
-use Rattle.usbip_wire.specs.Laws.{ArePrefixFree, AreAlone}
+use Rattle.usbip_wire.specs.JudgedFields.{missing_for}
+use Rattle.usbip_wire.specs.Laws.{ArePrefixFree, AreAlone, AreBadFromTheirLast}
 use Rattle.usbip_wire.specs.OpRequest.{SpellsRequest}
 use Rattle.usbip_wire.specs.Up as upward
 use Rattle.usbip_wire.specs.UpFed as up_fed
@@ -22,6 +24,10 @@ pub record Lawful : Type 0 where
   pub bad_urb : AreAlone (upward.Spells devid) (up_fed.BadAt (up_phase.Urbs devid))
   pub bad_part : (devices interfaces : ℕ) (entries : List Outstanding) → AreAlone (SpellsPart devices interfaces) (down_fed.BadAt (down_phase.Ops devices interfaces) entries)
   pub bad_answer : (entries : List Outstanding) → AreAlone (downward.SpellsAnswer entries) (down_fed.BadAt down_phase.Urbs entries)
+  pub request_stays : AreBadFromTheirLast (up_fed.BadAt up_phase.Ops)
+  pub urb_stays : AreBadFromTheirLast (up_fed.BadAt (up_phase.Urbs devid))
+  pub part_stays : (devices interfaces : ℕ) (entries : List Outstanding) → AreBadFromTheirLast (down_fed.BadAt (down_phase.Ops devices interfaces) entries)
+  pub answer_stays : (entries : List Outstanding) → AreBadFromTheirLast (down_fed.BadAt down_phase.Urbs entries)
 
 -- what a message of a stream is
 Is : {M : Type 0} → (M → Message) → (M → List ℕ → Type 0) → Message → List ℕ → Type 0
@@ -90,3 +96,23 @@ alone laws (Parts devices interfaces) entries =
     (a_part devices interfaces entries) (laws.bad_part devices interfaces entries)
 alone laws Answers entries =
     alone_by (λ x. Answer x) (downward.SpellsAnswer entries) (Spells Answers entries) (BadAt Answers entries) (an_answer entries) (laws.bad_answer entries)
+
+-- a field is bad from its last byte on
+pub stays : Lawful → (reading : Stream) (entries : List Outstanding) → AreBadFromTheirLast (BadAt reading entries)
+stays laws Requests entries = laws.request_stays
+stays laws Urbs entries = laws.urb_stays
+stays laws (Parts devices interfaces) entries = laws.part_stays devices interfaces entries
+stays laws Answers entries = laws.answer_stays entries
+
+-- it stays bad when more follows
+pub more_bad : Lawful → (reading : Stream) (entries : List Outstanding) (rest more : List ℕ) (f : Field) → BadAt reading entries rest f → BadAt reading entries (rest ++ more) f
+more_bad laws reading entries rest more f bad = ((stays laws reading entries rest more f).0 bad).0
+
+-- where it is bad when more follows, it is bad already, or not yet
+pub back_bad : Lawful → (reading : Stream) (entries : List Outstanding) (rest more : List ℕ) (f : Field) → BadAt reading entries (rest ++ more) f
+    → BadAt reading entries rest f ⊎ (BadAt reading entries rest f → ⊥)
+back_bad laws reading entries rest more f bad =
+    elim (cases_lt 0 (missing_for f rest)) [
+      | inl some ↦ inr (λ now. let none = ((stays laws reading entries rest more f).0 now).1 in omega (arith, none, some))
+      | inr none ↦ inl ((stays laws reading entries rest more f).1 (bad, omega (arith, none)))
+    ]

@@ -1,27 +1,19 @@
 -- what a piece prints its two parts print, wherever it is cut
-use Rattle.std.proofs.Common.{◌≡◌, ◌⊎◌, inl, inr, ℕ, ◌<◌, Bool, true, false, Option, Some, None, List, [], ◌∷◌, ◌++◌, length, take, drop, refl, sym, ap, subst, ◌∙◌, append-nil, append_assoc, length-append, arith}
-use Rattle.std.proofs.lemmas.List.{take_at, drop_at}
-use Rattle.std.specs.Bool.{MatchBool}
-use Rattle.std.specs.Int.{to_be_bytes}
+use Rattle.std.proofs.Common.{◌≡◌, ◌⊎◌, inl, inr, ℕ, Option, Some, None, List, [], ◌∷◌, ◌++◌, length, refl, sym, ap, subst, ◌∙◌, append-nil, append_assoc, length-append, arith}
 use Rattle.std.specs.List.{flat_map}
 use Rattle.tmc_base.specs.declared.field.Field.{Field}
 use Rattle.usbip_wire.specs.declared.dirs.Outstanding.{Outstanding}
 use Rattle.usbip_wire.specs.declared.urb.Dir.{Dir}
-use Rattle.usbip_wire.specs.DownForm.{answer_form, ops_form}
-use Rattle.usbip_wire.specs.Form as form
-use Rattle.usbip_wire.specs.Form.{Form, Number, Judged, Block, Done, Size, width, limit}
-use Rattle.usbip_wire.specs.UpForm.{request_form, urb_form}
-use Rattle.usbip_wire.proofs.Fronts.{put_len, put_value, put_rest, size_of, value_of}
 use Rattle.event_text.specs.declared.script.Line.{Line}
 use Rattle.event_text.specs.declared.script.Line.TheVariants.{Adds, Bytes}
 use Rattle.event_text.specs.declared.script.Phase.{Phase}
-use Rattle.event_text.specs.Message.{Stream, Message, Requests, Urbs, Parts, Answers, Spells, NoneWhole, BadAt, devid}
+use Rattle.event_text.specs.Message.{Stream, Message, Spells, NoneWhole, BadAt}
 use Rattle.event_text.specs.Pieces.{onto, merged}
 use Rattle.event_text.specs.Printed.{message_line}
 use Rattle.event_text.specs.Read.{fed_with}
 use Rattle.event_text.specs.Shown.{Standing, InTurn, Stops, Takes, Gives, Prints, PrintAll, Shown, begun, taken, stopped, bad_text}
-use Rattle.event_text.proofs.Joined.{more_bad, turn_good, flat_on, merged_prints}
-use Rattle.event_text.proofs.Lawful.{Lawful, free, alone}
+use Rattle.event_text.proofs.Joined.{turn_good, flat_on, merged_prints}
+use Rattle.event_text.proofs.Lawful.{Lawful, free, alone, more_bad, back_bad}
 
 -- ---- where a front ends
 
@@ -43,86 +35,9 @@ meets (y ∷ xs) ys (x ∷ front) rest e =
       | inr b ↦ inr (b.0, b.1, ap (λ z. z ∷ front) (sym same.0) ∙ ap (λ (l : List ℕ). y ∷ l) b.2)
     ]
 
--- ---- whether a field is bad already
-
-put_one : (size : Size) (n m : ℕ) (c d : List ℕ) → n < limit size → m < limit size → to_be_bytes (width size) n ++ c ≡ to_be_bytes (width size) m ++ d → (n ≡ m) × (c ≡ d)
-put_one size n m c d below small e = (
-  sym (put_value size n c below) ∙ (ap (λ (l : List ℕ). value_of size l) e ∙ put_value size m d small),
-  sym (put_rest size n c) ∙ (ap (λ (l : List ℕ). drop (size_of size) l) e ∙ put_rest size m d),
-)
-
-front_one : (front other c d : List ℕ) (n : ℕ) → length front ≡ n → length other ≡ n → front ++ c ≡ other ++ d → (front ≡ other) × (c ≡ d)
-front_one front other c d n long same e = (
-  sym (take_at front c n long) ∙ (ap (λ (l : List ℕ). take n l) e ∙ take_at other d n same),
-  sym (drop_at front c n long) ∙ (ap (λ (l : List ℕ). drop n l) e ∙ drop_at other d n same),
-)
-
 -- a front that is longer is not the same
 too_long : (r front other c d : List ℕ) (x : ℕ) → length front ≡ length other → front ≡ r ++ x ∷ c → r ≡ other ++ d → ⊥
 too_long r front other c d x same e f = omega (arith, same, ap length e, length-append r (x ∷ c), ap length f, length-append other d)
-
--- whether these bytes hold this bad field
-abbrev Either : {M : Type 0} → Form M → List ℕ → Field → Type 0
-Either f bytes field = form.BadAt f bytes field ⊎ (form.BadAt f bytes field → ⊥)
-
-number_by : {M : Type 0} (size : Size) (next : ℕ → Form M) (r c : List ℕ) (n : ℕ) (f : Field) → n < limit size → r ≡ to_be_bytes (width size) n ++ c
-    → Either (next n) c f → Either (Number size next) r f
-number_by {M} size next r c n f below e (inl bad) = inl (n, c, below, e, bad)
-number_by {M} size next r c n f below e (inr good) = inr (λ (m, d, small, e2, bad).
-    let one = put_one size n m c d below small (sym e ∙ e2) in
-    good (subst (λ (l : List ℕ). form.BadAt (next n) l f) (sym one.1) (subst (λ (k : ℕ). form.BadAt (next k) d f) (sym one.0) bad)))
-
-choice_by : (b : Bool) (P Q R : Type 0) → (Q → P ⊎ (P → ⊥)) → MatchBool b Q R → MatchBool b P R ⊎ (MatchBool b P R → ⊥)
-choice_by true P Q R h x = h x
-choice_by false P Q R h x = inl x
-
-judged_by : {M : Type 0} (size : Size) (field : Field) (accepts : ℕ → Bool) (next : ℕ → Form M) (r c : List ℕ) (n : ℕ) (f : Field) → n < limit size
-    → r ≡ to_be_bytes (width size) n ++ c
-    → MatchBool (accepts n) (form.BadAt (next n) c f) (f ≡ field) ⊎ (MatchBool (accepts n) (form.BadAt (next n) c f) (f ≡ field) → ⊥)
-    → Either (Judged size field accepts next) r f
-judged_by {M} size field accepts next r c n f below e (inl bad) = inl (n, c, below, e, bad)
-judged_by {M} size field accepts next r c n f below e (inr good) = inr (λ (m, d, small, e2, bad).
-    let one = put_one size n m c d below small (sym e ∙ e2) in
-    good (subst (λ (l : List ℕ). MatchBool (accepts n) (form.BadAt (next n) l f) (f ≡ field)) (sym one.1)
-    (subst (λ (k : ℕ). MatchBool (accepts k) (form.BadAt (next k) d f) (f ≡ field)) (sym one.0) bad)))
-
-block_by : {M : Type 0} (count : ℕ) (next : List ℕ → Form M) (r c front : List ℕ) (f : Field) → length front ≡ count → r ≡ front ++ c
-    → Either (next front) c f → Either (Block count next) r f
-block_by {M} count next r c front f long e (inl bad) = inl (front, c, long, e, bad)
-block_by {M} count next r c front f long e (inr good) = inr (λ (other, d, same, e2, bad).
-    let one = front_one front other c d count long same (sym e ∙ e2) in
-    good (subst (λ (l : List ℕ). form.BadAt (next front) l f) (sym one.1) (subst (λ (k : List ℕ). form.BadAt (next k) d f) (sym one.0) bad)))
-
--- a field that is bad where more follows is bad already, or not yet
-back : {M : Type 0} (f : Form M) (r q : List ℕ) (field : Field) → form.BadAt f (r ++ q) field → Either f r field
-back {M} (Number size next) r q field (n, after, below, parts, bad) =
-    elim (meets r q (to_be_bytes (width size) n) after parts) [
-      | inl w ↦ number_by size next r w.0 n field below w.1 (back (next n) w.0 q field (subst (λ (l : List ℕ). form.BadAt (next n) l field) w.2 bad))
-      | inr b ↦ inr (λ (m, d, small, e, bad2).
-          too_long r (to_be_bytes (width size) n) (to_be_bytes (width size) m) b.1 d b.0 (put_len size n ∙ sym (put_len size m)) b.2 e)
-    ]
-back {M} (Judged size judged accepts next) r q field (n, after, below, parts, bad) =
-    elim (meets r q (to_be_bytes (width size) n) after parts) [
-      | inl w ↦
-          judged_by size judged accepts next r w.0 n field below w.1
-          (choice_by (accepts n) (form.BadAt (next n) w.0 field) (form.BadAt (next n) (w.0 ++ q) field) (field ≡ judged) (λ b. back (next n) w.0 q field b)
-          (subst (λ (l : List ℕ). MatchBool (accepts n) (form.BadAt (next n) l field) (field ≡ judged)) w.2 bad))
-      | inr b ↦ inr (λ (m, d, small, e, bad2).
-          too_long r (to_be_bytes (width size) n) (to_be_bytes (width size) m) b.1 d b.0 (put_len size n ∙ sym (put_len size m)) b.2 e)
-    ]
-back {M} (Block count next) r q field (front, after, long, parts, bad) =
-    elim (meets r q front after parts) [
-      | inl w ↦ block_by count next r w.0 front field long w.1 (back (next front) w.0 q field (subst (λ (l : List ℕ). form.BadAt (next front) l field) w.2 bad))
-      | inr b ↦ inr (λ (other, d, same, e, bad2). too_long r front other b.1 d b.0 (long ∙ sym same) b.2 e)
-    ]
-back {M} (Done message) r q field bad = absurd bad
-
-back_bad : (reading : Stream) (entries : List Outstanding) (r q : List ℕ) (f : Field) → BadAt reading entries (r ++ q) f
-    → BadAt reading entries r f ⊎ (BadAt reading entries r f → ⊥)
-back_bad Requests entries r q f bad = back request_form r q f bad
-back_bad Urbs entries r q f bad = back (urb_form devid) r q f bad
-back_bad (Parts devices interfaces) entries r q f bad = back (ops_form devices interfaces) r q f bad
-back_bad Answers entries r q f bad = back (answer_form entries) r q f bad
 
 -- ---- a row of messages is cut
 
@@ -165,7 +80,7 @@ cut_bad laws s q last f e bad (inr good) = record {
   row = refl;
   stops = (
     none_before s.reading s.entries s.rest q (alone laws s.reading s.entries (s.rest ++ q) f bad).0,
-    λ g b. good (subst (λ z. BadAt s.reading s.entries s.rest z) (sym ((alone laws s.reading s.entries (s.rest ++ q) f bad).1 g (more_bad s.reading s.entries s.rest q g b))) b),
+    λ g b. good (subst (λ z. BadAt s.reading s.entries s.rest z) (sym ((alone laws s.reading s.entries (s.rest ++ q) f bad).1 g (more_bad laws s.reading s.entries s.rest q g b))) b),
   );
   next = e;
 }
@@ -180,12 +95,12 @@ cut_end laws s q last None e stops =
       ended = None;
       all = refl;
       row = refl;
-      stops = (none_before s.reading s.entries s.rest q here.0, λ f b. here.1 f (more_bad s.reading s.entries s.rest q f b));
+      stops = (none_before s.reading s.entries s.rest q here.0, λ f b. here.1 f (more_bad laws s.reading s.entries s.rest q f b));
       next = e;
     }
 cut_end laws s q last (Some f) e stops =
     let here : Stops (fed_with s q) (Some f) = subst (λ (z : Standing). Stops z (Some f)) e stops in
-    cut_bad laws s q last f e here (back_bad s.reading s.entries s.rest q f here)
+    cut_bad laws s q last f e here (back_bad laws s.reading s.entries s.rest q f here)
 
 -- where a message ends beyond the rest, the rest holds none whole and no bad field
 none_within : Lawful → (s : Standing) (m : Message) (front c : List ℕ) (x : ℕ) → Spells s.reading s.entries m front → front ≡ s.rest ++ x ∷ c → Stops s None
@@ -197,7 +112,7 @@ none_within laws s m front c x spelled e = (
       too_long s.rest front other c tail x (ap length (sym same.1)) e d,
   λ f bad.
       let whole : BadAt s.reading s.entries front f =
-      subst (λ (l : List ℕ). BadAt s.reading s.entries l f) (sym e) (more_bad s.reading s.entries s.rest (x ∷ c) f bad) in
+      subst (λ (l : List ℕ). BadAt s.reading s.entries l f) (sym e) (more_bad laws s.reading s.entries s.rest (x ∷ c) f bad) in
       (alone laws s.reading s.entries front f whole).0 m front [] spelled (sym (append-nil front)),
 )
 
@@ -333,6 +248,6 @@ cuts_same laws way phase lines others text same shown = record {
   last = shown.last;
   prints =
       lines_parted laws (begun way phase) others shown.body shown.last
-      (subst (λ (l : List Line). PrintAll (begun way phase) l shown.body shown.last) same (merged_prints (begun way phase) lines shown.body shown.last shown.prints));
+      (subst (λ (l : List Line). PrintAll (begun way phase) l shown.body shown.last) same (merged_prints laws (begun way phase) lines shown.body shown.last shown.prints));
   ended = shown.ended;
 }

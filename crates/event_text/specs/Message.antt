@@ -9,8 +9,8 @@ use Rattle.usbip_wire.specs.declared.op_request.OpRequest.{OpRequest}
 use Rattle.usbip_wire.specs.declared.up.UpPhase.TheVariants as up_phase
 use Rattle.usbip_wire.specs.declared.urb.Dir.{Dir}
 use Rattle.usbip_wire.specs.declared.urb.Dir.TheVariants.{Out, In}
+use Rattle.usbip_wire.specs.Awaited.{entries_left}
 use Rattle.usbip_wire.specs.DevList.{SpellsPart}
-use Rattle.usbip_wire.specs.Dirs.{others}
 use Rattle.usbip_wire.specs.Down as down
 use Rattle.usbip_wire.specs.DownFed as down_fed
 use Rattle.usbip_wire.specs.OpRequest.{SpellsRequest}
@@ -73,6 +73,5 @@ behind reading message = reading
 
 -- what is outstanding behind a message: an answered submit or unlink is so no longer
 abbrev pub left_by : List Outstanding → Message → List Outstanding
-left_by entries (Answer (down.RetSubmit head transferred)) = others head.seqnum entries
-left_by entries (Answer (down.RetUnlink head)) = others head.seqnum entries
+left_by entries (Answer message) = entries_left entries message
 left_by entries message = entries

@@ -15,8 +15,8 @@ ghost use Rattle.event_text.specs.Pieces.{merged, bytes_in, IsTextOf};
 ghost use Rattle.event_text.specs.Shown.{Standing, Prints, Shown, ShownOf, IsRefused};
 
 use usbip_wire::{
-    answers_are_determined, bad_fields_are_alone, parts_are_determined, requests_are_determined,
-    urbs_are_determined,
+    answers_are_determined, bad_fields_are_alone, bad_fields_stay, parts_are_determined,
+    requests_are_determined, urbs_are_determined,
 };
 
 /// A word is a number below 2^32 exactly where it is what is written of it, and it is HEX of bytes exactly where
@@ -39,6 +39,7 @@ pub fn scripts_are_determined()
     parts_are_determined();
     answers_are_determined();
     bad_fields_are_alone();
+    bad_fields_stay();
 }
 
 /// Pieces are one text: two pieces behind one another print what they print as one. So of lines that differ only in
@@ -59,4 +60,5 @@ pub fn pieces_are_one_text()
     parts_are_determined();
     answers_are_determined();
     bad_fields_are_alone();
+    bad_fields_stay();
 }

@@ -1,9 +1,10 @@
 //! A stream that is shown, as far as it was read.
 
-ghost use Rattle.std.specs.Prelude.{◌≡◌, ◌+◌, ◌++◌, ◌∷◌, [], ℕ, List, None, Some, IfOk, IfErr, OnOk, string_bytes, length};
+ghost use Rattle.std.specs.Prelude.{◌≡◌, ◌≤◌, ◌+◌, ◌++◌, ◌∷◌, [], ℕ, List, None, Some, IfOk, IfErr, OnOk, string_bytes, length};
 ghost use Rattle.usbip_wire.specs.Dirs.{IsShort};
 ghost use Rattle.usbip_wire.specs.DownFed as down_fed;
 ghost use Rattle.usbip_wire.specs.UpFed as up_fed;
+ghost use Rattle.usbip_wire.specs.Urb.{message_max};
 ghost use Rattle.usbip_wire.specs.declared.down.DownStep.{DownStep};
 ghost use Rattle.usbip_wire.specs.declared.up.UpStep.{UpStep};
 ghost use Rattle.event_text.specs.Read.{Stepped, IsSound, IsSettled, IsOurReader, IsCounted, standing_of, rest_of, client_step, device_step, client_text, device_text, answered};
@@ -16,7 +17,9 @@ use crate::printed::{client_text, device_text, more_line};
 use crate::script::Phase;
 use std::alloc::Global;
 use tmc_base::Memory;
-use usbip_wire::{DIRS_MAX, Dir, Dirs, Down, DownReader, Outstanding, Up, UpReader};
+use usbip_wire::{
+    DIRS_MAX, Dir, Dirs, Down, DownReader, Outstanding, Up, UpReader, entries_may_be_added,
+};
 
 /// The device that URB messages go to: bus 1, device 2.
 const DEVID: u32 = 0x0001_0002;
@@ -55,13 +58,17 @@ pub(crate) enum Step {
 }
 
 impl Step {
-    /// The number of bytes that are not part of a message yet, where it was this with all that were used.
-    fn rest_of(self, kept: usize) -> Option<usize>
-        ensures { result ≡ rest_of self kept }
+    ghost use Rattle.event_text.specs.declared.reading.Step.TheVariants.{More};
+
+    /// The number of bytes that are not part of a message yet, where this is what a call gave that had so many
+    /// more than were kept.
+    fn rest_of(self, kept: usize, more: usize) -> Option<usize>
+        requires { self ≡ More → kept + more ≤ message_max }
+        ensures { result ≡ rest_of self (kept + more) }
     {
         match self {
             Step::Message(_) => Some(0),
-            Step::More => Some(kept),
+            Step::More => Some(kept + more),
             Step::Bad => None,
         }
     }
@@ -105,6 +112,7 @@ impl Reading {
         if self.dirs.len() == DIRS_MAX {
             return Err(LineWhat::TooMany);
         }
+        entries_may_be_added();
         match entry {
             Outstanding::Submit {
                 seqnum,
@@ -154,22 +162,19 @@ impl Reading {
             × Stepped (standing_of self.old.reader self.old.dirs) piece.now step printed (standing_of self.new.reader self.new.dirs)) }
         ensures sound { OnOk result (IsSound self.new.reader self.new.dirs self.new.rest) }
     {
-        let kept = self.kept_with(piece)?;
+        let kept = self.kept();
         let step = self.feed(piece, text)?;
-        self.rest = step.rest_of(kept);
+        self.rest = step.rest_of(kept, piece.len());
         Ok(step)
     }
 
-    /// The number of bytes that are not part of a message yet, with this piece. More than a `usize` counts are
-    /// more than memory holds.
-    fn kept_with(&self, piece: &[u8]) -> Result<usize, Memory>
+    /// The number of bytes that are not part of a message yet.
+    fn kept(&self) -> usize
         requires good { (standing_of self.now.reader self.now.dirs).bad ≡ None }
         requires counted { IsCounted self.now.rest (standing_of self.now.reader self.now.dirs) }
-        ensures { IfOk result (λ kept. kept ≡ length (standing_of self.now.reader self.now.dirs).rest + length piece.now) }
+        ensures { result ≡ length (standing_of self.now.reader self.now.dirs).rest }
     {
-        self.rest
-            .and_then(|rest| rest.checked_add(piece.len()))
-            .ok_or(Memory)
+        self.rest.unwrap_or(0)
     }
 
     fn feed(&mut self, piece: &[u8], text: &mut String) -> Result<Step, Memory>
@@ -179,6 +184,7 @@ impl Reading {
         ensures stepped { IfOk result (λ step. (printed : List ℕ) × (string_bytes text.new ≡ string_bytes text.old ++ printed)
             × Stepped (standing_of self.old.reader self.old.dirs) piece.now step printed (standing_of self.new.reader self.new.dirs)) }
         ensures ours { OnOk result (IsOurReader self.new.reader) }
+        ensures few { IfOk result (λ _. length (standing_of self.new.reader self.new.dirs).rest ≤ message_max) }
     {
         match &mut self.reader {
             Reader::Client(reader) => feed_client(reader, piece, text),

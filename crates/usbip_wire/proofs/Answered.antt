@@ -5,7 +5,7 @@ use Rattle.usbip_wire.specs.declared.urb.TheConstants.{RET_SUBMIT, NOT_ISOCHRONO
 use Rattle.usbip_wire.specs.declared.ret_submit.RetSubmitHead.{RetSubmitHead}
 use Rattle.usbip_wire.specs.Urb.{fields}
 use Rattle.usbip_wire.specs.RetSubmit.{ret_submit_bytes, unused}
-use Rattle.tmc_base.proofs.Appends.{two_appended}
+use Rattle.usbip_wire.proofs.Appends.{two_appended}
 
 -- the fields of an answer with this number in the place of its status
 abbrev pub words : RetSubmitHead → ℕ → List ℕ

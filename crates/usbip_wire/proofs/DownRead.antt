@@ -1,5 +1,5 @@
 -- what reading says of a device's messages
-use Rattle.std.proofs.Common.{◌≡◌, ℕ, ◌≤◌, lit≤, arith, cond, eqb, Option, Some, None, List, [], ◌∷◌, ◌++◌, drop, Ok, Err, sym, subst, ◌∙◌}
+use Rattle.std.proofs.Common.{◌≡◌, ℕ, ◌-◌, ◌≤◌, lit≤, arith, cond, eqb, Option, Some, None, List, [], ◌∷◌, ◌++◌, drop, Ok, Err, sym, subst, ◌∙◌}
 use Rattle.std.specs.Prelude.{is_some}
 use Rattle.std.proofs.lemmas.Bool.{leb-true, cond_both}
 use Rattle.std.proofs.lemmas.List.{append-nil}
@@ -19,19 +19,19 @@ use Rattle.usbip_wire.specs.declared.urb.Dir.{Dir}
 use Rattle.usbip_wire.specs.declared.urb.Dir.TheVariants.{Out, In}
 use Rattle.usbip_wire.specs.declared.stop.Stop.{Stop}
 use Rattle.usbip_wire.specs.declared.stop.Stop.TheVariants.{Short}
-use Rattle.usbip_wire.specs.declared.urb.TheConstants.{URB_HEADER, HELD_MAX, RET_SUBMIT}
+use Rattle.usbip_wire.specs.declared.urb.TheConstants.{URB_HEADER, RET_SUBMIT}
 use Rattle.usbip_wire.specs.Down.{RetSubmit, RetUnlink}
 use Rattle.usbip_wire.specs.DownFed.{Means, NoneWhole, BadAt, Ends}
 use Rattle.usbip_wire.specs.Dirs.{IsShort, AreShort, number_of, find, submit_of, is_unlink}
 use Rattle.usbip_wire.specs.DownForm.{down_form, ops_form, answer_form, reply_form, record_form, interface_form, ret_submit_form, ret_unlink_form, dir_asked, size_asked}
 use Rattle.usbip_wire.specs.Form.{Judged, Number, Done, Four, Spelled, read}
 use Rattle.usbip_wire.specs.Given.{IsBytes}
-use Rattle.usbip_wire.specs.Urb.{returned}
+use Rattle.usbip_wire.specs.Urb.{returned, message_max}
 use Rattle.usbip_wire.proofs.DownSpelled.{answer_sound, answer_complete, ops_sound, ops_complete, head_of}
 use Rattle.usbip_wire.proofs.Forms.{sound, bad_refused, more_whole, Within}
 use Rattle.usbip_wire.proofs.UpRead.{none_by, both_within}
 
-down_sound : (phase : DownPhase) (entries : List Outstanding) (what : Down) (bytes : List ℕ) → Spelled (down_form phase entries) what bytes → Means phase entries what bytes
+pub down_sound : (phase : DownPhase) (entries : List Outstanding) (what : Down) (bytes : List ℕ) → Spelled (down_form phase entries) what bytes → Means phase entries what bytes
 down_sound (Ops devices interfaces) entries what bytes s = ops_sound devices interfaces what bytes s
 down_sound Urbs entries what bytes s = answer_sound entries what bytes s
 
@@ -89,7 +89,7 @@ returned_most : (dir : Dir) (actual : ℕ) → actual ≤ SUBMIT_MAX → returne
 returned_most Out actual le = lit≤ tt
 returned_most In actual le = le
 
-ret_submit_within : (seqnum : ℕ) (asked : Option (Dir × ℕ)) → size_asked asked ≤ SUBMIT_MAX → Within (ret_submit_form seqnum asked) 70040
+ret_submit_within : (seqnum : ℕ) (asked : Option (Dir × ℕ)) → size_asked asked ≤ SUBMIT_MAX → Within (ret_submit_form seqnum asked) (message_max - 8)
 unfolding ret_submit_form
 ret_submit_within seqnum asked small = (
   lit≤ tt,
@@ -124,7 +124,7 @@ ret_submit_within seqnum asked small = (
   ),
 )
 
-ret_unlink_within : (seqnum : ℕ) → Within (ret_unlink_form seqnum) 70040
+ret_unlink_within : (seqnum : ℕ) → Within (ret_unlink_form seqnum) (message_max - 8)
 unfolding ret_unlink_form
 ret_unlink_within seqnum = (lit≤ tt, λ devid. (lit≤ tt, λ direction. (lit≤ tt, λ ep. (lit≤ tt, λ status. (lit≤ tt, λ padding. tt)))))
 
@@ -133,32 +133,32 @@ unfolding record_form
 record_within of most le =
     (omega arith, λ path. (omega arith, λ busid. (omega arith, λ busnum. (omega arith, λ devnum. (omega arith, λ speed. (omega arith, λ vendor. (omega arith, λ product. (omega arith, λ bcd. (omega arith, λ last. tt)))))))))
 
-ops_within : (devices interfaces : ℕ) → Within (ops_form devices interfaces) HELD_MAX
+ops_within : (devices interfaces : ℕ) → Within (ops_form devices interfaces) message_max
 ops_within devices interfaces =
-    both_within (eqb interfaces 0) (cond (eqb devices 0) reply_form (record_form part.List)) interface_form HELD_MAX
-    (both_within (eqb devices 0) reply_form (record_form part.List) HELD_MAX (
+    both_within (eqb interfaces 0) (cond (eqb devices 0) reply_form (record_form part.List)) interface_form message_max
+    (both_within (eqb devices 0) reply_form (record_form part.List) message_max (
       lit≤ tt,
       λ version _. (
         lit≤ tt,
         λ code _. (
           lit≤ tt,
           λ status.
-              both_within (eqb code REP_DEVLIST) (Number Four (λ devices. Done (down.Count status devices))) (cond (eqb status 0) (record_form part.Import) (Done (down.Import status None))) 70040
+              both_within (eqb code REP_DEVLIST) (Number Four (λ devices. Done (down.Count status devices))) (cond (eqb status 0) (record_form part.Import) (Done (down.Import status None))) (message_max - 8)
               (lit≤ tt, λ devices. tt)
-              (both_within (eqb status 0) (record_form part.Import) (Done (down.Import status None)) 70040 (record_within part.Import 70040 (lit≤ tt)) tt),
+              (both_within (eqb status 0) (record_form part.Import) (Done (down.Import status None)) (message_max - 8) (record_within part.Import (message_max - 8) (lit≤ tt)) tt),
         ),
       ),
     )
-    (record_within part.List HELD_MAX (lit≤ tt)))
+    (record_within part.List message_max (lit≤ tt)))
     (lit≤ tt, λ last. tt)
 
-pub down_within : (phase : DownPhase) (entries : List Outstanding) → AreShort entries → Within (down_form phase entries) HELD_MAX
+pub down_within : (phase : DownPhase) (entries : List Outstanding) → AreShort entries → Within (down_form phase entries) message_max
 down_within (Ops devices interfaces) entries short = ops_within devices interfaces
 down_within Urbs entries short = (
   lit≤ tt,
   λ command _. both_within (eqb command RET_SUBMIT)
       (Judged Four SEQNUM (λ seqnum. is_some (submit_of (find seqnum entries))) (λ seqnum. ret_submit_form seqnum (submit_of (find seqnum entries))))
-      (Judged Four SEQNUM (λ seqnum. is_unlink (find seqnum entries)) (λ seqnum. ret_unlink_form seqnum)) 70044
+      (Judged Four SEQNUM (λ seqnum. is_unlink (find seqnum entries)) (λ seqnum. ret_unlink_form seqnum)) (message_max - 4)
       (lit≤ tt, λ seqnum _. ret_submit_within seqnum (submit_of (find seqnum entries)) (find_short seqnum entries short))
       (lit≤ tt, λ seqnum _. ret_unlink_within seqnum),
 )

@@ -51,7 +51,7 @@ part_long devices interfaces (down.RetUnlink head) front s = absurd s
 part_long devices interfaces down.More front s = absurd s
 part_long devices interfaces (down.Bad f) front s = absurd s
 
-answer_long : (entries : List Outstanding) (m : Message) (front : List ℕ) → SpellsAnswer entries m front → 0 < length front
+pub answer_long : (entries : List Outstanding) (m : Message) (front : List ℕ) → SpellsAnswer entries m front → 0 < length front
 unfolding ret_submit_bytes ret_unlink_bytes fields
 answer_long entries (RetSubmit head transferred) front s = rw s.2.layout (omega arith)
 answer_long entries (RetUnlink head) front s = rw s.1.layout (omega arith)
@@ -121,7 +121,7 @@ whole_step phase entries start piece used what new means is one =
 step : (phase : DownPhase) (entries : List Outstanding) (start piece : List ℕ) (used : ℕ) (what : Down) (new : Held)
     → Answers phase entries start piece used what new → Stepped phase entries (start ++ take used piece) (given_in entries what (data_of new)) new
 step phase entries start piece used down.More new (all, none, calm, is) = more_step phase entries start piece used new all none is
-step phase entries start piece used (down.Bad f) new (within, bad, is) = bad_step phase entries start piece used f new is
+step phase entries start piece used (down.Bad f) new (within, ends, bad, is) = bad_step phase entries start piece used f new is
 step phase entries start piece used (down.Count status number) new (within, means, calm, is) = whole_step phase entries start piece used (down.Count status number) new means is refl
 step phase entries start piece used (down.Device device) new (within, means, calm, is) = whole_step phase entries start piece used (down.Device device) new means is refl
 step phase entries start piece used (down.Interface class subclass protocol) new (within, means, calm, is) = whole_step phase entries start piece used (down.Interface class subclass protocol) new means is refl

@@ -46,7 +46,7 @@ at_least {M} (Done message) least m bytes a s = omega (arith, a)
 
 -- ---- what goes on is not refused
 
-longer : (a b x y : List ℕ) → a ++ x ≡ b ++ y → length b ≤ length a → a ≡ b ++ drop (length b) a
+pub longer : (a b x y : List ℕ) → a ++ x ≡ b ++ y → length b ≤ length a → a ≡ b ++ drop (length b) a
 longer a b x y e le =
     let front : take (length b) a ≡ b = sym (take-append-le (length b) a x le) ∙ (ap (λ (l : List ℕ). take (length b) l) e ∙ take_at b y (length b) refl) in
     sym (take-append-drop (length b) a) ∙ ap (λ (l : List ℕ). l ++ drop (length b) a) front

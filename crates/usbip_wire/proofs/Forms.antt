@@ -226,7 +226,7 @@ none_left {M} (Block zero next) m rest e = none_left (next []) m rest e
 none_left {M} (Block (suc count) next) m rest e = let x = rw (lt-ltb 0 (suc count) (omega arith)) at e in absurd (cc x)
 none_left {M} (Done message) m rest e = sym (ap (λ (p : M × List ℕ). p.1) (ok_is (message, []) (m, rest) e))
 
-nothing : (bytes : List ℕ) → length bytes ≡ 0 → bytes ≡ []
+pub nothing : (bytes : List ℕ) → length bytes ≡ 0 → bytes ≡ []
 nothing [] e = refl
 nothing (x ∷ xs) e = absurd (omega (arith, e))
 
@@ -287,7 +287,7 @@ Within (Judged size field accepts next) most = (size_of size ≤ most) × ((x : 
 Within (Block count next) most = (count ≤ most) × ((xs : List ℕ) → Within (next xs) (most - count))
 Within (Done message) most = Unit {0}
 
-short_accepted : {A : Type 0} (b : Bool) (r : Result A Stop) (field : Field) (n : ℕ) → cond b r (Err (Refused field)) ≡ Err (Short n) → (b ≡ true) × (r ≡ Err (Short n))
+pub short_accepted : {A : Type 0} (b : Bool) (r : Result A Stop) (field : Field) (n : ℕ) → cond b r (Err (Refused field)) ≡ Err (Short n) → (b ≡ true) × (r ≡ Err (Short n))
 short_accepted true r field n e = (refl, e)
 short_accepted false r field n e = absurd cc
 

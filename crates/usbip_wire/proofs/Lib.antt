@@ -1,4 +1,5 @@
 pub mod Wide
+pub mod Appends
 pub mod Answered
 pub mod Recorded
 pub mod Entries
@@ -20,6 +21,11 @@ pub mod FirstRefused
 pub mod Firsts
 pub mod Free
 pub mod Places
+pub mod Edges
+pub mod Ranged
+pub mod Added
+pub mod FromLast
+pub mod AnswerTurns
 pub mod Alone
 pub mod Listed
 pub mod UpStream

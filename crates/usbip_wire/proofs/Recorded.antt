@@ -1,6 +1,6 @@
 -- a device record that was appended in its parts
 use Rattle.std.proofs.Common.{◌≡◌, ℕ, List, [], ◌∷◌, ◌++◌}
-use Rattle.tmc_base.proofs.Appends.{two_appended, three_appended}
+use Rattle.usbip_wire.proofs.Appends.{two_appended, three_appended}
 use Rattle.usbip_wire.specs.declared.device.DeviceRecord.{DeviceRecord}
 use Rattle.usbip_wire.specs.Device.{record_bytes}
 use Rattle.usbip_wire.specs.Urb.{fields, halves}

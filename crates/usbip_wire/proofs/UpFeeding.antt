@@ -1,6 +1,6 @@
 -- what feeding answers, from what the held bytes are
-use Rattle.std.proofs.Common.{◌≡◌, ℕ, ◌≤◌, true, false, Some, None, List, [], ◌++◌, length, take, drop, Ok, Err, sym, ap, subst, ◌∙◌, arith}
-use Rattle.std.proofs.lemmas.List.{take_all}
+use Rattle.std.proofs.Common.{◌≡◌, ℕ, ◌+◌, ◌≤◌, Bool, true, false, Option, Some, None, List, [], ◌++◌, length, take, drop, Ok, Err, sym, ap, subst, ◌∙◌, arith}
+use Rattle.std.proofs.lemmas.List.{take_all, append-nil, length-append, length-take}
 use Rattle.tmc_base.specs.declared.field.Field.{Field}
 use Rattle.usbip_wire.specs.declared.stop.Stop.TheVariants.{Short, Refused}
 use Rattle.usbip_wire.specs.declared.up.Up.{Up}
@@ -9,10 +9,14 @@ use Rattle.usbip_wire.specs.declared.up.UpPhase.{UpPhase}
 use Rattle.usbip_wire.specs.declared.up.UpPhase.TheVariants.{Ops, Urbs}
 use Rattle.usbip_wire.specs.Form.{read}
 use Rattle.usbip_wire.specs.Given.{IsBytes}
+use Rattle.usbip_wire.specs.JudgedFields.{op_fields, urb_fields, missing_for}
 use Rattle.usbip_wire.specs.UpForm.{up_form}
 use Rattle.usbip_wire.specs.UpFed.{Held, Answers, Judged, Means, BadAt}
+use Rattle.usbip_wire.proofs.Determined.{Placed}
+use Rattle.usbip_wire.proofs.Edges.{exact_refused, bad_within}
 use Rattle.usbip_wire.proofs.Forms.{more_bad, refused_bad}
 use Rattle.usbip_wire.proofs.Pieces.{rest_of_piece}
+use Rattle.usbip_wire.proofs.Places.{requests_placed, urbs_placed}
 use Rattle.usbip_wire.proofs.UpRead.{whole_means, whole_good, stopped_none, short_good}
 
 -- the reader behind so many bytes of a piece
@@ -41,13 +45,14 @@ answers_whole phase start piece used self what new le e fits judged after =
     (after ∙ ap (λ (h : Held). record h { whole = true }) e)
 
 pub answers_bad : (phase : UpPhase) (start piece : List ℕ) (used : ℕ) (self : Held) (f : Field) (new : Held) → used ≤ length piece
-    → self ≡ at phase start piece used → IsBytes self.rest → Judged self.phase self.rest (Err (Refused f)) → new ≡ record self { bad = Some f }
+    → used ≡ missing_for f start → self ≡ at phase start piece used → IsBytes self.rest → Judged self.phase self.rest (Err (Refused f)) → new ≡ record self { bad = Some f }
     → Answers phase start piece used (up.Bad f) new
-answers_bad phase start piece used self f new le e fits judged after =
+answers_bad phase start piece used self f new le ends e fits judged after =
     let bytes : IsBytes (start ++ take used piece) = subst (λ (h : Held). IsBytes h.rest) e fits in
     let r : read (up_form phase) (start ++ take used piece) ≡ Err (Refused f) = subst (λ (h : Held). read (up_form h.phase) h.rest ≡ Err (Refused f)) e judged in
     let b : BadAt phase (start ++ take used piece) f = refused_bad (up_form phase) (start ++ take used piece) f bytes r in (
       le,
+      ends,
       subst (λ (t : List ℕ). BadAt phase t f) (rest_of_piece start piece used) (more_bad (up_form phase) (start ++ take used piece) (drop used piece) f b),
       after ∙ ap (λ (h : Held). record h { bad = Some f }) e,
     )
@@ -59,3 +64,36 @@ answers_more phase start piece used self n all e judged =
     let whole : take used piece ≡ piece = take_all used piece (omega arith) in
     let s : read (up_form phase) (start ++ piece) ≡ Err (Short n) = subst (λ (t : List ℕ). read (up_form phase) (start ++ t) ≡ Err (Short n)) whole r in
     (all, stopped_none phase (start ++ piece) (Short n) s, short_good phase (start ++ piece) n s, e ∙ ap (λ (t : List ℕ). record { phase = phase; rest = start ++ t; whole = false; bad = None }) whole)
+
+-- before the first byte of a piece
+pub begun : (self : Held) → self.whole ≡ false → self.bad ≡ None → self ≡ record { phase = self.phase; rest = self.rest ++ []; whole = false; bad = None }
+begun self w b = ap (λ (x : Bool). record self { whole = x }) w ∙ (ap (λ (x : Option Field). record self { whole = false; bad = x }) b
+    ∙ ap (λ (t : List ℕ). record { phase = self.phase; rest = t; whole = false; bad = None }) (sym (append-nil self.rest)))
+
+-- ---- what is used ends with a refused field
+
+fields_of : UpPhase → List Field
+fields_of Ops = op_fields
+fields_of (Urbs devid) = urb_fields
+
+placed : (phase : UpPhase) → Placed (fields_of phase) (up_form phase) 0
+unfolding fields_of
+placed Ops = requests_placed
+placed (Urbs devid) = urbs_placed devid
+
+-- of a field that is refused in what is held
+abbrev pub EndsHere : List ℕ → ℕ → Held → Type 0
+EndsHere start used self = (f : Field) → read (up_form self.phase) self.rest ≡ Err (Refused f) → used ≡ missing_for f start
+
+pub none_missing : (self : Held) → IsBytes self.rest → EndsHere self.rest 0 self
+none_missing self fits f r =
+    let bad = refused_bad (up_form self.phase) self.rest f fits r in
+    omega (arith, bad_within (fields_of self.phase) (up_form self.phase) self.rest f (placed self.phase) bad)
+
+pub still_missing : (start piece next : List ℕ) (used : ℕ) (self new : Held) (n : ℕ) → used ≤ length piece
+    → self.rest ≡ start ++ take used piece → new ≡ record self { rest = self.rest ++ next }
+    → read (up_form self.phase) self.rest ≡ Err (Short n) → length next ≤ n → EndsHere start (used + length next) new
+still_missing start piece next used self new n le held e r few f w =
+    let x : read (up_form self.phase) (self.rest ++ next) ≡ Err (Refused f) = subst (λ (h : Held). read (up_form h.phase) h.rest ≡ Err (Refused f)) e w in
+    let y = exact_refused (fields_of self.phase) (up_form self.phase) 0 self.rest next n f (placed self.phase) r few x in
+    omega (arith, y, le, ap (λ (l : List ℕ). length l) held, length-append self.rest next, length-append start (take used piece), length-take used piece)

@@ -1,5 +1,5 @@
 -- what reading says of a client's messages
-use Rattle.std.proofs.Common.{◌≡◌, ℕ, ◌≤◌, lit≤, arith, cond, eqb, true, false, Bool, List, [], ◌++◌, Ok, Err, sym, subst, ◌∙◌}
+use Rattle.std.proofs.Common.{◌≡◌, ℕ, ◌-◌, ◌≤◌, lit≤, arith, cond, eqb, true, false, Bool, List, [], ◌++◌, Ok, Err, sym, subst, ◌∙◌}
 use Rattle.std.proofs.lemmas.Bool.{leb-true}
 use Rattle.std.proofs.lemmas.List.{append-nil}
 use Rattle.tmc_base.specs.declared.field.Field.{Field}
@@ -14,12 +14,12 @@ use Rattle.usbip_wire.specs.declared.op.TheConstants.{REQ_IMPORT}
 use Rattle.usbip_wire.specs.declared.op_request.OpRequest.TheVariants.{DevList, Import}
 use Rattle.usbip_wire.specs.declared.urb.Dir.{Dir}
 use Rattle.usbip_wire.specs.declared.urb.Dir.TheVariants.{Out, In}
-use Rattle.usbip_wire.specs.declared.urb.TheConstants.{CMD_UNLINK, HELD_MAX}
+use Rattle.usbip_wire.specs.declared.urb.TheConstants.{CMD_UNLINK}
 use Rattle.usbip_wire.specs.Form.{Form, Block, Done, Spelled, read}
 use Rattle.usbip_wire.specs.UpForm.{up_form, request_form, urb_form, submit_form, unlink_form}
 use Rattle.usbip_wire.specs.UpFed.{Means, NoneWhole, BadAt}
 use Rattle.usbip_wire.specs.Given.{IsBytes}
-use Rattle.usbip_wire.specs.Urb.{dir_of, carried}
+use Rattle.usbip_wire.specs.Urb.{dir_of, carried, message_max}
 use Rattle.usbip_wire.proofs.Forms.{sound, complete, bad_refused, more_whole, Within}
 use Rattle.usbip_wire.proofs.UpSpelled.{urb_sound, urb_complete, request_sound, request_complete, head_of}
 
@@ -55,12 +55,12 @@ carried_most : (dir : Dir) (size : ℕ) → size ≤ SUBMIT_MAX → carried dir 
 carried_most Out size le = le
 carried_most In size le = omega arith
 
-submit_within : (seqnum devid : ℕ) → Within (submit_form seqnum devid) 70036
+submit_within : (seqnum devid : ℕ) → Within (submit_form seqnum devid) (message_max - 12)
 unfolding submit_form
 submit_within seqnum devid =
     (lit≤ tt, λ direction _. (lit≤ tt, λ ep _. (lit≤ tt, λ flags. (lit≤ tt, λ size small. (lit≤ tt, λ start. (lit≤ tt, λ packets _. (lit≤ tt, λ interval. (lit≤ tt, λ setup. (carried_most (dir_of direction) size (leb-true size SUBMIT_MAX small), λ transferred. tt)))))))))
 
-unlink_within : (seqnum devid : ℕ) → Within (unlink_form seqnum devid) 70036
+unlink_within : (seqnum devid : ℕ) → Within (unlink_form seqnum devid) (message_max - 12)
 unfolding unlink_form
 unlink_within seqnum devid = (lit≤ tt, λ direction. (lit≤ tt, λ ep. (lit≤ tt, λ target. (lit≤ tt, λ padding. tt))))
 
@@ -68,6 +68,6 @@ pub both_within : {M : Type 0} (b : Bool) (f g : Form M) (most : ℕ) → Within
 both_within true f g most x y = x
 both_within false f g most x y = y
 
-pub up_within : (phase : UpPhase) → Within (up_form phase) HELD_MAX
-up_within Ops = (lit≤ tt, λ version _. (lit≤ tt, λ code _. (lit≤ tt, λ status. both_within (eqb code REQ_IMPORT) (Block 32 (λ busid. Done (up.Op (Import busid)))) (Done (up.Op DevList)) 70040 (lit≤ tt, λ busid. tt) tt)))
-up_within (Urbs devid) = (lit≤ tt, λ command _. (lit≤ tt, λ seqnum. (lit≤ tt, λ number _. both_within (eqb command CMD_UNLINK) (unlink_form seqnum number) (submit_form seqnum number) 70036 (unlink_within seqnum number) (submit_within seqnum number))))
+pub up_within : (phase : UpPhase) → Within (up_form phase) message_max
+up_within Ops = (lit≤ tt, λ version _. (lit≤ tt, λ code _. (lit≤ tt, λ status. both_within (eqb code REQ_IMPORT) (Block 32 (λ busid. Done (up.Op (Import busid)))) (Done (up.Op DevList)) (message_max - 8) (lit≤ tt, λ busid. tt) tt)))
+up_within (Urbs devid) = (lit≤ tt, λ command _. (lit≤ tt, λ seqnum. (lit≤ tt, λ number _. both_within (eqb command CMD_UNLINK) (unlink_form seqnum number) (submit_form seqnum number) (message_max - 12) (unlink_within seqnum number) (submit_within seqnum number))))

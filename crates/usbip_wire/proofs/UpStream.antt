@@ -160,7 +160,7 @@ ops_kind = record { step = step; silent = λ f told. refl }
     step : (start piece : List ℕ) (used : ℕ) (what : Up) (new : Held) → Answers Ops start piece used what new
         → InRow SpellsRequest (request_in what (data_of new)) (start ++ take used piece) (kept new) × (new.phase ≡ Ops) × NoneWhole SpellsRequest (kept new)
     step start piece used up.More new (all, none, calm, is) = more_step SpellsRequest Ops start piece used new all none is
-    step start piece used (up.Bad f) new (within, bad, is) = bad_step SpellsRequest Ops request_alone start piece used f new bad is
+    step start piece used (up.Bad f) new (within, ends, bad, is) = bad_step SpellsRequest Ops request_alone start piece used f new bad is
     step start piece used (up.Op request) new (within, means, calm, is) = whole_step SpellsRequest Ops start piece used request new means no_request is
     step start piece used (up.Submit head) new (within, means, calm, is) = absurd means
     step start piece used (up.Unlink head) new (within, means, calm, is) = absurd means
@@ -171,7 +171,7 @@ urbs_kind devid = record { step = step; silent = λ f told. refl }
     step : (start piece : List ℕ) (used : ℕ) (what : Up) (new : Held) → Answers (Urbs devid) start piece used what new
         → InRow (Spells devid) (message_in what (data_of new)) (start ++ take used piece) (kept new) × (new.phase ≡ Urbs devid) × NoneWhole (Spells devid) (kept new)
     step start piece used up.More new (all, none, calm, is) = more_step (Spells devid) (Urbs devid) start piece used new all none is
-    step start piece used (up.Bad f) new (within, bad, is) = bad_step (Spells devid) (Urbs devid) (urb_alone devid) start piece used f new bad is
+    step start piece used (up.Bad f) new (within, ends, bad, is) = bad_step (Spells devid) (Urbs devid) (urb_alone devid) start piece used f new bad is
     step start piece used (up.Op request) new (within, means, calm, is) = absurd means
     step start piece used (up.Submit head) new (within, means, calm, is) =
         whole_step (Spells devid) (Urbs devid) start piece used (Submit head (data_of new)) new

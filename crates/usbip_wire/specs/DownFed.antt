@@ -11,9 +11,11 @@ use Rattle.usbip_wire.specs.declared.down.DownStep.{DownStep}
 use Rattle.usbip_wire.specs.declared.stop.Stop.{Stop}
 use Rattle.usbip_wire.specs.DevList.{SpellsPart}
 use Rattle.usbip_wire.specs.Down.{SpellsAnswer, RetSubmit, RetUnlink}
+use Rattle.usbip_wire.specs.JudgedFields.{missing_for}
 use Rattle.usbip_wire.specs.Stream as stream
 use Rattle.usbip_wire.specs.Form as form
 use Rattle.usbip_wire.specs.DownForm.{down_form, after}
+use Rattle.usbip_wire.specs.Urb.{message_max}
 
 -- what the device sends now, the bytes held, whether they are the last message, and which field was refused
 pub record Held : Type 0 where
@@ -56,24 +58,41 @@ NoneWhole Urbs entries rest = stream.NoneWhole (SpellsAnswer entries) rest
 abbrev pub BadAt : DownPhase → List Outstanding → List ℕ → Field → Type 0
 BadAt phase entries rest f = form.BadAt (down_form phase entries) rest f
 
--- after a piece: a message is whole, the piece was used up, or a field is refused
+-- After a piece: a message is whole, the piece was used up, or a field is refused. What is used ends with the message, or
+-- with the last byte of the field.
 abbrev pub Answers : DownPhase → List Outstanding → List ℕ → List ℕ → ℕ → Down → Held → Type 0
 Answers phase entries start piece used down.More new =
     (used ≡ length piece) × NoneWhole phase entries (start ++ piece) × ((f : Field) → BadAt phase entries (start ++ piece) f → ⊥)
     × (new ≡ record { phase = phase; rest = start ++ piece; whole = false; bad = None })
 Answers phase entries start piece used (down.Bad f) new =
-    (used ≤ length piece) × BadAt phase entries (start ++ piece) f
+    (used ≤ length piece) × (used ≡ missing_for f start) × BadAt phase entries (start ++ piece) f
     × (new ≡ record { phase = phase; rest = start ++ take used piece; whole = false; bad = Some f })
 Answers phase entries start piece used what new =
     (used ≤ length piece) × Means phase entries what (start ++ take used piece) × ((f : Field) → BadAt phase entries (start ++ piece) f → ⊥)
     × (new ≡ record { phase = after phase what; rest = start ++ take used piece; whole = true; bad = None })
 
--- One call of feed, where by these entries no message is whole in the bytes that were kept. After a refusal
--- nothing is used, and the answer is the same for good.
+-- this message stands at the front of the bytes
+abbrev pub Begins : DownPhase → List Outstanding → Down → List ℕ → Type 0
+Begins phase entries what bytes = (front : List ℕ) × (rest : List ℕ) × (bytes ≡ front ++ rest) × Means phase entries what front
+
+-- The same whatever was kept: where by these entries a message was whole in it already, a message that is given stands at
+-- the front of what is held.
+abbrev pub Keeps : DownPhase → List Outstanding → List ℕ → List ℕ → ℕ → Down → Held → Type 0
+Keeps phase entries start piece used down.More new = Answers phase entries start piece used down.More new
+Keeps phase entries start piece used (down.Bad f) new = Answers phase entries start piece used (down.Bad f) new
+Keeps phase entries start piece used what new =
+    (used ≤ length piece) × Begins phase entries what (start ++ take used piece) × ((f : Field) → BadAt phase entries (start ++ piece) f → ⊥)
+    × (new ≡ record { phase = after phase what; rest = start ++ take used piece; whole = true; bad = None })
+
+-- One call of feed. Where by these entries no message is whole in the bytes that were kept, a message that is given is all
+-- that is held. After a refusal nothing is used, and the answer is the same for good. No more is held than the longest
+-- message, before any call and after it.
 pub record Fed (old : Held) (entries : List Outstanding) (piece : List ℕ) (step : DownStep) (new : Held) : Type 0 where
   pub fresh : old.bad ≡ None → NoneWhole old.phase entries (kept old) → Answers old.phase entries (kept old) piece step.used step.what new
+  pub always : old.bad ≡ None → Keeps old.phase entries (kept old) piece step.used step.what new
   pub within : step.used ≤ length piece
   pub again : (f : Field) → old.bad ≡ Some f → (step ≡ record { used = 0; what = down.Bad f }) × (new ≡ old)
+  pub one_held : (length old.rest ≤ message_max) × (length new.rest ≤ message_max)
 
 -- what the held bytes are found to be
 abbrev pub Judged : DownPhase → List Outstanding → List ℕ → Result Down Stop → Type 0

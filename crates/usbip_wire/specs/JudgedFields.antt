@@ -1,5 +1,5 @@
 -- which fields of a message a reader judges, in their order
-use Rattle.std.specs.Prelude.{ℕ, zero, List, [], ◌∷◌}
+use Rattle.std.specs.Prelude.{ℕ, zero, ◌+◌, ◌-◌, List, [], ◌∷◌, length}
 use Rattle.tmc_base.specs.declared.field.Field.{Field}
 use Rattle.tmc_base.specs.declared.field.Layer.{Layer}
 use Rattle.tmc_base.specs.declared.field.Layer.TheVariants.{Op}
@@ -12,6 +12,10 @@ bytes_in layer = 4
 
 abbrev pub field_size : Field → ℕ
 field_size f = bytes_in f.layer
+
+-- so many bytes more end with this field's last byte
+abbrev pub missing_for : Field → List ℕ → ℕ
+missing_for f bytes = f.offset + field_size f - length bytes
 
 -- of an operation
 abbrev pub op_fields : List Field

@@ -1,8 +1,8 @@
 -- what holds of spellings
-use Rattle.std.specs.Prelude.{◌≡◌, ◌≢◌, ◌⊎◌, ℕ, ◌<◌, List, [], ◌∷◌, ◌++◌, length, Contains}
+use Rattle.std.specs.Prelude.{◌≡◌, ◌≢◌, ◌↔◌, ◌⊎◌, ℕ, ◌<◌, List, [], ◌∷◌, ◌++◌, length, Contains}
 use Rattle.tmc_base.specs.declared.field.Field.{Field}
 use Rattle.usbip_wire.specs.Given.{IsBytes}
-use Rattle.usbip_wire.specs.JudgedFields.{field_size}
+use Rattle.usbip_wire.specs.JudgedFields.{field_size, missing_for}
 use Rattle.usbip_wire.specs.Stream.{NoneWhole, Reads}
 
 -- no spelling begins another, and the bytes determine the message
@@ -60,3 +60,17 @@ pub record GoesOn {M : Type 0} (Spells : M → List ℕ → Type 0) (fields : Li
 -- bytes with a bad field begin with no spelling, and have no other first bad field
 abbrev pub AreAlone : {M : Type 0} → (M → List ℕ → Type 0) → (List ℕ → Field → Type 0) → Type 0
 AreAlone {M} Spells Bad = (rest : List ℕ) (f : Field) → Bad rest f → NoneWhole Spells rest × ((g : Field) → Bad rest g → f ≡ g)
+
+-- a field is bad from its last byte on, whatever follows it, and not before
+abbrev pub AreBadFromTheirLast : (List ℕ → Field → Type 0) → Type 0
+AreBadFromTheirLast Bad = (rest more : List ℕ) (f : Field) → Bad rest f ↔ (Bad (rest ++ more) f × (missing_for f rest ≡ 0))
+
+-- no message is whole in the bytes, and no field is bad
+abbrev pub AreNeither : {M : Type 0} → (M → List ℕ → Type 0) → (List ℕ → Field → Type 0) → List ℕ → Type 0
+AreNeither {M} Spells Bad rest = NoneWhole Spells rest × ((f : Field) → Bad rest f → ⊥)
+
+-- each message in range is spelled by these bytes, each that is spelled is in range, and its bytes are so many
+pub record HaveSpellings {M : Type 0} (InRange : M → Type 0) (written : M → List ℕ) (size : M → ℕ) (Spells : M → List ℕ → Type 0) : Type 0 where
+  pub spelled : (m : M) → InRange m → Spells m (written m)
+  pub ranged : (m : M) (bytes : List ℕ) → Spells m bytes → InRange m
+  pub sized : (m : M) (bytes : List ℕ) → Spells m bytes → length bytes ≡ size m

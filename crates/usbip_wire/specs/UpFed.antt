@@ -1,7 +1,7 @@
 -- what a reader of a client's messages holds and answers
 use Rattle.std.specs.Prelude.{◌≡◌, ℕ, ◌+◌, ◌≤◌, Result, Ok, Err, Bool, true, false, Option, Some, None, List, [], ◌++◌, length, take, drop, if◌then◌else◌}
 use Rattle.tmc_base.specs.declared.field.Field.{Field}
-use Rattle.usbip_wire.specs.declared.urb.TheConstants.{URB_HEADER, HELD_MAX}
+use Rattle.usbip_wire.specs.declared.urb.TheConstants.{URB_HEADER}
 use Rattle.usbip_wire.specs.declared.up.Up.{Up}
 use Rattle.usbip_wire.specs.declared.up.Up.TheVariants as up
 use Rattle.usbip_wire.specs.declared.up.UpPhase.{UpPhase}
@@ -9,7 +9,9 @@ use Rattle.usbip_wire.specs.declared.up.UpPhase.TheVariants.{Ops, Urbs}
 use Rattle.usbip_wire.specs.declared.up.UpStep.{UpStep}
 use Rattle.usbip_wire.specs.declared.stop.Stop.{Stop}
 use Rattle.usbip_wire.specs.OpRequest.{SpellsRequest}
+use Rattle.usbip_wire.specs.JudgedFields.{missing_for}
 use Rattle.usbip_wire.specs.Up.{Spells, Submit, Unlink}
+use Rattle.usbip_wire.specs.Urb.{message_max}
 use Rattle.usbip_wire.specs.Stream as stream
 use Rattle.usbip_wire.specs.Form as form
 use Rattle.usbip_wire.specs.UpForm.{up_form}
@@ -45,22 +47,25 @@ NoneWhole (Urbs devid) rest = stream.NoneWhole (Spells devid) rest
 abbrev pub BadAt : UpPhase → List ℕ → Field → Type 0
 BadAt phase rest f = form.BadAt (up_form phase) rest f
 
--- after a piece: a message is whole, the piece was used up, or a field is refused
+-- After a piece: a message is whole, the piece was used up, or a field is refused. What is used ends with the message, or
+-- with the last byte of the field.
 abbrev pub Answers : UpPhase → List ℕ → List ℕ → ℕ → Up → Held → Type 0
 Answers phase start piece used up.More new =
     (used ≡ length piece) × NoneWhole phase (start ++ piece) × ((f : Field) → BadAt phase (start ++ piece) f → ⊥)
     × (new ≡ record { phase = phase; rest = start ++ piece; whole = false; bad = None })
 Answers phase start piece used (up.Bad f) new =
-    (used ≤ length piece) × BadAt phase (start ++ piece) f
+    (used ≤ length piece) × (used ≡ missing_for f start) × BadAt phase (start ++ piece) f
     × (new ≡ record { phase = phase; rest = start ++ take used piece; whole = false; bad = Some f })
 Answers phase start piece used what new =
     (used ≤ length piece) × Means phase what (start ++ take used piece) × ((f : Field) → BadAt phase (start ++ piece) f → ⊥)
     × (new ≡ record { phase = phase; rest = start ++ take used piece; whole = true; bad = None })
 
--- one call of feed; after a refusal nothing is used, and the answer is the same for good
+-- One call of feed. After a refusal nothing is used, and the answer is the same for good. No more is held than the longest
+-- message, before any call and after it.
 pub record Fed (old : Held) (piece : List ℕ) (step : UpStep) (new : Held) : Type 0 where
   pub fresh : old.bad ≡ None → Answers old.phase (kept old) piece step.used step.what new
   pub again : (f : Field) → old.bad ≡ Some f → (step ≡ record { used = 0; what = up.Bad f }) × (new ≡ old)
+  pub one_held : (length old.rest ≤ message_max) × (length new.rest ≤ message_max)
 
 -- what the held bytes are found to be
 abbrev pub Judged : UpPhase → List ℕ → Result Up Stop → Type 0
@@ -73,5 +78,6 @@ Ends phase rest = (what : Up) (left : List ℕ) → form.read (up_form phase) re
 
 -- there is room for the longest message, and what is held does not pass the end of one
 pub record IsReader (phase : UpPhase) (rest : List ℕ) (spare : ℕ) (whole : Bool) (bad : Option Field) : Type 0 where
-  pub room : HELD_MAX ≤ length rest + spare
+  pub room : message_max ≤ length rest + spare
+  pub one_held : length rest ≤ message_max
   pub ends : whole ≡ false → bad ≡ None → Ends phase rest

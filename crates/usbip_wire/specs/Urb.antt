@@ -1,10 +1,11 @@
 -- what the URB messages share (Linux kernel documentation, "USB/IP protocol": usbip_header_basic)
-use Rattle.std.specs.Prelude.{◌≡◌, ◌⊎◌, ◌==◌, ◌||◌, Bool, if◌then◌else◌, ℕ, ℤ, ◌<◌, ◌^◌, List, slice_index}
+use Rattle.std.specs.Prelude.{◌≡◌, ◌⊎◌, ◌==◌, ◌||◌, Bool, if◌then◌else◌, ℕ, ℤ, ◌+◌, ◌<◌, ◌^◌, List, slice_index}
 use Rattle.std.specs.Int.{w16, w32, to_be_bytes, cast_signed, cast_unsigned}
 use Rattle.std.specs.List.{flat_map}
+use Rattle.tmc_base.specs.declared.limits.TheConstants.{SUBMIT_MAX}
 use Rattle.usbip_wire.specs.declared.urb.Dir.{Dir}
 use Rattle.usbip_wire.specs.declared.urb.Dir.TheVariants.{Out, In}
-use Rattle.usbip_wire.specs.declared.urb.TheConstants.{NOT_ISOCHRONOUS}
+use Rattle.usbip_wire.specs.declared.urb.TheConstants.{NOT_ISOCHRONOUS, URB_HEADER}
 
 -- fields of four bytes each, the highest byte of each first
 unfoldable pub fields : List ℕ → List ℕ
@@ -48,3 +49,7 @@ is_no_packet_count packets = (packets == NOT_ISOCHRONOUS) || (packets == 0)
 abbrev pub returned : Dir → ℕ → ℕ
 returned Out actual = 0
 returned In actual = actual
+
+-- no message is longer: a header, and the data of the longest submit
+abbrev pub message_max : ℕ
+message_max = URB_HEADER + SUBMIT_MAX

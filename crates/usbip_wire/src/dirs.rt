@@ -45,10 +45,11 @@ impl Model for Dirs {
     ghost Value = { List Outstanding };
 
     ghost use Rattle.usbip_wire.specs.Dirs.{AreShort};
+    ghost use Rattle.usbip_wire.specs.declared.dirs.TheConstants.{DIRS_MAX};
 
     ghost view = { λ a. take a.len a.entries };
 
-    ghost invariant = { λ a. (a.len ≤ 16) × AreShort (take a.len a.entries) };
+    ghost invariant = { λ a. (a.len ≤ DIRS_MAX) × AreShort (take a.len a.entries) };
 }
 
 impl Dirs {

@@ -5,7 +5,8 @@ ghost use Rattle.usbip_wire.specs.declared.down.DownPhase.TheVariants.{Ops, Urbs
 ghost use Rattle.usbip_wire.specs.Dirs.{AreShort};
 ghost use Rattle.usbip_wire.specs.DownForm.{after};
 ghost use Rattle.usbip_wire.specs.Given.{IsBytes};
-ghost use Rattle.usbip_wire.specs.DownFed.{Held, Fed, Answers, NoneWhole, Judged, kept, data_of};
+ghost use Rattle.usbip_wire.specs.DownFed.{Held, Fed, Answers, Keeps, NoneWhole, Judged, kept, data_of};
+ghost use Rattle.usbip_wire.specs.Urb.{message_max};
 
 use crate::dirs::Dirs;
 use crate::down::{Down, DownPhase, DownStep};
@@ -30,12 +31,13 @@ pub struct DownReader {
 impl Model for DownReader {
     ghost use Rattle.std.specs.Prelude.{◌+◌, ◌≤◌, length};
     ghost use Rattle.usbip_wire.specs.DownFed.{Held};
+    ghost use Rattle.usbip_wire.specs.Urb.{message_max};
 
     ghost Value = { Held };
 
     ghost view = { λ r. record { phase = r.phase; rest = r.buf.items; whole = r.whole; bad = r.bad } };
 
-    ghost invariant = { λ r. 70048 ≤ length r.buf.items + r.buf.spare };
+    ghost invariant = { λ r. (message_max ≤ length r.buf.items + r.buf.spare) × (length r.buf.items ≤ message_max) };
 }
 
 impl DownReader {
@@ -78,6 +80,7 @@ impl DownReader {
     pub fn feed(&mut self, piece: &[u8], dirs: &Dirs) -> DownStep
         ensures { Fed self.old dirs.now piece.now result self.new }
     {
+        self.know();
         if let Some(field) = self.bad {
             return DownStep {
                 used: 0,
@@ -117,6 +120,8 @@ impl DownReader {
         requires unread { self.old.whole ≡ false }
         ensures fresh { NoneWhole self.old.phase dirs.now self.old.rest
             → Answers self.old.phase dirs.now self.old.rest piece.now result.used result.what self.new }
+        ensures always { Keeps self.old.phase dirs.now self.old.rest piece.now result.used result.what self.new }
+        ensures one_held { length self.new.rest ≤ message_max }
         ensures within { result.used ≤ length piece.now }
     {
         self.know();
@@ -162,16 +167,17 @@ impl DownReader {
         Ok(what)
     }
 
-    /// What `u8` says of the bytes held.
+    /// What `u8` says of the bytes held, and how many there are at most.
     fn know(&self)
-        ensures { IsBytes self.now.rest }
+        ensures bytes { IsBytes self.now.rest }
+        ensures one_held { length self.now.rest ≤ message_max }
     {
         are_bytes(self.buf.as_slice());
     }
 
     /// Holds these bytes too.
     fn add(&mut self, next: &[u8])
-        requires { length self.old.rest + length next.now ≤ HELD_MAX }
+        requires { length self.old.rest + length next.now ≤ message_max }
         ensures { self.new ≡ record self.old { rest = self.old.rest ++ next.now } }
     {
         self.buf.extend_reserved(next);

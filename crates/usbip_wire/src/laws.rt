@@ -1,34 +1,46 @@
 //! What holds of the spellings. Each function does nothing, and its contract is the law.
 
-ghost use Rattle.std.specs.Prelude.{◌≡◌, ◌↔◌, ℕ, ◌<◌, ◌≤◌, ◌^◌, true, None, is_some, List, [], ◌∷◌, ◌++◌, length};
+ghost use Rattle.std.specs.Prelude.{◌≡◌, ◌↔◌, ℕ, ◌<◌, ◌≤◌, ◌^◌, true, Some, None, is_some, List, [], ◌∷◌, ◌++◌, length};
 ghost use Rattle.tmc_base.specs.declared.field.Field.{Field};
+ghost use Rattle.tmc_base.specs.declared.field.Layer.TheVariants as layer;
+ghost use Rattle.tmc_base.specs.declared.field.Name.TheVariants as name;
 ghost use Rattle.usbip_wire.specs.declared.device.DeviceRecord.{DeviceRecord};
 ghost use Rattle.usbip_wire.specs.declared.dirs.Outstanding.{Outstanding};
 ghost use Rattle.usbip_wire.specs.declared.down.Down.{Down};
-ghost use Rattle.usbip_wire.specs.declared.fields.TheConstants.{COMMAND};
+ghost use Rattle.usbip_wire.specs.declared.dirs.TheConstants.{DIRS_MAX};
+ghost use Rattle.usbip_wire.specs.declared.device.TheConstants.{DEVICE_RECORD};
+ghost use Rattle.usbip_wire.specs.declared.fields.TheConstants.{VERSION, CODE, COMMAND, SEQNUM, DEVID, DIRECTION, ENDPOINT, BUFFER_LENGTH, ACTUAL_LENGTH, PACKETS};
 ghost use Rattle.usbip_wire.specs.declared.op.TheConstants.{USBIP_VERSION, REQ_DEVLIST, REP_DEVLIST, REQ_IMPORT, REP_IMPORT};
-ghost use Rattle.usbip_wire.specs.declared.urb.TheConstants.{CMD_SUBMIT, CMD_UNLINK, RET_SUBMIT, RET_UNLINK, NOT_ISOCHRONOUS, ENDPOINT_MAX, URB_HEADER};
+ghost use Rattle.usbip_wire.specs.declared.ret_submit.RetSubmitHead.{RetSubmitHead};
+ghost use Rattle.usbip_wire.specs.declared.ret_unlink.RetUnlinkHead.{RetUnlinkHead};
+ghost use Rattle.usbip_wire.specs.declared.urb.TheConstants.{CMD_SUBMIT, CMD_UNLINK, RET_SUBMIT, RET_UNLINK, NOT_ISOCHRONOUS, ENDPOINT_MAX, URB_HEADER, HELD_MAX};
 ghost use Rattle.usbip_wire.specs.declared.up.UpPhase.TheVariants as up_phase;
 ghost use Rattle.usbip_wire.specs.declared.down.DownPhase.{DownPhase};
 ghost use Rattle.usbip_wire.specs.declared.down.DownPhase.TheVariants as down_phase;
+ghost use Rattle.usbip_wire.specs.Awaited.{Awaited, Unlink, entries_of, without, left_by, left, SpellsAnswers, ReadsAnswers, entries_left, NameNone};
 ghost use Rattle.usbip_wire.specs.DevList.{SpellsPart, list_bytes, list_told};
-ghost use Rattle.usbip_wire.specs.Dirs.{find, submit_of, is_unlink};
-ghost use Rattle.usbip_wire.specs.Down.{SpellsAnswer, SpellsAnyAnswer};
+ghost use Rattle.usbip_wire.specs.Dirs.{find, others, submit_of, is_unlink};
+ghost use Rattle.usbip_wire.specs.Down.{Message, RetSubmit, RetUnlink, SpellsAnswer, SpellsAnyAnswer};
+ghost use Rattle.usbip_wire.specs.Down as downward;
 ghost use Rattle.usbip_wire.specs.DownFed as down_fed;
 ghost use Rattle.usbip_wire.specs.DownPieces as down_pieces;
 ghost use Rattle.usbip_wire.specs.DownTurns.{IsList, ReadsInTurn, awaited, whats_of};
 ghost use Rattle.usbip_wire.specs.Given.{IsBytes};
 ghost use Rattle.usbip_wire.specs.JudgedFields.{op_fields, part_fields, urb_fields, answer_fields};
-ghost use Rattle.usbip_wire.specs.Laws.{ArePrefixFree, AreDetermined, AreRead, AreReadAgain, RefusedAt, IsFirstRefused, CanGoOn, GoesOn, AreAlone};
-ghost use Rattle.usbip_wire.specs.OpRequest.{SpellsRequest};
+ghost use Rattle.usbip_wire.specs.Laws.{ArePrefixFree, AreDetermined, AreRead, AreReadAgain, RefusedAt, IsFirstRefused, CanGoOn, GoesOn, AreAlone, AreBadFromTheirLast, AreNeither, HaveSpellings};
+ghost use Rattle.usbip_wire.specs.OpRequest.{SpellsRequest, IsRequest, request_size};
+ghost use Rattle.usbip_wire.specs.Range.{IsSent, sent_bytes, sent_size, IsAnswer, answer_bytes, answer_size, written_request, IsPart, part_bytes, part_size};
+ghost use Rattle.usbip_wire.specs.RetSubmit.{Asked};
 ghost use Rattle.usbip_wire.specs.Up.{Spells};
 ghost use Rattle.usbip_wire.specs.Stream.{Reads};
 ghost use Rattle.usbip_wire.specs.UpFed as up_fed;
 ghost use Rattle.usbip_wire.specs.UpPieces as up_pieces;
-ghost use Rattle.usbip_wire.specs.Urb.{fields};
+ghost use Rattle.usbip_wire.specs.Urb.{fields, message_max};
 
 /// The numbers of the protocol: the version, the codes of operations and of URBs, what stands in place of the
-/// number of packets where a transfer is not isochronous, the highest endpoint, and the bytes of an URB's header.
+/// number of packets where a transfer is not isochronous, the highest endpoint, and the bytes of an URB's header and
+/// of a device record. Each judged field has its layer, its name and its place. What a reader holds is a message at
+/// most. So many submits and unlinks are outstanding at most.
 pub fn numbers_are_the_protocols()
     ensures version { USBIP_VERSION ≡ 0x0111 }
     ensures list { (REQ_DEVLIST ≡ 0x8005) × (REP_DEVLIST ≡ 0x0005) }
@@ -38,6 +50,19 @@ pub fn numbers_are_the_protocols()
     ensures packets { NOT_ISOCHRONOUS ≡ 0xffffffff }
     ensures endpoint { ENDPOINT_MAX ≡ 15 }
     ensures header { URB_HEADER ≡ 48 }
+    ensures device_record { DEVICE_RECORD ≡ 312 }
+    ensures outstanding { DIRS_MAX ≡ 16 }
+    ensures held { HELD_MAX ≡ message_max }
+    ensures version_field { VERSION ≡ record { layer = layer.Op; name = name.Version; offset = 0 } }
+    ensures code_field { CODE ≡ record { layer = layer.Op; name = name.Code; offset = 2 } }
+    ensures command_field { COMMAND ≡ record { layer = layer.Urb; name = name.Command; offset = 0 } }
+    ensures seqnum_field { SEQNUM ≡ record { layer = layer.Urb; name = name.Seqnum; offset = 4 } }
+    ensures devid_field { DEVID ≡ record { layer = layer.Urb; name = name.Devid; offset = 8 } }
+    ensures direction_field { DIRECTION ≡ record { layer = layer.Urb; name = name.Direction; offset = 12 } }
+    ensures endpoint_field { ENDPOINT ≡ record { layer = layer.Urb; name = name.Endpoint; offset = 16 } }
+    ensures buffer_length_field { BUFFER_LENGTH ≡ record { layer = layer.Urb; name = name.BufferLength; offset = 24 } }
+    ensures actual_length_field { ACTUAL_LENGTH ≡ record { layer = layer.Urb; name = name.ActualLength; offset = 24 } }
+    ensures packets_field { PACKETS ≡ record { layer = layer.Urb; name = name.Packets; offset = 32 } }
 {}
 
 /// No request of an operation begins another, the bytes determine the requests and the rest, and what was
@@ -176,4 +201,62 @@ pub fn device_pieces_are_one_stream()
     ensures none_whole { (phase : DownPhase) (entries : List Outstanding) (calls : List down_pieces.Call) (end : down_fed.Held)
         → down_pieces.Calls (down_pieces.begun phase) calls end → end.bad ≡ None
         → down_fed.NoneWhole end.phase (down_pieces.last_entries entries calls) (down_fed.kept end) }
+{}
+
+/// A field is bad from its last byte on, whatever follows it, and not before.
+pub fn bad_fields_stay()
+    ensures request { AreBadFromTheirLast (up_fed.BadAt up_phase.Ops) }
+    ensures urb { (devid : ℕ) → AreBadFromTheirLast (up_fed.BadAt (up_phase.Urbs devid)) }
+    ensures part { (devices interfaces : ℕ) (entries : List Outstanding) → AreBadFromTheirLast (down_fed.BadAt (down_phase.Ops devices interfaces) entries) }
+    ensures answer { (entries : List Outstanding) → AreBadFromTheirLast (down_fed.BadAt down_phase.Urbs entries) }
+{}
+
+/// Each message in range has a spelling, the one that this product writes; each that has one is in range; and all its
+/// spellings have as many bytes.
+pub fn messages_have_spellings()
+    ensures request { HaveSpellings IsRequest written_request request_size SpellsRequest }
+    ensures urb { (devid : ℕ) → HaveSpellings (IsSent devid) sent_bytes sent_size (Spells devid) }
+    ensures part { (devices interfaces : ℕ) → HaveSpellings (IsPart devices interfaces) part_bytes part_size (SpellsPart devices interfaces) }
+    ensures answer { (asked : Asked) → HaveSpellings (IsAnswer asked) answer_bytes answer_size (downward.Spells asked) }
+{}
+
+/// Entries that are added behind the others, also while a part of an answer is held, make no message whole in that part
+/// and no field bad; and what was an answer is one still.
+pub fn entries_may_be_added()
+    ensures neither { (entries more : List Outstanding) (rest : List ℕ) → AreNeither (SpellsAnswer entries) (down_fed.BadAt down_phase.Urbs entries) rest
+        → AreNeither (SpellsAnswer (entries ++ more)) (down_fed.BadAt down_phase.Urbs (entries ++ more)) rest }
+    ensures answer { (entries more : List Outstanding) (message : Message) (bytes : List ℕ)
+        → SpellsAnswer entries message bytes → SpellsAnswer (entries ++ more) message bytes }
+{}
+
+/// Answers in a row, each to what the one before it left outstanding. The bytes determine the answers and the rest.
+/// Answers that were written are read again, whatever follows them, and go before each reading of what follows. Where
+/// the bytes of some begin those of others, so do the answers. Each list of bytes has a reading.
+pub fn answers_are_read_in_turn()
+    ensures determined { (awaited : List Awaited) (bytes : List ℕ) (messages others : List Message) (rest other : List ℕ)
+        → ReadsAnswers awaited bytes messages rest → ReadsAnswers awaited bytes others other → (messages ≡ others) × (rest ≡ other) }
+    ensures again { (awaited : List Awaited) (messages : List Message) (front tail : List ℕ) (all : List Message) (rest : List ℕ)
+        → SpellsAnswers awaited messages front → ReadsAnswers awaited (front ++ tail) all rest
+        → (others : List Message) × (all ≡ messages ++ others) × ReadsAnswers (left awaited messages) tail others rest }
+    ensures before { (awaited : List Awaited) (messages : List Message) (front tail : List ℕ) (others : List Message) (rest : List ℕ)
+        → SpellsAnswers awaited messages front → ReadsAnswers (left awaited messages) tail others rest
+        → ReadsAnswers awaited (front ++ tail) (messages ++ others) rest }
+    ensures begins { (awaited : List Awaited) (messages others : List Message) (front tail : List ℕ)
+        → SpellsAnswers awaited messages front → SpellsAnswers awaited others (front ++ tail)
+        → (more : List Message) × (others ≡ messages ++ more) × SpellsAnswers (left awaited messages) more tail }
+    ensures read { (awaited : List Awaited) (bytes : List ℕ) → IsBytes bytes
+        → (messages : List Message) × (rest : List ℕ) × ReadsAnswers awaited bytes messages rest }
+{}
+
+/// What an answer leaves outstanding: one to a submit all of other numbers; one to an unlink, of what was sent before the
+/// unlink, all but the submit that it named, and of what was sent later all of other numbers. Where no target is known,
+/// all of other numbers stay. What is sent is added behind.
+pub fn answers_take_out()
+    ensures submit { (awaited : List Awaited) (head : RetSubmitHead) (transferred : List ℕ)
+        → entries_of (left_by awaited (RetSubmit head transferred)) ≡ others head.seqnum (entries_of awaited) }
+    ensures unlink { (old later : List Awaited) (head : RetUnlinkHead) (target : ℕ) → find head.seqnum (entries_of old) ≡ None
+        → left_by (old ++ Unlink head.seqnum (Some target) ∷ later) (RetUnlink head) ≡ without target old ++ without head.seqnum later }
+    ensures unnamed { (awaited : List Awaited) (message : Message) → NameNone awaited
+        → entries_of (left_by awaited message) ≡ entries_left (entries_of awaited) message }
+    ensures added { (awaited more : List Awaited) → entries_of (awaited ++ more) ≡ entries_of awaited ++ entries_of more }
 {}

@@ -32,10 +32,11 @@ pub use down::{Down, DownStep};
 pub use down_reader::DownReader;
 pub use import_reply::put_import_reply;
 pub use laws::{
-    answers_are_determined, bad_fields_are_alone, bad_fields_are_refused, bad_is_the_first_refused,
+    answers_are_determined, answers_are_read_in_turn, answers_take_out, bad_fields_are_alone,
+    bad_fields_are_refused, bad_fields_stay, bad_is_the_first_refused,
     client_pieces_are_one_stream, device_lists_are_determined, device_pieces_are_one_stream,
-    good_bytes_go_on, numbers_are_the_protocols, parts_are_determined, requests_are_determined,
-    streams_are_read, urbs_are_determined,
+    entries_may_be_added, good_bytes_go_on, messages_have_spellings, numbers_are_the_protocols,
+    parts_are_determined, requests_are_determined, streams_are_read, urbs_are_determined,
 };
 pub use op_request::{OpRequest, put_op_request};
 pub use ret_submit::{RetSubmitHead, put_ret_submit};

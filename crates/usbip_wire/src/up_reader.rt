@@ -4,6 +4,7 @@ ghost use Rattle.std.specs.Prelude.{◌≡◌, ◌+◌, ◌≤◌, [], ◌++◌,
 ghost use Rattle.usbip_wire.specs.declared.up.UpPhase.TheVariants.{Ops, Urbs};
 ghost use Rattle.usbip_wire.specs.Given.{IsBytes};
 ghost use Rattle.usbip_wire.specs.UpFed.{Held, Fed, Answers, Judged, Ends, kept, data_of};
+ghost use Rattle.usbip_wire.specs.Urb.{message_max};
 
 use crate::reading::are_bytes;
 use crate::stop::Stop;
@@ -66,6 +67,7 @@ impl UpReader {
     pub fn feed(&mut self, piece: &[u8]) -> UpStep
         ensures { Fed self.old piece.now result self.new }
     {
+        self.know();
         if let Some(field) = self.bad {
             return UpStep {
                 used: 0,
@@ -101,8 +103,10 @@ impl UpReader {
     fn fill(&mut self, piece: &[u8]) -> UpStep
         requires good { self.old.bad ≡ None }
         requires unread { self.old.whole ≡ false }
-        ensures { Answers self.old.phase self.old.rest piece.now result.used result.what self.new }
+        ensures answers { Answers self.old.phase self.old.rest piece.now result.used result.what self.new }
+        ensures one_held { length self.new.rest ≤ message_max }
     {
+        self.know();
         let mut used = 0;
         loop {
             match self.judge() {
@@ -145,9 +149,17 @@ impl UpReader {
         Ok(what)
     }
 
+    /// What `u8` says of the bytes held, and how many there are at most.
+    fn know(&self)
+        ensures bytes { IsBytes self.now.rest }
+        ensures one_held { length self.now.rest ≤ message_max }
+    {
+        are_bytes(self.buf.as_slice());
+    }
+
     /// Holds these bytes too.
     fn add(&mut self, next: &[u8])
-        requires room { length self.old.rest + length next.now ≤ HELD_MAX }
+        requires room { length self.old.rest + length next.now ≤ message_max }
         requires ends { Ends self.old.phase (self.old.rest ++ next.now) }
         ensures { self.new ≡ record self.old { rest = self.old.rest ++ next.now } }
     {

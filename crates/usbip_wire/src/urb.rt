@@ -2,12 +2,13 @@ ghost use Rattle.std.specs.Prelude.{◌≡◌, ◌+◌, ◌*◌, ◌≤◌, ◌+
 ghost use Rattle.usbip_wire.specs.Urb.{fields, halves, direction_code};
 
 use bytes::BytesMut;
+use tmc_base::SUBMIT_MAX;
 
 /// The bytes in front of a URB message's data.
 pub const URB_HEADER: usize = 48;
 
 /// The longest message that a reader holds: a header, and the data of the longest submit.
-pub(crate) const HELD_MAX: usize = 70_048;
+pub(crate) const HELD_MAX: usize = URB_HEADER + SUBMIT_MAX as usize;
 
 /// The greatest endpoint number.
 pub const ENDPOINT_MAX: u32 = 15;

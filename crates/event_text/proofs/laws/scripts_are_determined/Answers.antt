@@ -4,7 +4,7 @@ use Rattle.event_text.proofs.Refused.{texts_one, refusals_one, not_both}
 use Rattle.event_text.proofs.laws.scripts_are_determined.Goals as goal
 
 -- what the calls below say
-laws_of : goal.After-bad_fields_are_alone → Lawful
+laws_of : goal.After-bad_fields_stay → Lawful
 laws_of c = record {
   requests = c.requests_are_determined.ensures.free;
   urbs = c.urbs_are_determined.ensures.free devid;
@@ -14,6 +14,10 @@ laws_of c = record {
   bad_urb = c.bad_fields_are_alone.ensures.urb devid;
   bad_part = c.bad_fields_are_alone.ensures.part;
   bad_answer = c.bad_fields_are_alone.ensures.answer;
+  request_stays = c.bad_fields_stay.ensures.request;
+  urb_stays = c.bad_fields_stay.ensures.urb devid;
+  part_stays = c.bad_fields_stay.ensures.part;
+  answer_stays = c.bad_fields_stay.ensures.answer;
 }
 
 pub returns-clause-text : goal.returns-clause-text

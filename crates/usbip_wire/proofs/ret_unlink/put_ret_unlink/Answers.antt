@@ -1,7 +1,7 @@
 use Rattle.std.proofs.Common.{◌≡◌, [], ◌∷◌, ◌++◌, replicate, ap, ◌∙◌, arith}
 use Rattle.std.proofs.lemmas.Int.{to_z-of_z}
 use Rattle.std.specs.Int.{w32, cast_unsigned}
-use Rattle.tmc_base.proofs.Appends.{two_appended}
+use Rattle.usbip_wire.proofs.Appends.{two_appended}
 use Rattle.usbip_wire.specs.declared.urb.TheConstants.{RET_UNLINK}
 use Rattle.usbip_wire.specs.Urb.{fields}
 use Rattle.usbip_wire.specs.RetUnlink.{ret_unlink_bytes}

@@ -1,7 +1,7 @@
 use Rattle.std.proofs.Common.{rules, inl, refl}
 use Rattle.usbip_wire.specs.Submit.{submit_bytes, submit_words, unused}
 use Rattle.usbip_wire.proofs.Wide.{each_wide}
-use Rattle.tmc_base.proofs.Appends.{three_appended}
+use Rattle.usbip_wire.proofs.Appends.{three_appended}
 use Rattle.usbip_wire.proofs.submit.put_submit.Goals as goal
 
 pub returns-clause-written : goal.returns-clause-written

@@ -1,4 +1,4 @@
-use Rattle.tmc_base.proofs.Appends.{two_appended}
+use Rattle.usbip_wire.proofs.Appends.{two_appended}
 use Rattle.usbip_wire.specs.Unlink.{unlink_bytes}
 use Rattle.usbip_wire.proofs.unlink.put_unlink.Goals as goal
 

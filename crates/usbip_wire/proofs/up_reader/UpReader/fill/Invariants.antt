@@ -1,10 +1,14 @@
 use Rattle.std.proofs.Common.{◌≡◌, ◌≤◌, ◌-◌, ◌++◌, length, take, None, false}
+use Rattle.usbip_wire.specs.Urb.{message_max}
+use Rattle.usbip_wire.proofs.UpFeeding.{EndsHere}
 use Rattle.usbip_wire.proofs.up_reader.UpReader.fill.Given as goal
 
 abbrev pub invariant-loop-what : goal.invariant-loop-what
 invariant-loop-what l = record {
   within : l.used ≤ length l.piece;
   held : l.self ≡ record { phase = l.fn.self.phase; rest = l.fn.self.rest ++ take l.used l.fn.piece; whole = false; bad = None };
+  edge : EndsHere l.fn.self.rest l.used l.self;
+  one_held : length l.self.rest ≤ message_max;
 }
 
 abbrev pub decreases-loop-what : goal.decreases-loop-what
