@@ -1,4 +1,4 @@
-use crate::{LineFault, LineWhat, put_shown};
+use crate::{LineFault, LineWhat, put_shown, script_limits_are_the_products};
 use std::alloc::Global;
 use std::process::Abort;
 use std::test::Fail;
