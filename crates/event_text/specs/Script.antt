@@ -8,6 +8,7 @@ use Rattle.usbip_wire.specs.declared.dirs.TheConstants.{DIRS_MAX}
 use Rattle.usbip_wire.specs.declared.urb.Dir.{Dir}
 use Rattle.usbip_wire.specs.declared.urb.Dir.TheVariants.{Out, In}
 use Rattle.usbip_wire.specs.Dirs.{find, number_of as seqnum_of}
+use Rattle.event_text.specs.declared.limits.TheConstants.{LINES_MOST, LINE_MOST}
 use Rattle.event_text.specs.declared.line_fault.LineWhat.{LineWhat}
 use Rattle.event_text.specs.declared.line_fault.LineWhat.TheVariants.{Unknown, Words, Number, Hex, TooLong, TooMany, Twice}
 use Rattle.event_text.specs.declared.script.Line.{Line}
@@ -23,10 +24,10 @@ need what (Some x) make = make x
 
 -- the most lines of a script, and the most bytes of a line without its NL
 abbrev pub lines_most : ℕ
-lines_most = 65536
+lines_most = LINES_MOST
 
 abbrev pub line_most : ℕ
-line_most = 16384
+line_most = LINE_MOST
 
 -- the number of a line, counted from 1, and its length are judged before its words
 abbrev pub judged : {A : Type 0} → ℕ → List ℕ → (List (List ℕ) → Result A LineWhat) → Result A LineWhat

@@ -4,6 +4,7 @@
 #![tactic(auto)]
 
 mod laws;
+mod limits;
 mod line_fault;
 mod line_stop;
 mod printed;
@@ -15,5 +16,6 @@ mod tests;
 mod words;
 
 pub use laws::{pieces_are_one_text, scripts_are_determined, words_spell_their_values};
+pub use limits::{LINE_MOST, LINES_MOST, script_limits_are_the_products};
 pub use line_fault::{LineFault, LineWhat};
 pub use shown::put_shown;

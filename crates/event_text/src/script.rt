@@ -6,18 +6,13 @@ ghost use Rattle.usbip_wire.specs.Dirs.{IsShort};
 ghost use Rattle.event_text.specs.Read.{IsRead, IsJudged, IsShortLine};
 ghost use Rattle.event_text.specs.Script.{phase_of, phase_said, first_words, first_said, dir_of, length_of, submit_said, unlink_said, bytes_said, later_words, later_said, lines_most};
 
+use crate::limits::{LINE_MOST, LINES_MOST};
 use crate::line_fault::LineWhat;
 use crate::line_stop::LineStop;
 use crate::words::{is, read_hex, read_number, words};
 use std::alloc::Global;
 use tmc_base::{Octets, SUBMIT_MAX};
 use usbip_wire::{Dir, Outstanding};
-
-/// The most lines of a script.
-const LINES_MOST: u32 = 65_536;
-
-/// The longest line, in bytes without its NL.
-const LINE_MOST: usize = 16_384;
 
 /// What a script is about.
 #[derive(Clone, Copy, Debug, PartialEq, Eq)]

@@ -1,4 +1,4 @@
-use crate::{LineFault, LineWhat, put_shown};
+use crate::{LineFault, LineWhat, put_shown, script_limits_are_the_products};
 use std::alloc::Global;
 use std::process::Abort;
 use std::test::Fail;
@@ -390,6 +390,7 @@ fn judges_a_line_by_its_length_first(rt: HostRuntime) -> Result<(), Fail> {
 
 #[test]
 fn takes_65536_lines(rt: HostRuntime) -> Result<(), Fail> {
+    script_limits_are_the_products();
     let mut source = Vec::from_slice(rt.alloc(), b"phase op\n")?;
     for _ in 0..65_535 {
         source.extend_from_slice(b"bytes -\n")?;

@@ -1,5 +1,5 @@
 -- bytes that go from a list to another in pieces
-use Rattle.std.proofs.Common.{◌≡◌, ℕ, ◌+◌, ◌≤◌, List, ◌++◌, length, take, drop, Option, Some, None, sym, ap, ◌∙◌, append_assoc, take-add}
+use Rattle.std.proofs.Common.{◌≡◌, ℕ, ◌+◌, ◌≤◌, List, ◌++◌, length, take, drop, Option, Some, None, refl, sym, ap, ◌∙◌, append_assoc, append-nil, take-add}
 use Rattle.std.proofs.lemmas.List.{take-append-drop, take_at, drop-drop, length-take-le}
 use Rattle.tmc_base.specs.Sink.{PutsFront, put_after}
 
@@ -9,6 +9,11 @@ left-copied all left buf copied at n begins copy fits =
     let size : length copied ≡ n = ap length copy ∙ length-take-le n left fits in
     sym (ap (λ xs. xs ++ drop (at + n) all) (take_at copied buf n size ∙ copy)
     ∙ (ap (λ xs. take n left ++ xs) (sym (drop-drop n at all) ∙ ap (drop n) (sym begins)) ∙ take-append-drop n left))
+
+-- what a sink was given before the first piece
+pub put_none : (old : Option (List ℕ)) (bytes : List ℕ) → old ≡ put_after (take 0 bytes) old
+put_none None bytes = refl
+put_none (Some put) bytes = ap (λ xs. Some xs) (sym (append-nil put))
 
 -- what a sink was given, after two pieces of one text
 pub put_further : (old mid new : Option (List ℕ)) (bytes : List ℕ) (at n : ℕ) → mid ≡ put_after (take at bytes) old → new ≡ put_after (take n (drop at bytes)) mid → new ≡ put_after (take (at + n) bytes) old

@@ -5,6 +5,6 @@ use Rattle.std.specs.Prelude.{ℕ, ◌+◌, ◌-◌, ◌^◌, ◌≤◌, min}
 abbrev pub raised : ℕ → ℕ
 raised count = min (count + 1) (2 ^ 64 - 1)
 
--- a count rose, or stands at the greatest `u64`
+-- a count rose, or stands at the greatest `u64`; it did not fall
 abbrev pub Rose : ℕ → ℕ → Type 0
-Rose before now = raised before ≤ now
+Rose before now = (raised before ≤ now) × (before ≤ now)

@@ -1,6 +1,9 @@
 pub mod Faults
 pub mod Source
 pub mod Sink
+pub mod Reading
+pub mod Writing
+pub mod Adapters
 pub mod FailPlan
 pub mod MemSource
 pub mod MemSink

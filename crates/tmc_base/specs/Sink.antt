@@ -21,7 +21,7 @@ put_after bytes put = option_map (λ before. before ++ bytes) put
 -- the count of faults rises at a failed write, and stands at every other
 abbrev pub WriteCounts : WriteStep → ℕ → ℕ → Type 0
 WriteCounts (Took n) before now = now ≡ before
-WriteCounts Failed before now = Rose before now × (before ≤ now)
+WriteCounts Failed before now = Rose before now
 
 -- the sink was given a front of these bytes, where it tells it
 pub record PutsFront (bytes : List ℕ) (old new : Option (List ℕ)) : Type 0 where

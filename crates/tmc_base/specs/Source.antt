@@ -36,4 +36,4 @@ ReadTells Failed buf old new = new ≡ old
 abbrev pub ReadCounts : ReadStep → ℕ → ℕ → Type 0
 ReadCounts (Got n) before now = now ≡ before
 ReadCounts End before now = now ≡ before
-ReadCounts Failed before now = Rose before now × (before ≤ now)
+ReadCounts Failed before now = Rose before now

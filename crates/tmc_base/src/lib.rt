@@ -1,7 +1,8 @@
 //! The traits of the outside, the limits of the bench link, and the small types that every layer shares.
 //!
 //! A [`Source`] gives bytes and a [`Sink`] takes them. Each counts its faults, and answers `Failed`
-//! exactly where that count rises. Implementations in memory tell what they hold; the adapters of
+//! exactly where that count rises. Each call goes by a relation of the object's own, so that a contract
+//! can say by which reads and writes a function went. Implementations in memory tell what they hold; the adapters of
 //! standard input and output tell nothing of content.
 #![tactic(auto)]
 
@@ -24,7 +25,7 @@ mod tests;
 mod writing;
 
 pub use field::{Field, Layer, Name};
-pub use limits::{BULK_IN_SUBMIT, RESPONSE_MAX, SUBMIT_MAX};
+pub use limits::{BULK_IN_SUBMIT, RESPONSE_MAX, SUBMIT_MAX, limits_are_the_products};
 pub use mem_sink::MemSink;
 pub use mem_source::MemSource;
 pub use memory::Memory;

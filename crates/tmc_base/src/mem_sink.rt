@@ -1,5 +1,4 @@
-ghost use Rattle.std.specs.Prelude.{◌≡◌, ◌<◌, length, take, [], IfOk};
-ghost use Rattle.tmc_base.specs.Sink.{IsWithin, WriteCounts, took_count, put_after};
+ghost use Rattle.std.specs.Prelude.{◌≡◌, ◌<◌, [], IfOk};
 
 use crate::fail_plan::FailPlan;
 use crate::faults::FaultCount;
@@ -63,13 +62,9 @@ impl Sink for MemSink {
 
     ghost faults = { λ s. s.faults };
 
-    fn write(&mut self, piece: &[u8]) -> WriteStep
-        requires { 0 < length piece.now }
-        ensures within { IsWithin result (length piece.now) }
-        ensures told { Some self.new.put ≡ put_after (take (took_count result) piece.now) (Some self.old.put) }
-        ensures counts { WriteCounts result self.old.faults self.new.faults }
-        ensures goes { Writes self.old piece.now result self.new }
-    {
+    ghost writes = { Writes };
+
+    fn write(&mut self, piece: &[u8]) -> WriteStep {
         let fails = self.plan.next_fails();
         if fails || self.room == 0 {
             self.faults.raise();

@@ -1,5 +1,4 @@
-ghost use Rattle.std.specs.Prelude.{◌≡◌, ◌<◌, length, []};
-ghost use Rattle.tmc_base.specs.Source.{IsWithin, ReadTells, ReadCounts};
+ghost use Rattle.std.specs.Prelude.{◌≡◌, ◌<◌, []};
 
 use crate::fail_plan::FailPlan;
 use crate::faults::FaultCount;
@@ -28,7 +27,7 @@ impl Model for MemSource {
 }
 
 impl MemSource {
-    ghost use Rattle.tmc_base.specs.MemSource.{Held, Reads};
+    ghost use Rattle.tmc_base.specs.MemSource.{Held};
 
     /// Gives `bytes` in pieces of at most `most` bytes. The calls in `fails`, counted from 1, fail; with
     /// none it never fails.
@@ -54,13 +53,9 @@ impl Source for MemSource {
 
     ghost faults = { λ s. s.faults };
 
-    fn read(&mut self, buf: &mut [u8]) -> ReadStep
-        requires { 0 < length buf.old }
-        ensures within { IsWithin result (length buf.old) }
-        ensures told { ReadTells result buf.new (Some self.old.left) (Some self.new.left) }
-        ensures counts { ReadCounts result self.old.faults self.new.faults }
-        ensures goes { Reads self.old (length buf.old) result self.new }
-    {
+    ghost reads = { Reads };
+
+    fn read(&mut self, buf: &mut [u8]) -> ReadStep {
         if self.plan.next_fails() {
             self.faults.raise();
             return ReadStep::Failed;

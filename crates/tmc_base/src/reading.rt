@@ -1,7 +1,8 @@
-ghost use Rattle.std.specs.Prelude.{◌≡◌, ◌<◌, ◌≤◌, length, IfOk, IfErr, OnErr, Err};
+ghost use Rattle.std.specs.Prelude.{◌≡◌, ◌<◌, ◌≤◌, ℕ, List, length, IfOk, Err};
 ghost use Rattle.tmc_base.specs.declared.reading.ReadFault.TheVariants.{Failed};
 ghost use Rattle.tmc_base.specs.Faults.{Rose};
 ghost use Rattle.tmc_base.specs.Source.{GivesFirst, HasEnded};
+ghost use Rattle.tmc_base.specs.Reading.{NoRead, AtEnd, AtFault, ReadRun, ReadsAtMost};
 
 use crate::{Memory, ReadStep, Source};
 use std::alloc::Global;
@@ -20,7 +21,8 @@ pub enum ReadFault {
 /// The most bytes that one read asks for.
 const PIECE: usize = 4_096;
 
-/// Reads a source until it ends or has given `most` bytes, and no byte more.
+/// Reads a source until it ends or has given `most` bytes, and no byte more. No read stands behind one that ended or
+/// failed.
 pub fn read_up_to<S: Source>(
     alloc: Global,
     source: &mut S,
@@ -32,6 +34,10 @@ pub fn read_up_to<S: Source>(
     ensures ok_counts { IfOk result (λ _. S.faults source.new ≡ S.faults source.old) }
     ensures failed { result ≡ Err Failed → Rose (S.faults source.old) (S.faults source.new) }
     ensures memory { result ≡ Err ReadFault.Memory → S.faults source.new ≡ S.faults source.old }
+    ensures short_run { IfOk result (λ bytes. length bytes.items < most → ReadRun S.reads source.old source.new AtEnd bytes.items) }
+    ensures full_run { IfOk result (λ bytes. length bytes.items ≡ most → ReadRun S.reads source.old source.new NoRead bytes.items) }
+    ensures failed_run { result ≡ Err Failed → ReadsAtMost most (ReadRun S.reads source.old source.new AtFault) }
+    ensures memory_run { result ≡ Err ReadFault.Memory → ReadsAtMost most (ReadRun S.reads source.old source.new NoRead) }
 {
     let mut bytes = Vec::new(alloc);
     let mut piece = [0u8; PIECE];
@@ -49,13 +55,16 @@ pub fn read_up_to<S: Source>(
     Ok(bytes)
 }
 
-/// Reads a source until it ends.
+/// Reads a source until it ends. No read stands behind one that ended or failed.
 pub fn read_all<S: Source>(alloc: Global, source: &mut S) -> Result<Vec<u8>, ReadFault>
     ensures first { IfOk result (λ bytes. GivesFirst bytes.items (S.left source.old) (S.left source.new)) }
     ensures ended { IfOk result (λ _. HasEnded (S.left source.new)) }
     ensures ok_counts { IfOk result (λ _. S.faults source.new ≡ S.faults source.old) }
     ensures failed { result ≡ Err Failed → Rose (S.faults source.old) (S.faults source.new) }
     ensures memory { result ≡ Err ReadFault.Memory → S.faults source.new ≡ S.faults source.old }
+    ensures ok_run { IfOk result (λ bytes. ReadRun S.reads source.old source.new AtEnd bytes.items) }
+    ensures failed_run { result ≡ Err Failed → (bytes : List ℕ) × ReadRun S.reads source.old source.new AtFault bytes }
+    ensures memory_run { result ≡ Err ReadFault.Memory → (bytes : List ℕ) × ReadRun S.reads source.old source.new NoRead bytes }
 {
     // No `Vec` has so many bytes, so the source ends before it has given them.
     read_up_to(alloc, source, usize::MAX)

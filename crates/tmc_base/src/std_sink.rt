@@ -1,4 +1,6 @@
-ghost use Rattle.std.specs.Prelude.{◌≡◌};
+ghost use Rattle.std.specs.Prelude.{◌≡◌, ◌<◌, length};
+ghost use Rattle.tmc_base.specs.Adapters.{WriterTook};
+ghost use Rattle.tmc_base.specs.Sink.{IsWithin, WriteCounts};
 
 use crate::faults::FaultCount;
 use crate::{Sink, WriteStep};
@@ -40,13 +42,25 @@ impl Sink for StdSink {
 
     ghost faults = { λ s. s };
 
+    ghost writes = { λ _ _ _ _. Unit {0} };
+
     fn write(&mut self, piece: &[u8]) -> WriteStep {
-        match self.output.write(piece) {
-            Ok(n) if n > 0 => WriteStep::Took(n),
-            _ => {
-                self.faults.raise();
-                WriteStep::Failed
-            }
+        write_to(&mut self.output, &mut self.faults, piece)
+    }
+}
+
+/// One write to a writer of std.
+pub(crate) fn write_to<W: Write>(output: &mut W, faults: &mut FaultCount, piece: &[u8]) -> WriteStep
+    requires { 0 < length piece.now }
+    ensures within { IsWithin result (length piece.now) }
+    ensures took { WriterTook result piece.now (W.contents output.old) (W.contents output.new) }
+    ensures counts { WriteCounts result faults.old faults.new }
+{
+    match output.write(piece) {
+        Ok(n) if n > 0 => WriteStep::Took(n),
+        _ => {
+            faults.raise();
+            WriteStep::Failed
         }
     }
 }

@@ -1,4 +1,6 @@
-ghost use Rattle.std.specs.Prelude.{◌≡◌};
+ghost use Rattle.std.specs.Prelude.{◌≡◌, ◌<◌, length};
+ghost use Rattle.tmc_base.specs.Adapters.{ReaderGave};
+ghost use Rattle.tmc_base.specs.Source.{IsWithin, ReadCounts};
 
 use crate::faults::FaultCount;
 use crate::{ReadStep, Source};
@@ -38,14 +40,26 @@ impl Source for StdSource {
 
     ghost faults = { λ s. s };
 
+    ghost reads = { λ _ _ _ _ _. Unit {0} };
+
     fn read(&mut self, buf: &mut [u8]) -> ReadStep {
-        match self.input.read(buf) {
-            Ok(0) => ReadStep::End,
-            Ok(n) => ReadStep::Got(n),
-            Err(_) => {
-                self.faults.raise();
-                ReadStep::Failed
-            }
+        read_from(&mut self.input, &mut self.faults, buf)
+    }
+}
+
+/// One read of a reader of std.
+pub(crate) fn read_from<R: Read>(input: &mut R, faults: &mut FaultCount, buf: &mut [u8]) -> ReadStep
+    requires { 0 < length buf.old }
+    ensures within { IsWithin result (length buf.old) }
+    ensures gave { ReaderGave result buf.new (R.remaining input.old) (R.remaining input.new) }
+    ensures counts { ReadCounts result faults.old faults.new }
+{
+    match input.read(buf) {
+        Ok(0) => ReadStep::End,
+        Ok(n) => ReadStep::Got(n),
+        Err(_) => {
+            faults.raise();
+            ReadStep::Failed
         }
     }
 }

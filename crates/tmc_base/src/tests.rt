@@ -1,3 +1,6 @@
+use crate::faults::FaultCount;
+use crate::std_sink::write_to;
+use crate::std_source::read_from;
 use crate::*;
 use std::test::Fail;
 
@@ -70,6 +73,58 @@ fn writes_all_or_a_front(rt: HostRuntime) -> Result<(), Fail> {
     let mut sink = MemSink::new(rt.alloc(), 9, 2, fails)?;
     assert!(rt; !write_all(&mut sink, b"abcde"));
     assert_eq!(rt; sink.bytes(), b"abcd".as_slice());
+    Ok(())
+}
+
+#[test]
+fn reads_no_more_behind_the_end(rt: HostRuntime) -> Result<(), Fail> {
+    let fails = [3].to_vec(rt.alloc())?;
+    let mut source = MemSource::new(b"abcde".to_vec(rt.alloc())?, 5, fails);
+    assert_eq!(rt; read_all(rt.alloc(), &mut source)?.len(), 5);
+    assert_eq!(rt; source.read(&mut [0]), ReadStep::Failed, "the third read");
+    Ok(())
+}
+
+#[test]
+fn writes_no_more_behind_a_fault(rt: HostRuntime) -> Result<(), Fail> {
+    let fails = [2, 3].to_vec(rt.alloc())?;
+    let mut sink = MemSink::new(rt.alloc(), 9, 4, fails)?;
+    assert!(rt; !write_all(&mut sink, b"abcde"));
+    assert_eq!(rt; sink.write(b"e"), WriteStep::Failed, "the third write");
+    Ok(())
+}
+
+#[test]
+fn reader_gives_pieces_and_its_end(rt: HostRuntime) -> Result<(), Fail> {
+    let mut input = b"abc".as_slice();
+    let mut faults = FaultCount::new();
+    let mut buf = [0; 2];
+    assert_eq!(rt;
+        read_from(&mut input, &mut faults, &mut buf),
+        ReadStep::Got(2)
+    );
+    assert_eq!(rt; &buf, b"ab");
+    assert_eq!(rt;
+        read_from(&mut input, &mut faults, &mut buf),
+        ReadStep::Got(1)
+    );
+    assert_eq!(rt; buf[0], b'c');
+    assert_eq!(rt; read_from(&mut input, &mut faults, &mut buf), ReadStep::End);
+    Ok(())
+}
+
+#[test]
+fn writer_takes_a_piece_or_fails_where_it_is_full(rt: HostRuntime) -> Result<(), Fail> {
+    let mut room = [0; 2];
+    let mut output = room.as_mut_slice();
+    let mut faults = FaultCount::new();
+    assert_eq!(rt;
+        write_to(&mut output, &mut faults, b"abc"),
+        WriteStep::Took(2)
+    );
+    assert_eq!(rt; write_to(&mut output, &mut faults, b"c"), WriteStep::Failed);
+    assert_eq!(rt; &room, b"ab");
+    limits_are_the_products();
     Ok(())
 }
 

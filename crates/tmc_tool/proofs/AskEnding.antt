@@ -1,17 +1,18 @@
 -- how `ask` ends
-use Rattle.std.proofs.Common.{◌≡◌, inl, inr, ⊎_elim, ℕ, ◌<◌, List, [], ◌∷◌, length, refl, subst, arith}
+use Rattle.std.proofs.Common.{◌≡◌, ◌⊎◌, inl, inr, ⊎_elim, ℕ, ◌<◌, ◌≤◌, Bool, List, [], ◌∷◌, length, refl, subst, arith}
 use Rattle.std.proofs.lemmas.Bool.{cases_lt}
 use Rattle.tmc_base.specs.Source.{GivesFirst, HasEnded}
+use Rattle.tmc_base.specs.Reading.{Last, NoRead, AtEnd}
 use Rattle.event_text.specs.declared.line_fault.LineWhat.{LineWhat}
 use Rattle.event_text.specs.declared.line_fault.LineWhat.TheVariants.{Words, EmptyMessage, LongMessage, NotYet}
 use Rattle.tmc_tool.specs.declared.status.Status.{Status}
 use Rattle.tmc_tool.specs.declared.command.Command.TheVariants.{Ask}
 use Rattle.tmc_tool.specs.Command.{words_of}
-use Rattle.tmc_tool.specs.Line.{IsFirstLine, IsAsked, IsQuestion, IsRefused}
+use Rattle.tmc_tool.specs.Line.{IsFirstLine, IsAsked, IsQuestion, IsRefused, line_most}
 use Rattle.tmc_tool.specs.Judged.{IsWrong}
-use Rattle.tmc_tool.specs.Tool.{Outside, ReadsLine, ReadsAll, Ends, PrintsReport, PrintsRefusal}
+use Rattle.tmc_tool.specs.Tool.{Outside, ReadsLine, ReadsAll, ReadsSome, Ends, PrintsReport, PrintsRefusal}
 use Rattle.tmc_tool.proofs.FirstLine.{line_size}
-use Rattle.tmc_tool.proofs.Ending.{made_ends, memory_ends, refused_ends}
+use Rattle.tmc_tool.proofs.Ending.{made_ends, memory_ends, some_read, refused_ends}
 
 -- a list without elements
 empty : (xs : List ℕ) → length xs ≡ 0 → xs ≡ []
@@ -19,16 +20,23 @@ empty [] e = refl
 empty (x ∷ xs) e = absurd (omega (arith, e))
 
 -- what was read of a source, as a call of `read_up_to` tells it
-pub record Reads (bytes : List ℕ) (before after : Outside) : Type 0 where
+pub record Reads (reads : Last → List ℕ → Type 0) (bytes : List ℕ) (before after : Outside) : Type 0 where
   pub first : GivesFirst bytes before.left after.left
-  pub ended : length bytes < 4098 → HasEnded after.left
+  pub most : length bytes ≤ line_most
+  pub ended : length bytes < line_most → HasEnded after.left
+  pub short_run : length bytes < line_most → reads AtEnd bytes
+  pub full_run : length bytes ≡ line_most → reads NoRead bytes
   pub counts : after.read_faults ≡ before.read_faults
 
-reads_line : (bytes : List ℕ) (before after : Outside) → Reads bytes before after → ReadsLine bytes before after
-reads_line bytes before after reads = record {
-  first = reads.first;
-  enough = ⊎_elim (λ short. inl (reads.ended short)) (λ long. inr long) (cases_lt (length bytes) 4098);
-  counts = reads.counts;
+reads_line : (reads : Last → List ℕ → Type 0) (bytes : List ℕ) (before after : Outside) → Reads reads bytes before after → ReadsLine reads bytes before after
+reads_line reads bytes before after read = record {
+  first = read.first;
+  most = read.most;
+  enough =
+      ⊎_elim (λ short. inl (read.ended short, read.short_run short))
+      (λ long. let full : length bytes ≡ line_most = omega (arith, long, read.most) in inr (full, read.full_run full))
+      (cases_lt (length bytes) line_most);
+  counts = read.counts;
 }
 
 -- what is wrong with a line is why its bytes are refused
@@ -39,19 +47,26 @@ refused_by bytes message behind line LongMessage first wrong = (wrong.0, (messag
 refused_by bytes message behind line NotYet first wrong = (wrong.0, (message, behind, first, wrong.1, wrong.2, wrong.3))
 refused_by bytes message behind line what first wrong = absurd wrong
 
-pub refusal_ends : (before after : Outside) (bytes message behind : List ℕ) (line : ℕ) (what : LineWhat) (result : Status) → Reads bytes before after
-    → IsFirstLine bytes message behind → IsWrong message behind line what
-    → PrintsRefusal line what result before.put before.write_faults after.put after.write_faults → Ends (words_of Ask) result before after
-refusal_ends before after bytes message behind line what result reads first wrong printed =
-    refused_ends Ask before after bytes line what result (reads_line bytes before after reads) reads.counts (refused_by bytes message behind line what first wrong) printed
+pub refusal_ends : (reads : Last → List ℕ → Type 0) (writes : Bool → List ℕ → Type 0) (before after : Outside) (bytes message behind : List ℕ) (line : ℕ) (what : LineWhat) (result : Status)
+    → Reads reads bytes before after → IsFirstLine bytes message behind → IsWrong message behind line what
+    → PrintsRefusal writes line what result before.put before.write_faults after.put after.write_faults → Ends reads writes (words_of Ask) result before after
+refusal_ends reads writes before after bytes message behind line what result read first wrong printed =
+    refused_ends reads writes Ask before after bytes line what result (reads_line reads bytes before after read) read.counts
+    (refused_by bytes message behind line what first wrong) printed
 
-pub report_ends : (before after : Outside) (bytes message behind response : List ℕ) (result : Status) → Reads bytes before after
-    → IsFirstLine bytes message behind → length behind ≡ 0 → IsAsked message response
-    → PrintsReport message response result before.put before.write_faults after.put after.write_faults → Ends (words_of Ask) result before after
-report_ends before after bytes message behind response result reads first alone asked (inl writes) =
+pub report_ends : (reads : Last → List ℕ → Type 0) (writes : Bool → List ℕ → Type 0) (before after : Outside) (bytes message behind response : List ℕ) (result : Status)
+    → Reads reads bytes before after → IsFirstLine bytes message behind → length behind ≡ 0 → IsAsked message response
+    → PrintsReport writes message response result before.put before.write_faults after.put after.write_faults → Ends reads writes (words_of Ask) result before after
+report_ends reads writes before after bytes message behind response result read first alone asked (inl written) =
     let line : IsFirstLine bytes message [] = subst (λ b. IsFirstLine bytes message b) (empty behind alone) first in
-    let short : length bytes < 4098 = omega (arith, line_size bytes message line, asked.short) in
+    let short : length bytes < line_most = omega (arith, line_size bytes message line, asked.short) in
     let question : IsQuestion bytes message response = record { line = line; asked = asked } in
-    let all : ReadsAll bytes before after = record { first = reads.first; ended = reads.ended short; counts = reads.counts } in
-    made_ends Ask before after bytes writes.0 result all (writes.1 bytes question) writes.2
-report_ends before after bytes message behind response result reads first alone asked (inr wanting) = memory_ends Ask before after result reads.counts wanting
+    let all : ReadsAll reads bytes before after = record { first = read.first; ended = read.ended short; run = read.short_run short; counts = read.counts } in
+    made_ends reads writes Ask before after bytes written.0 result all (written.1 bytes question) written.2
+report_ends reads writes before after bytes message behind response result read first alone asked (inr wanting) =
+    memory_ends reads writes Ask before after result (some_read reads Ask before after bytes (reads_line reads bytes before after read)) read.counts wanting
+
+-- memory was wanting for the response of a line
+pub wanting_ends : (reads : Last → List ℕ → Type 0) (bytes : List ℕ) (before after : Outside) → Reads reads bytes before after
+    → ReadsSome reads (words_of Ask) NoRead ⊎ ReadsSome reads (words_of Ask) AtEnd
+wanting_ends reads bytes before after read = some_read reads Ask before after bytes (reads_line reads bytes before after read)

@@ -1,7 +1,8 @@
 -- which status comes of which words and which bytes
-use Rattle.std.proofs.Common.{◌≡◌, ◌⊎◌, inl, inr, ⊎_elim, ℕ, ◌≤◌, List, ◌++◌, length, refl, sym, ap, ◌∙◌, subst, arith, length-append, append-nil, Option, Some}
+use Rattle.std.proofs.Common.{◌≡◌, ◌⊎◌, inl, inr, ⊎_elim, ℕ, ◌≤◌, Bool, List, ◌++◌, length, refl, sym, ap, ◌∙◌, subst, arith, length-append, append-nil, Option, Some}
 use Rattle.tmc_base.specs.Faults.{Rose}
 use Rattle.tmc_base.specs.Source.{GivesFirst, HasEnded}
+use Rattle.tmc_base.specs.Reading.{Last}
 use Rattle.usbip_wire.specs.declared.urb.Dir.{Dir}
 use Rattle.event_text.specs.declared.line_fault.LineWhat.{LineWhat}
 use Rattle.event_text.specs.Shown as script
@@ -50,55 +51,56 @@ front_in bytes first before after told gives keeps =
     front_keeps first parts.0 (subst KeepsLimits parts.1 keeps)
 
 -- where enough was read to refuse bytes that are taken, it was all of them
-enough_read : (command : Command) (bytes first : List ℕ) (before after : Outside) → before.left ≡ Some bytes → ReadsEnough command first before after
+enough_read : (reads : Last → List ℕ → Type 0) (command : Command) (bytes first : List ℕ) (before after : Outside) → before.left ≡ Some bytes → ReadsEnough reads command first before after
     → Takes command bytes → bytes ≡ first
-enough_read Ask bytes first before after told reads takes =
+enough_read reads Ask bytes first before after told read takes =
     ⊎_elim
-    (λ ended. all_read bytes first before.left after.left told reads.first ended)
-    (λ long. absurd (omega (arith, long, not_shorter bytes first before.left after.left told reads.first, line_size bytes takes.0 takes.2.line, takes.2.asked.short)))
-    reads.enough
-enough_read (Show way) bytes first before after told reads takes =
+    (λ ended. all_read bytes first before.left after.left told read.first ended.0)
+    (λ long. absurd (omega (arith, long.0, not_shorter bytes first before.left after.left told read.first, line_size bytes takes.0 takes.2.line, takes.2.asked.short)))
+    read.enough
+enough_read reads (Show way) bytes first before after told read takes =
     ⊎_elim
-    (λ ended. all_read bytes first before.left after.left told reads.first ended)
-    (λ passed. absurd (passed (front_in bytes first before.left after.left told reads.first (shown_keeps way bytes takes.0 takes.1))))
-    reads.enough
+    (λ ended. all_read bytes first before.left after.left told read.first ended.0)
+    (λ passed. absurd (passed.0 (front_in bytes first before.left after.left told read.first (shown_keeps way bytes takes.0 takes.1))))
+    read.enough
 
-pub ends_usage : (words : List (List ℕ)) (status : Status) (before after : Outside) → Ends words status before after
+pub ends_usage : (reads : Last → List ℕ → Type 0) (writes : Bool → List ℕ → Type 0) (words : List (List ℕ)) (status : Status) (before after : Outside) → Ends reads writes words status before after
     → (IsCommand words → ⊥) → (Rose before.write_faults after.write_faults → ⊥) → code_of status ≡ 1
-ends_usage words Printed before after e others calm = absurd (others (e.1.0, e.1.1))
-ends_usage words Usage before after e others calm = refl
-ends_usage words Refused before after e others calm = absurd (others (e.1.0, e.1.1))
-ends_usage words SourceFault before after e others calm = absurd (others e.0)
-ends_usage words SinkFault before after e others calm = absurd (calm e.0)
-ends_usage words NoMemory before after e others calm = absurd (others e.0)
+ends_usage reads writes words Printed before after e others calm = absurd (others (e.1.0, e.1.1))
+ends_usage reads writes words Usage before after e others calm = refl
+ends_usage reads writes words Refused before after e others calm = absurd (others (e.1.0, e.1.1))
+ends_usage reads writes words SourceFault before after e others calm = absurd (others (e.0.0, e.0.1))
+ends_usage reads writes words SinkFault before after e others calm = absurd (calm e.0)
+ends_usage reads writes words NoMemory before after e others calm =
+    absurd (⊎_elim (λ some. others (some.0, some.1)) (λ some. others (some.0, some.1)) e.0)
 
-pub ends_refused : Laws → (words : List (List ℕ)) (command : Command) (status : Status) (before after : Outside) (bytes : List ℕ) (line : ℕ) (what : LineWhat)
-    → Ends words status before after → words ≡ words_of command → before.left ≡ Some bytes → Refuses command bytes line what
+pub ends_refused : Laws → (reads : Last → List ℕ → Type 0) (writes : Bool → List ℕ → Type 0) (words : List (List ℕ)) (command : Command) (status : Status) (before after : Outside) (bytes : List ℕ) (line : ℕ) (what : LineWhat)
+    → Ends reads writes words status before after → words ≡ words_of command → before.left ≡ Some bytes → Refuses command bytes line what
     → (Rose before.read_faults after.read_faults → ⊥) → (Rose before.write_faults after.write_faults → ⊥) → (code_of status ≡ 2) ⊎ (code_of status ≡ 5)
-ends_refused laws words command Printed before after bytes line what e named told refused calm_source calm_sink =
+ends_refused laws reads writes words command Printed before after bytes line what e named told refused calm_source calm_sink =
     let due = e.1 in
     let same : due.0 ≡ command = same_command due.0 command (sym due.1 ∙ named) in
     let whole : bytes ≡ due.2 = all_read bytes due.2 before.left after.left told due.3.first due.3.ended in
     let made : Makes command due.2 e.0 = subst (λ c. Makes c due.2 e.0) same due.4 in
     absurd (not_both laws command due.2 line what (takes_made command due.2 e.0 made) (subst (λ bs. Refuses command bs line what) whole refused))
-ends_refused laws words command Usage before after bytes line what e named told refused calm_source calm_sink = absurd (e.1.0 (command, named))
-ends_refused laws words command Refused before after bytes line what e named told refused calm_source calm_sink = inl refl
-ends_refused laws words command SourceFault before after bytes line what e named told refused calm_source calm_sink = absurd (calm_source e.1)
-ends_refused laws words command SinkFault before after bytes line what e named told refused calm_source calm_sink = absurd (calm_sink e.0)
-ends_refused laws words command NoMemory before after bytes line what e named told refused calm_source calm_sink = inr refl
+ends_refused laws reads writes words command Usage before after bytes line what e named told refused calm_source calm_sink = absurd (e.1.0 (command, named))
+ends_refused laws reads writes words command Refused before after bytes line what e named told refused calm_source calm_sink = inl refl
+ends_refused laws reads writes words command SourceFault before after bytes line what e named told refused calm_source calm_sink = absurd (calm_source e.1)
+ends_refused laws reads writes words command SinkFault before after bytes line what e named told refused calm_source calm_sink = absurd (calm_sink e.0)
+ends_refused laws reads writes words command NoMemory before after bytes line what e named told refused calm_source calm_sink = inr refl
 
-pub ends_printed : Laws → (words : List (List ℕ)) (command : Command) (status : Status) (before after : Outside) (bytes : List ℕ)
-    → Ends words status before after → words ≡ words_of command → before.left ≡ Some bytes → Takes command bytes
+pub ends_printed : Laws → (reads : Last → List ℕ → Type 0) (writes : Bool → List ℕ → Type 0) (words : List (List ℕ)) (command : Command) (status : Status) (before after : Outside) (bytes : List ℕ)
+    → Ends reads writes words status before after → words ≡ words_of command → before.left ≡ Some bytes → Takes command bytes
     → (Rose before.read_faults after.read_faults → ⊥) → (Rose before.write_faults after.write_faults → ⊥) → (code_of status ≡ 0) ⊎ (code_of status ≡ 5)
-ends_printed laws words command Printed before after bytes e named told takes calm_source calm_sink = inl refl
-ends_printed laws words command Usage before after bytes e named told takes calm_source calm_sink = absurd (e.1.0 (command, named))
-ends_printed laws words command Refused before after bytes e named told takes calm_source calm_sink =
+ends_printed laws reads writes words command Printed before after bytes e named told takes calm_source calm_sink = inl refl
+ends_printed laws reads writes words command Usage before after bytes e named told takes calm_source calm_sink = absurd (e.1.0 (command, named))
+ends_printed laws reads writes words command Refused before after bytes e named told takes calm_source calm_sink =
     let due = e.1 in
     let same : due.0 ≡ command = same_command due.0 command (sym due.1 ∙ named) in
-    let reads : ReadsEnough command due.2 before after = subst (λ c. ReadsEnough c due.2 before after) same due.5 in
-    let whole : bytes ≡ due.2 = enough_read command bytes due.2 before after told reads takes in
+    let read : ReadsEnough reads command due.2 before after = subst (λ c. ReadsEnough reads c due.2 before after) same due.5 in
+    let whole : bytes ≡ due.2 = enough_read reads command bytes due.2 before after told read takes in
     let refused : Refuses command due.2 due.3 due.4 = subst (λ c. Refuses c due.2 due.3 due.4) same due.6 in
     absurd (not_both laws command bytes due.3 due.4 takes (subst (λ bs. Refuses command bs due.3 due.4) (sym whole) refused))
-ends_printed laws words command SourceFault before after bytes e named told takes calm_source calm_sink = absurd (calm_source e.1)
-ends_printed laws words command SinkFault before after bytes e named told takes calm_source calm_sink = absurd (calm_sink e.0)
-ends_printed laws words command NoMemory before after bytes e named told takes calm_source calm_sink = inr refl
+ends_printed laws reads writes words command SourceFault before after bytes e named told takes calm_source calm_sink = absurd (calm_source e.1)
+ends_printed laws reads writes words command SinkFault before after bytes e named told takes calm_source calm_sink = absurd (calm_sink e.0)
+ends_printed laws reads writes words command NoMemory before after bytes e named told takes calm_source calm_sink = inr refl

@@ -6,3 +6,4 @@ pub mod Ending
 pub mod AskEnding
 pub mod Causes
 pub mod Limits
+pub mod Runs

@@ -7,7 +7,7 @@ use Rattle.tmc_base.specs.Source.{GivesFirst}
 use Rattle.usbip_wire.specs.declared.urb.Dir.{Dir}
 use Rattle.event_text.specs.declared.line_fault.LineWhat.{LineWhat}
 use Rattle.event_text.specs.declared.line_fault.LineWhat.TheVariants.{TooLong, TooMany}
-use Rattle.event_text.specs.Script.{judged, later_words, first_words, Say}
+use Rattle.event_text.specs.Script.{lines_most, line_most, judged, later_words, first_words, Say}
 use Rattle.event_text.specs.Shown.{ShownOf}
 use Rattle.event_text.specs.Words.{lines_of, words_of}
 use Rattle.tmc_tool.specs.Script.{IsShortLine, KeepsLimits, PassesLimit, IsBounded, IsInside, IsAt, Stands}
@@ -107,7 +107,7 @@ some_behind [] byte = some_line byte []
 some_behind (first ∷ line) byte = some_line first (line ++ byte ∷ [])
 
 -- behind an NL
-pub behind_nl : (bytes : List ℕ) (ended begun : ℕ) → ended < 65536 → IsAt bytes ended begun → IsAt (bytes ++ 10 ∷ []) (ended + 1) 0
+pub behind_nl : (bytes : List ℕ) (ended begun : ℕ) → ended < lines_most → IsAt bytes ended begun → IsAt (bytes ++ 10 ∷ []) (ended + 1) 0
 behind_nl bytes ended begun below at = record {
   lines = at.lines ++ at.line ∷ [];
   line = [];
@@ -124,7 +124,7 @@ behind_nl bytes ended begun below at = record {
 }
 
 -- behind another byte
-pub behind_inside : (bytes : List ℕ) (byte ended begun : ℕ) → ended < 65536 → begun < 16384 → IsInside byte → IsAt bytes ended begun
+pub behind_inside : (bytes : List ℕ) (byte ended begun : ℕ) → ended < lines_most → begun < line_most → IsInside byte → IsAt bytes ended begun
     → IsAt (bytes ++ byte ∷ []) ended (begun + 1)
 behind_inside bytes byte ended begun below fits inside at = record {
   lines = at.lines;
@@ -146,12 +146,12 @@ last_of P [] x each = each.0
 last_of P (y ∷ xs) x each = last_of P xs x each.1
 
 -- a byte behind the last line that a script may have
-pub past_lines : (bytes : List ℕ) (byte ended begun : ℕ) → 65536 ≤ ended → IsAt bytes ended begun → PassesLimit (bytes ++ byte ∷ [])
+pub past_lines : (bytes : List ℕ) (byte ended begun : ℕ) → lines_most ≤ ended → IsAt bytes ended begun → PassesLimit (bytes ++ byte ∷ [])
 past_lines bytes byte ended begun above at = λ keeps.
     absurd (omega (arith, keeps.0, ap length (at.cut (byte ∷ [])), length-append at.lines (lines_of (at.line ++ byte ∷ [])), some_behind at.line byte, at.many, above))
 
 -- a byte behind the longest line
-pub past_line : (bytes : List ℕ) (byte ended begun : ℕ) → 16384 ≤ begun → IsInside byte → IsAt bytes ended begun → PassesLimit (bytes ++ byte ∷ [])
+pub past_line : (bytes : List ℕ) (byte ended begun : ℕ) → line_most ≤ begun → IsInside byte → IsAt bytes ended begun → PassesLimit (bytes ++ byte ∷ [])
 past_line bytes byte ended begun above inside at = λ keeps.
     let line : List ℕ = at.line ++ byte ∷ [] in
     let size : length line ≡ length at.line + 1 = omega (arith, length-append at.line (byte ∷ [])) in
@@ -161,13 +161,13 @@ past_line bytes byte ended begun above inside at = λ keeps.
     absurd (omega (arith, short, size, at.size, above))
 
 -- what the lines that are ended and the next one keep
-keeps_line : (lines : List (List ℕ)) (line : List ℕ) → AllByRecursion IsInside line → AllByRecursion IsShortLine lines → length line ≤ 16384
-    → length lines ≤ 65536 → (0 < length line → length lines < 65536)
-    → (length (lines ++ lines_of line) ≤ 65536) × AllByRecursion IsShortLine (lines ++ lines_of line)
-keeps_line lines [] inside each short few room = subst (λ xs. (length xs ≤ 65536) × AllByRecursion IsShortLine xs) (sym (append-nil lines)) (few, each)
+keeps_line : (lines : List (List ℕ)) (line : List ℕ) → AllByRecursion IsInside line → AllByRecursion IsShortLine lines → length line ≤ line_most
+    → length lines ≤ lines_most → (0 < length line → length lines < lines_most)
+    → (length (lines ++ lines_of line) ≤ lines_most) × AllByRecursion IsShortLine (lines ++ lines_of line)
+keeps_line lines [] inside each short few room = subst (λ xs. (length xs ≤ lines_most) × AllByRecursion IsShortLine xs) (sym (append-nil lines)) (few, each)
 keeps_line lines (byte ∷ line) inside each short few room =
     let alone : lines_of (byte ∷ line) ≡ (byte ∷ line) ∷ [] = one_line (byte ∷ line) inside (omega arith) in
-    subst (λ xs. (length (lines ++ xs) ≤ 65536) × AllByRecursion IsShortLine (lines ++ xs)) (sym alone)
+    subst (λ xs. (length (lines ++ xs) ≤ lines_most) × AllByRecursion IsShortLine (lines ++ xs)) (sym alone)
     (omega (arith, room (omega arith), length-append lines ((byte ∷ line) ∷ [])), each-push IsShortLine lines (byte ∷ line) each short)
 
 -- within the limits
@@ -175,7 +175,7 @@ pub within_keeps : (bytes : List ℕ) (ended begun : ℕ) → IsAt bytes ended b
 within_keeps bytes ended begun at =
     let all : lines_of bytes ≡ at.lines ++ lines_of at.line =
     sym (ap lines_of (append-nil bytes)) ∙ (at.cut [] ∙ ap (λ xs. at.lines ++ lines_of xs) (append-nil at.line)) in
-    subst (λ xs. (length xs ≤ 65536) × AllByRecursion IsShortLine xs) (sym all)
+    subst (λ xs. (length xs ≤ lines_most) × AllByRecursion IsShortLine xs) (sym all)
     (keeps_line at.lines at.line at.inside at.each (omega (arith, at.size, at.short)) (omega (arith, at.many, at.few))
     (λ some. omega (arith, at.room (omega (arith, some, at.size)), at.many)))
 
@@ -187,18 +187,18 @@ judged_by false true said x e = absurd (cc e)
 judged_by false false said x e = (refl, refl)
 
 -- a line that says something is within the limits
-judged_keeps : {A : Type 0} → (number : ℕ) (line : List ℕ) (say : List (List ℕ) → Result A LineWhat) (x : A) → judged number line say ≡ Ok x → (number ≤ 65536) × (length line ≤ 16384)
+judged_keeps : {A : Type 0} → (number : ℕ) (line : List ℕ) (say : List (List ℕ) → Result A LineWhat) (x : A) → judged number line say ≡ Ok x → (number ≤ lines_most) × (length line ≤ line_most)
 judged_keeps number line say x e =
-    let tests = judged_by (ltb 65536 number) (ltb 16384 (length line)) (say (words_of line)) x e in
-    (ltb-false 65536 number tests.0, ltb-false 16384 (length line) tests.1)
+    let tests = judged_by (ltb lines_most number) (ltb line_most (length line)) (say (words_of line)) x e in
+    (ltb-false lines_most number tests.0, ltb-false line_most (length line) tests.1)
 
 -- lines that say something each, whatever they say, where the numbers begin here
 said_keeps : {A : Type 0} → (S : ℕ → List (List ℕ) → List A → Type 0)
     → ((number : ℕ) (line : List ℕ) (lines : List (List ℕ)) → S number (line ∷ lines) [] → ⊥)
     → ((number : ℕ) (line : List ℕ) (lines : List (List ℕ)) (one : A) (said : List A) → S number (line ∷ lines) (one ∷ said)
-    → (number ≤ 65536) × (length line ≤ 16384) × S (number + 1) lines said)
-    → (number : ℕ) (lines : List (List ℕ)) (said : List A) → number ≤ 65537 → S number lines said
-    → (number + length lines ≤ 65537) × AllByRecursion IsShortLine lines
+    → (number ≤ lines_most) × (length line ≤ line_most) × S (number + 1) lines said)
+    → (number : ℕ) (lines : List (List ℕ)) (said : List A) → number ≤ lines_most + 1 → S number lines said
+    → (number + length lines ≤ lines_most + 1) × AllByRecursion IsShortLine lines
 said_keeps S none first number [] said few say = (omega (arith, few), tt)
 said_keeps S none first number (line ∷ lines) [] few say = absurd (none number line lines say)
 said_keeps S none first number (line ∷ lines) (one ∷ said) few say =
@@ -215,17 +215,10 @@ shown_keeps way source text shown =
     said_keeps (Say way) (λ number line lines none. none)
     (λ number line lines one said say. let here = judged_keeps number line (later_words way) one say.0 in (here.0, here.1, say.1))
     2 script.others shown.lines (omega arith) script.said in
-    let all : KeepsLimits source = subst (λ xs. (length xs ≤ 65536) × AllByRecursion IsShortLine xs) (sym script.cut) (omega (arith, rest.0), (head.1, rest.1)) in
+    let all : KeepsLimits source = subst (λ xs. (length xs ≤ lines_most) × AllByRecursion IsShortLine xs) (sym script.cut) (omega (arith, rest.0), (head.1, rest.1)) in
     all
 
 -- ---- what is read
-
--- a source gave these bytes, and then a piece
-pub gives_more : (bytes piece : List ℕ) (old mid new : Option (List ℕ)) → GivesFirst bytes old mid → GivesFirst piece mid new → GivesFirst (bytes ++ piece) old new
-gives_more bytes piece None mid new first next = subst (λ o. GivesFirst piece o new) first next
-gives_more bytes piece (Some left) mid new first next =
-    let rest : GivesFirst piece (Some first.0) new = subst (λ o. GivesFirst piece o new) first.2 next in
-    (rest.0, first.1 ∙ (ap (λ xs. bytes ++ xs) rest.1 ∙ sym (append_assoc bytes piece rest.0)), rest.2)
 
 -- nothing was read
 pub none_bounded : IsBounded []

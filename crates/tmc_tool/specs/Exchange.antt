@@ -1,5 +1,6 @@
 -- one query over the link: three submits, and their answers
 use Rattle.std.specs.Prelude.{◌≡◌, ℕ, ◌<◌, pos, true, List, [], ◌∷◌, ◌++◌, length, replicate}
+use Rattle.tmc_base.specs.declared.limits.TheConstants.{BULK_IN_SUBMIT}
 use Rattle.usbip_wire.specs.declared.urb.Dir.TheVariants.{Out, In}
 use Rattle.usbip_wire.specs.declared.submit.SubmitHead.{SubmitHead}
 use Rattle.usbip_wire.specs.declared.ret_submit.RetSubmitHead.{RetSubmitHead}
@@ -14,6 +15,7 @@ use Rattle.tmc_wire.specs.declared.header.OutHeader.TheVariants.{Message, Reques
 use Rattle.tmc_wire.specs.declared.header.InHeader.{InHeader}
 use Rattle.tmc_wire.specs.Header.{out_header_bytes, in_header_bytes}
 use Rattle.tmc_wire.specs.Transfer.{OutText, InText, alignment_of}
+use Rattle.tmc_tool.specs.declared.ask_limits.TheConstants.{ASK_LIMIT}
 
 -- the instrument on the link: bus 1, device 2, with Bulk-OUT endpoint 1 and Bulk-IN endpoint 2
 abbrev pub devid : ℕ
@@ -27,7 +29,7 @@ bulk_in = 2
 
 -- the bytes that a read on Bulk-IN asks for
 abbrev pub read_size : ℕ
-read_size = 4096
+read_size = BULK_IN_SUBMIT
 
 -- the tags of the message and of the request, and the longest response that is asked for
 abbrev pub message_tag : ℕ
@@ -37,7 +39,7 @@ abbrev pub request_tag : ℕ
 request_tag = 2
 
 abbrev pub ask_limit : ℕ
-ask_limit = 4000
+ask_limit = ASK_LIMIT
 
 -- the three transfers: the message, the request of its response, and the response
 pub record Transfers : Type 0 where

@@ -1,10 +1,11 @@
 -- the line that `ask` reads, and whether its message can be asked
-use Rattle.std.specs.Prelude.{◌≡◌, ◌⊎◌, ℕ, ◌<◌, ◌≤◌, List, [], ◌∷◌, ◌++◌, length, Contains}
+use Rattle.std.specs.Prelude.{◌≡◌, ◌⊎◌, ℕ, ◌+◌, ◌<◌, ◌≤◌, List, [], ◌∷◌, ◌++◌, length, Contains}
 use Rattle.instr_plain.specs.declared.plain.Plain.{Plain}
 use Rattle.instr_plain.specs.Standing.{power_on}
 use Rattle.instr_plain.specs.Exec.{Exec}
 use Rattle.event_text.specs.declared.line_fault.LineWhat.{LineWhat}
 use Rattle.event_text.specs.declared.line_fault.LineWhat.TheVariants.{Words, EmptyMessage, LongMessage, NotYet}
+use Rattle.tmc_tool.specs.declared.ask_limits.TheConstants.{MESSAGE_MOST, TRANSFER_MOST}
 use Rattle.tmc_tool.specs.Exchange.{ask_limit}
 
 -- the first line of the bytes without its NL, and what stands behind the NL
@@ -14,15 +15,15 @@ pub record IsFirstLine (bytes message behind : List ℕ) : Type 0 where
 
 -- the longest program message, and the longest that goes in one transfer
 abbrev pub message_most : ℕ
-message_most = 4096
+message_most = MESSAGE_MOST
 
 abbrev pub transfer_most : ℕ
-transfer_most = 1024
+transfer_most = TRANSFER_MOST
 
 -- one byte more than the longest message and its NL: so many bytes tell what is wrong with a line, or that something
 -- stands behind it
 abbrev pub line_most : ℕ
-line_most = 4098
+line_most = MESSAGE_MOST + 2
 
 -- from power-on the plain instrument answers this message with this response
 abbrev pub Responds : List ℕ → List ℕ → Type 0

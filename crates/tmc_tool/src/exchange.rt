@@ -11,8 +11,10 @@ ghost use Rattle.usbip_wire.specs.Up as upward;
 ghost use Rattle.usbip_wire.specs.Down as downward;
 ghost use Rattle.tmc_wire.specs.Header.{out_header_bytes, in_header_bytes};
 ghost use Rattle.tmc_wire.specs.Transfer.{OutText, InText};
+ghost use Rattle.tmc_tool.specs.Line.{transfer_most};
 ghost use Rattle.tmc_tool.specs.Exchange.{devid, read_size, ask_limit, Crosses, message_header, request_header, response_header, transfer_written, out_submit, in_submit, success, out_answer, in_answer, submits, submits_written, answers, answers_written};
 
+use crate::ask_limits::ASK_LIMIT;
 use bytes::BytesMut;
 use std::alloc::Global;
 use tmc_base::{BULK_IN_SUBMIT, Memory};
@@ -34,9 +36,6 @@ pub(crate) const MESSAGE_TAG: u8 = 1;
 /// The tag of the request, and of the response's transfer.
 pub(crate) const REQUEST_TAG: u8 = 2;
 
-/// The longest response that is asked for, in bytes.
-pub(crate) const ASK_LIMIT: u32 = 4_000;
-
 /// What crossed the link, in USB/IP messages.
 #[derive(Drop)]
 pub(crate) struct Streams {
@@ -48,7 +47,7 @@ pub(crate) struct Streams {
 /// and the response is whole.
 pub(crate) fn exchange(alloc: Global, message: &[u8], response: &[u8]) -> Result<Streams, Memory>
     requires some { 0 < length message.now }
-    requires short { length message.now ≤ 1024 }
+    requires short { length message.now ≤ transfer_most }
     requires answered { 0 < length response.now }
     requires whole { length response.now ≤ ask_limit }
     ensures { IfOk result (λ streams. Crosses message.now response.now streams.up.items streams.down.items) }
@@ -69,7 +68,7 @@ pub(crate) fn exchange(alloc: Global, message: &[u8], response: &[u8]) -> Result
 /// The transfer of a message.
 fn message_transfer(alloc: Global, message: &[u8]) -> Result<BytesMut, Memory>
     requires some { 0 < length message.now }
-    requires short { length message.now ≤ 1024 }
+    requires short { length message.now ≤ transfer_most }
     ensures text { IfOk result (λ bytes. OutText (message_header message.now) message.now bytes.items) }
     ensures plain { IfOk result (λ bytes. bytes.items ≡ transfer_written (out_header_bytes (message_header message.now)) message.now) }
     ensures short { IfOk result (λ bytes. length bytes.items ≤ 2048) }

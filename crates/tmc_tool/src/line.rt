@@ -4,20 +4,14 @@ ghost use Rattle.std.specs.Prelude.{◌≡◌, ◌≤◌, MatchResult, IfOk, IfE
 ghost use Rattle.tmc_tool.specs.Line.{IsFirstLine, IsAsked, Responds, message_most};
 ghost use Rattle.tmc_tool.specs.Judged.{IsRefusal};
 
-use crate::exchange::ASK_LIMIT;
+use crate::ask_limits::{ASK_LIMIT, MESSAGE_MOST, TRANSFER_MOST};
 use event_text::{LineFault, LineWhat};
 use instr_plain::Instrument;
 use std::alloc::Global;
 use tmc_base::Memory;
 
-/// The longest program message, in bytes.
-const MESSAGE_MOST: usize = 4_096;
-
-/// The longest message that goes in one transfer, in bytes.
-const TRANSFER_MOST: usize = 1_024;
-
 /// The most bytes that are read of a line: one more than the longest message and its NL.
-pub(crate) const LINE_MOST: usize = 4_098;
+pub(crate) const LINE_MOST: usize = MESSAGE_MOST + 2;
 
 /// The first line without its NL, and what stands behind the NL.
 pub(crate) fn first_line(bytes: &[u8]) -> (&[u8], &[u8])

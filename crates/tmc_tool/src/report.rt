@@ -6,7 +6,7 @@ ghost use Rattle.tmc_tool.specs.Report.{numbered, hex_word, counted, ticket_line
 ghost use Rattle.tmc_tool.specs.Exchange.{ask_limit};
 ghost use Rattle.tmc_tool.specs.Tool.{told_of};
 
-use crate::exchange::ASK_LIMIT;
+use crate::ask_limits::ASK_LIMIT;
 use std::alloc::Global;
 use tmc_base::Memory;
 

@@ -4,19 +4,20 @@ ghost use Rattle.std.specs.Prelude.{◌≡◌, ◌⊎◌, ◌∷◌, ◌++◌, [
 ghost use Rattle.tmc_base.specs.declared.reading.ReadFault.TheVariants.{Failed};
 ghost use Rattle.tmc_base.specs.Faults.{Rose};
 ghost use Rattle.tmc_base.specs.Source.{GivesFirst, HasEnded};
+ghost use Rattle.tmc_base.specs.Reading.{NoRead, AtEnd, AtFault, ReadRun};
 ghost use Rattle.tmc_tool.specs.Script.{KeepsLimits, PassesLimit, IsBounded, Stands};
 
+use event_text::{LINE_MOST, LINES_MOST};
 use std::alloc::Global;
 use tmc_base::{ReadFault, ReadStep, Source};
 
 /// The most bytes that one read asks for.
 const PIECE: usize = 4_096;
 
-/// The most lines of a script.
-const LINES_MOST: u64 = 65_536;
+/// The most lines of a script, and the most bytes of a line without its NL.
+const LINES: u64 = LINES_MOST as u64;
 
-/// The most bytes of a line of a script, without its NL.
-const LINE_MOST: u64 = 16_384;
+const LINE: u64 = LINE_MOST as u64;
 
 /// Where the reading of a script stands.
 #[derive(Clone, Copy, Debug, PartialEq, Eq)]
@@ -34,14 +35,14 @@ impl Place {
     {
         match self {
             Place::Within { ended, begun } => {
-                if ended >= LINES_MOST {
+                if ended >= LINES {
                     Place::Past
                 } else if byte == b'\n' {
                     Place::Within {
                         ended: ended + 1,
                         begun: 0,
                     }
-                } else if begun >= LINE_MOST {
+                } else if begun >= LINE {
                     Place::Past
                 } else {
                     Place::Within {
@@ -77,14 +78,18 @@ fn follow(piece: &[u8], place: Place) -> Place
     at
 }
 
-/// Reads a script until its source ends, or until a read passes a limit of a script.
+/// Reads a script until its source ends, or until a read passes a limit of a script. No read stands behind one that ended
+/// or failed.
 pub(crate) fn read_script<S: Source>(alloc: Global, source: &mut S) -> Result<Vec<u8>, ReadFault>
     ensures first { IfOk result (λ bytes. GivesFirst bytes.items (S.left source.old) (S.left source.new)) }
-    ensures enough { IfOk result (λ bytes. HasEnded (S.left source.new) ⊎ PassesLimit bytes.items) }
+    ensures enough { IfOk result (λ bytes. (HasEnded (S.left source.new) × ReadRun S.reads source.old source.new AtEnd bytes.items)
+        ⊎ (PassesLimit bytes.items × ReadRun S.reads source.old source.new NoRead bytes.items)) }
     ensures bounded { IfOk result (λ bytes. IsBounded bytes.items) }
     ensures ok_counts { IfOk result (λ _. S.faults source.new ≡ S.faults source.old) }
     ensures failed { result ≡ Err Failed → Rose (S.faults source.old) (S.faults source.new) }
     ensures memory { result ≡ Err ReadFault.Memory → S.faults source.new ≡ S.faults source.old }
+    ensures failed_run { result ≡ Err Failed → (bytes : List ℕ) × IsBounded bytes × ReadRun S.reads source.old source.new AtFault bytes }
+    ensures memory_run { result ≡ Err ReadFault.Memory → (bytes : List ℕ) × IsBounded bytes × ReadRun S.reads source.old source.new NoRead bytes }
 {
     let mut bytes = Vec::new(alloc);
     let mut piece = [0u8; PIECE];

@@ -1,7 +1,11 @@
 ghost use Rattle.std.specs.Prelude.{◌<◌};
 
+use crate::ask_limits::ask_limits_are_the_products;
+use crate::shell::{WordsFault, behind_name, tool_exit};
 use crate::tool::tool_main;
 use std::alloc::{AllocError, Global};
+use std::io;
+use std::process::ExitCode;
 use std::test::Fail;
 use tmc_base::{MemSink, MemSource, Memory, read_all};
 
@@ -438,5 +442,64 @@ fn failed_write_shows_a_front(rt: HostRuntime) -> Result<(), Fail> {
     let mut sink = MemSink::new(alloc, 4_096, 8, fails)?;
     assert_eq!(rt; tool_main(alloc, &words, &mut source, &mut sink), 4);
     assert_eq!(rt; sink.bytes(), b"import 3".as_slice());
+    Ok(())
+}
+
+/// The exit code of a call over `*OPC?` and an ample sink, and what it printed.
+fn exit(
+    alloc: Global,
+    words: Result<Vec<String>, WordsFault>,
+) -> Result<(ExitCode, MemSource, MemSink), Memory> {
+    ask_limits_are_the_products();
+    let mut source = MemSource::new(bytes_of(alloc, "*OPC?")?, 64, Vec::new(alloc));
+    let mut sink = MemSink::new(alloc, 4_096, 4_096, Vec::new(alloc))?;
+    let code = tool_exit(alloc, words, &mut source, &mut sink);
+    Ok((code, source, sink))
+}
+
+#[test]
+fn exit_code_is_the_status(rt: HostRuntime) -> Result<(), Fail> {
+    let alloc = rt.alloc();
+    let (code, _, sink) = exit(alloc, Ok(words_of(alloc, "ask")?))?;
+    assert_eq!(rt; code, ExitCode::from(0));
+    assert_eq!(rt; sink.bytes(), OPERATION_COMPLETE.as_bytes());
+    let (code, _, sink) = exit(alloc, Ok(words_of(alloc, "show up")?))?;
+    assert_eq!(rt; code, ExitCode::from(2));
+    assert_eq!(rt; sink.bytes(), b"refused line 1 Unknown\n".as_slice());
+    Ok(())
+}
+
+#[test]
+fn word_that_is_no_text_is_a_faulty_command_line(rt: HostRuntime) -> Result<(), Fail> {
+    let alloc = rt.alloc();
+    let fault = WordsFault::from(io::Error::from(io::ErrorKind::InvalidData));
+    assert_eq!(rt; fault, WordsFault::NotText);
+    let (code, mut source, sink) = exit(alloc, Err(fault))?;
+    assert_eq!(rt; code, ExitCode::from(1));
+    assert_eq!(rt; sink.bytes(), b"usage\n".as_slice());
+    assert_eq!(rt; read_all(alloc, &mut source)?.len(), 5, "nothing was read");
+    Ok(())
+}
+
+#[test]
+fn want_of_memory_for_the_words_leaves_5(rt: HostRuntime) -> Result<(), Fail> {
+    let alloc = rt.alloc();
+    let fault = WordsFault::from(io::Error::from(io::ErrorKind::OutOfMemory));
+    assert_eq!(rt; fault, WordsFault::from(AllocError));
+    let (code, mut source, sink) = exit(alloc, Err(fault))?;
+    assert_eq!(rt; code, ExitCode::from(5));
+    assert_eq!(rt; sink.bytes(), b"".as_slice());
+    assert_eq!(rt; read_all(alloc, &mut source)?.len(), 5, "nothing was read");
+    Ok(())
+}
+
+#[test]
+fn own_name_is_no_word(rt: HostRuntime) -> Result<(), Fail> {
+    let alloc = rt.alloc();
+    assert_eq!(rt;
+        behind_name(words_of(alloc, "tmc show up")?).as_slice(),
+        words_of(alloc, "show up")?.as_slice()
+    );
+    assert!(rt; behind_name(Vec::new(alloc)).is_empty());
     Ok(())
 }

@@ -2,6 +2,8 @@
 
 ghost use Rattle.std.specs.Prelude.{◌≡◌, ◌⊎◌, ◌≤◌, Some, map, List, ℕ, string_bytes};
 ghost use Rattle.tmc_base.specs.Faults.{Rose};
+ghost use Rattle.tmc_base.specs.Reading.{ReadRun};
+ghost use Rattle.tmc_base.specs.Writing.{WriteRun};
 ghost use Rattle.usbip_wire.specs.declared.urb.Dir.{Dir};
 ghost use Rattle.event_text.specs.declared.line_fault.LineWhat.{LineWhat};
 ghost use Rattle.tmc_tool.specs.Command.{words_of, IsCommand};
@@ -43,7 +45,7 @@ pub fn tool_main<S: Source, K: Sink>(
     source: &mut S,
     sink: &mut K,
 ) -> u8
-    ensures ends { (status : Status) × (result ≡ code_of status) × Ends (map string_bytes words.now) status
+    ensures ends { (status : Status) × (result ≡ code_of status) × Ends (ReadRun S.reads source.old source.new) (WriteRun K.writes sink.old sink.new) (map string_bytes words.now) status
         (record { left = S.left source.old; read_faults = S.faults source.old; put = K.put sink.old; write_faults = K.faults sink.old })
         (record { left = S.left source.new; read_faults = S.faults source.new; put = K.put sink.new; write_faults = K.faults sink.new }) }
     ensures usage { (IsCommand (map string_bytes words.now) → ⊥) → (Rose (K.faults sink.old) (K.faults sink.new) → ⊥) → result ≡ code_of Usage }
@@ -58,7 +60,7 @@ pub fn tool_main<S: Source, K: Sink>(
 }
 
 fn run<S: Source, K: Sink>(alloc: Global, words: &[String], source: &mut S, sink: &mut K) -> Status
-    ensures { Ends (map string_bytes words.now) result
+    ensures { Ends (ReadRun S.reads source.old source.new) (WriteRun K.writes sink.old sink.new) (map string_bytes words.now) result
         (record { left = S.left source.old; read_faults = S.faults source.old; put = K.put sink.old; write_faults = K.faults sink.old })
         (record { left = S.left source.new; read_faults = S.faults source.new; put = K.put sink.new; write_faults = K.faults sink.new }) }
 {
@@ -71,7 +73,7 @@ fn run<S: Source, K: Sink>(alloc: Global, words: &[String], source: &mut S, sink
 
 /// The command `ask`: one message is read, asked and reported.
 fn run_ask<S: Source, K: Sink>(alloc: Global, source: &mut S, sink: &mut K) -> Status
-    ensures { Ends (words_of Ask) result
+    ensures { Ends (ReadRun S.reads source.old source.new) (WriteRun K.writes sink.old sink.new) (words_of Ask) result
         (record { left = S.left source.old; read_faults = S.faults source.old; put = K.put sink.old; write_faults = K.faults sink.old })
         (record { left = S.left source.new; read_faults = S.faults source.new; put = K.put sink.new; write_faults = K.faults sink.new }) }
 {
@@ -91,7 +93,7 @@ fn run_ask<S: Source, K: Sink>(alloc: Global, source: &mut S, sink: &mut K) -> S
 /// The commands `show up` and `show down`: a script is read, no further than by the read that passes a limit, and
 /// what is shown of it is printed.
 fn run_show<S: Source, K: Sink>(alloc: Global, way: Dir, source: &mut S, sink: &mut K) -> Status
-    ensures { Ends (words_of (Show way)) result
+    ensures { Ends (ReadRun S.reads source.old source.new) (WriteRun K.writes sink.old sink.new) (words_of (Show way)) result
         (record { left = S.left source.old; read_faults = S.faults source.old; put = K.put sink.old; write_faults = K.faults sink.old })
         (record { left = S.left source.new; read_faults = S.faults source.new; put = K.put sink.new; write_faults = K.faults sink.new }) }
 {
@@ -111,7 +113,7 @@ fn run_show<S: Source, K: Sink>(alloc: Global, way: Dir, source: &mut S, sink: &
 /// Asks a message, and prints the report.
 fn print_report<K: Sink>(alloc: Global, sink: &mut K, message: &[u8], response: &[u8]) -> Status
     requires { IsAsked message.now response.now }
-    ensures { PrintsReport message.now response.now result (K.put sink.old) (K.faults sink.old) (K.put sink.new) (K.faults sink.new) }
+    ensures { PrintsReport (WriteRun K.writes sink.old sink.new) message.now response.now result (K.put sink.old) (K.faults sink.old) (K.put sink.new) (K.faults sink.new) }
 {
     match ask(alloc, message, response) {
         Ok(text) => print(sink, text.as_bytes(), Status::Printed),
@@ -121,7 +123,7 @@ fn print_report<K: Sink>(alloc: Global, sink: &mut K, message: &[u8], response: 
 
 /// Prints that a line is refused.
 fn print_refusal<K: Sink>(alloc: Global, sink: &mut K, line: u32, what: LineWhat) -> Status
-    ensures { PrintsRefusal line what result (K.put sink.old) (K.faults sink.old) (K.put sink.new) (K.faults sink.new) }
+    ensures { PrintsRefusal (WriteRun K.writes sink.old sink.new) line what result (K.put sink.old) (K.faults sink.old) (K.put sink.new) (K.faults sink.new) }
 {
     match refusal(alloc, line, what) {
         Ok(text) => print(sink, text.as_bytes(), Status::Refused),
@@ -131,7 +133,7 @@ fn print_refusal<K: Sink>(alloc: Global, sink: &mut K, line: u32, what: LineWhat
 
 /// Writes a text, and answers the status that it goes with where it could be written whole.
 fn print<K: Sink>(sink: &mut K, text: &[u8], status: Status) -> Status
-    ensures { Writes status text.now result (K.put sink.old) (K.faults sink.old) (K.put sink.new) (K.faults sink.new) }
+    ensures { Writes (WriteRun K.writes sink.old sink.new) status text.now result (K.put sink.old) (K.faults sink.old) (K.put sink.new) (K.faults sink.new) }
 {
     if write_all(sink, text) {
         status

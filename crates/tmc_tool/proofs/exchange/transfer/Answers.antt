@@ -1,6 +1,5 @@
 use Rattle.std.proofs.Common.{◌++◌, [], length, ap, ◌∙◌}
-use Rattle.tmc_base.proofs.Appends.{three_appended}
-use Rattle.tmc_tool.proofs.Transfers.{zeros, padding-lt}
+use Rattle.tmc_tool.proofs.Transfers.{zeros, padding-lt, three_appended}
 use Rattle.tmc_tool.proofs.exchange.transfer.Goals as goal
 
 pub returns : goal.returns

@@ -7,13 +7,13 @@ pub returns-then-byte-eq10 : goal.returns-then-byte-eq10
 returns-then-byte-eq10 c = λ bytes at.
     let here : IsAt bytes c.in-Within.ended c.in-Within.begun = subst (λ place. Stands bytes place) c.in-Within.is at in
     subst (λ byte. IsAt (bytes ++ byte ∷ []) (c.in-Within.ended + 1) 0) (sym c.if-byte-eq10.true)
-    (behind_nl bytes c.in-Within.ended c.in-Within.begun c.if-ended-ge-LINES_MOST.false here)
+    (behind_nl bytes c.in-Within.ended c.in-Within.begun c.if-ended-ge-LINES.false here)
 
-pub returns-then-begun-ge-LINE_MOST : goal.returns-then-begun-ge-LINE_MOST
-returns-then-begun-ge-LINE_MOST c = λ bytes at.
+pub returns-then-begun-ge-LINE : goal.returns-then-begun-ge-LINE
+returns-then-begun-ge-LINE c = λ bytes at.
     let here : IsAt bytes c.in-Within.ended c.in-Within.begun = subst (λ place. Stands bytes place) c.in-Within.is at in
     let inside : IsInside c.args.byte = search rules in
-    past_line bytes c.args.byte c.in-Within.ended c.in-Within.begun c.if-begun-ge-LINE_MOST.true inside here
+    past_line bytes c.args.byte c.in-Within.ended c.in-Within.begun c.if-begun-ge-LINE.true inside here
 
 pub returns-in-Past : goal.returns-in-Past
 returns-in-Past c = λ bytes at. past_stays bytes (c.args.byte ∷ []) (subst (λ place. Stands bytes place) c.in-Past.is at)
