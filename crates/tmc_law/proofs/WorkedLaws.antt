@@ -1,5 +1,5 @@
 -- worked runs meet the premises of the laws
-use Rattle.std.proofs.Common.{◌≡◌, ◌≢◌, ℕ, false, true, List, [], ◌∷◌, ◌++◌, take, codes, Some, refl, lit<}
+use Rattle.std.proofs.Common.{◌≡◌, ◌≢◌, ℕ, false, true, [], ◌∷◌, ◌++◌, take, codes, Some, refl, lit<}
 use Rattle.tmc_wire.specs.declared.header.OutHeader.TheVariants.{Message}
 use Rattle.tmc_law.specs.Endpoint.{BulkIn, Control}
 use Rattle.tmc_law.specs.State.{State, Pending, Transfer, Waiting, Idle, Owed, start, is_halted}
@@ -8,7 +8,7 @@ use Rattle.tmc_law.specs.Step.{Steps, Halt}
 use Rattle.tmc_law.specs.Run.{Runs, inputs}
 use Rattle.tmc_law.specs.Numbers.{Rises, numbers}
 use Rattle.tmc_law.specs.WorkedQuery.{query_text, request_text, asking, answering, query_log}
-use Rattle.tmc_law.specs.WorkedRead.{reading, first_packet}
+use Rattle.tmc_law.specs.WorkedRead.{reading}
 use Rattle.tmc_law.specs.WorkedParts.{spaces_text, sending_parts}
 use Rattle.tmc_law.proofs.WorkedComing.{out_comes, in_comes}
 use Rattle.tmc_law.proofs.WorkedQuery as query
