@@ -43,7 +43,6 @@ pub mod AnswersFit
 pub mod Reaching
 pub mod Orders
 pub mod FewPackets
-pub mod OneMeaning
 pub mod OneEffect
 pub mod OneAnswer
 pub mod OneOutcome

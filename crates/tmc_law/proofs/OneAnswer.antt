@@ -21,8 +21,8 @@ use Rattle.tmc_law.specs.Status as status
 use Rattle.tmc_law.specs.Status.{is_status}
 use Rattle.tmc_law.specs.Class as class
 use Rattle.tmc_law.specs.Standard.{Standard, IsStandard, standard_layout, standard_effect}
-use Rattle.tmc_law.proofs.OneMeaning.{one_row, not_both, one_standard, asks_one}
-use Rattle.tmc_law.proofs.OneEffect.{Once, Same, ap2, first_one, logs_one, none_some, waiting_one}
+use Rattle.tmc_law.proofs.SetupRows.{not_both, one_standard}
+use Rattle.tmc_law.proofs.OneEffect.{OneMeaning, Once, Same, ap2, first_one, logs_one, none_some, waiting_one}
 
 bools : {A : Type 0} (b : Bool) → b ≡ true → b ≡ false → A
 bools b p q = let e : true ≡ false = sym p ∙ q in absurd (cc)
@@ -264,8 +264,8 @@ serves_one Lockout submit s a b once h k = operates_one _ s a b once h k
 -- ---- control submits
 
 -- the setup of the first control submit
-pub setup_one : (submit submit2 : Pending) (a b : Setup) → submit ≡ submit2 → Asks submit a → Asks submit2 b → a ≡ b
-setup_one submit submit2 a b same p q = asks_one submit a b p (subst (λ (x : Pending). Asks x b) (sym same) q)
+pub setup_one : OneMeaning → (submit submit2 : Pending) (a b : Setup) → submit ≡ submit2 → Asks submit a → Asks submit2 b → a ≡ b
+setup_one meaning submit submit2 a b same p q = meaning.asks submit a b p (subst (λ (x : Pending). Asks x b) (sym same) q)
 
 put_one : (submit submit2 : Pending) (a b : Setup) (v w : Served) → submit ≡ submit2 → a ≡ b → v ≡ w → control_answer submit a v.layout ∷ v.behind ≡ control_answer submit2 b w.layout ∷ w.behind
 put_one submit submit2 a b v w p q r =
@@ -278,8 +278,8 @@ layout_one submit submit2 a b v w p q r =
 pub answers_one : (s : State) (a b : List Put) (t u : State) → Once s.standing → class.Answers s a t → class.Answers s b u → Same a t b u
 answers_one s a b t u once (class.ByClass submit behind setup request v queue asks row serving put is) (class.ByClass submit2 behind2 setup2 request2 v2 queue2 asks2 row2 serving2 put2 is2) =
     let f = first_one s.control submit submit2 behind behind2 queue queue2 in
-    let same = setup_one submit submit2 setup setup2 f.0 asks asks2 in
-    let own = one_row setup request request2 row (subst (λ (x : Setup). IsRow ends request2 x) (sym same) row2) in
+    let same = setup_one once.meaning submit submit2 setup setup2 f.0 asks asks2 in
+    let own = once.meaning.row setup request request2 row (subst (λ (x : Setup). IsRow ends request2 x) (sym same) row2) in
     let served : v ≡ v2 =
     serves_one request submit (record s { control = behind }) v v2 once serving
     (subst (λ (x : ClassRequest). class.Serves x submit (record s { control = behind }) v2) (sym own)
@@ -288,38 +288,38 @@ answers_one s a b t u once (class.ByClass submit behind setup request v queue as
     (put ∙ put_one submit submit2 setup setup2 v v2 f.0 same served ∙ sym put2, is ∙ ap (λ (x : Served). x.state) served ∙ sym is2)
 answers_one s a b t u once (class.ByClass submit behind setup request v queue asks row serving put is) (class.ByStandard submit2 behind2 setup2 request2 queue2 asks2 row2 put2 is2) =
     let f = first_one s.control submit submit2 behind behind2 queue queue2 in
-    let same = setup_one submit submit2 setup setup2 f.0 asks asks2 in
+    let same = setup_one once.meaning submit submit2 setup setup2 f.0 asks asks2 in
     absurd (not_both setup2 request request2 (subst (λ (x : Setup). IsRow ends request x) same row) row2)
 answers_one s a b t u once (class.ByClass submit behind setup request v queue asks row serving put is) (class.Unknown submit2 behind2 setup2 queue2 asks2 unknown2 put2 is2) =
     let f = first_one s.control submit submit2 behind behind2 queue queue2 in
-    let same = setup_one submit submit2 setup setup2 f.0 asks asks2 in
+    let same = setup_one once.meaning submit submit2 setup setup2 f.0 asks asks2 in
     absurd (unknown2.no_class request (subst (λ (x : Setup). IsRow ends request x) same row))
 answers_one s a b t u once (class.ByStandard submit behind setup request queue asks row put is) (class.ByClass submit2 behind2 setup2 request2 v2 queue2 asks2 row2 serving2 put2 is2) =
     let f = first_one s.control submit submit2 behind behind2 queue queue2 in
-    let same = setup_one submit submit2 setup setup2 f.0 asks asks2 in
+    let same = setup_one once.meaning submit submit2 setup setup2 f.0 asks asks2 in
     absurd (not_both setup2 request2 request row2 (subst (λ (x : Setup). IsStandard request x) same row))
 answers_one s a b t u once (class.ByStandard submit behind setup request queue asks row put is) (class.ByStandard submit2 behind2 setup2 request2 queue2 asks2 row2 put2 is2) =
     let f = first_one s.control submit submit2 behind behind2 queue queue2 in
-    let same = setup_one submit submit2 setup setup2 f.0 asks asks2 in
+    let same = setup_one once.meaning submit submit2 setup setup2 f.0 asks asks2 in
     let own = one_standard setup request request2 row (subst (λ (x : Setup). IsStandard request2 x) (sym same) row2) in (
       put ∙ layout_one submit submit2 setup setup2 (standard_layout request s) (standard_layout request2 s) f.0 same (ap (λ (x : Standard). standard_layout x s) own) ∙ sym put2,
       is ∙ ap2 (λ (x : Standard) (y : List Pending). standard_effect x (record s { control = y })) own f.1 ∙ sym is2,
     )
 answers_one s a b t u once (class.ByStandard submit behind setup request queue asks row put is) (class.Unknown submit2 behind2 setup2 queue2 asks2 unknown2 put2 is2) =
     let f = first_one s.control submit submit2 behind behind2 queue queue2 in
-    let same = setup_one submit submit2 setup setup2 f.0 asks asks2 in
+    let same = setup_one once.meaning submit submit2 setup setup2 f.0 asks asks2 in
     absurd (unknown2.no_standard request (subst (λ (x : Setup). IsStandard request x) same row))
 answers_one s a b t u once (class.Unknown submit behind setup queue asks unknown put is) (class.ByClass submit2 behind2 setup2 request2 v2 queue2 asks2 row2 serving2 put2 is2) =
     let f = first_one s.control submit submit2 behind behind2 queue queue2 in
-    let same = setup_one submit submit2 setup setup2 f.0 asks asks2 in
+    let same = setup_one once.meaning submit submit2 setup setup2 f.0 asks asks2 in
     absurd (unknown.no_class request2 (subst (λ (x : Setup). IsRow ends request2 x) (sym same) row2))
 answers_one s a b t u once (class.Unknown submit behind setup queue asks unknown put is) (class.ByStandard submit2 behind2 setup2 request2 queue2 asks2 row2 put2 is2) =
     let f = first_one s.control submit submit2 behind behind2 queue queue2 in
-    let same = setup_one submit submit2 setup setup2 f.0 asks asks2 in
+    let same = setup_one once.meaning submit submit2 setup setup2 f.0 asks asks2 in
     absurd (unknown.no_standard request2 (subst (λ (x : Setup). IsStandard request2 x) (sym same) row2))
 answers_one s a b t u once (class.Unknown submit behind setup queue asks unknown put is) (class.Unknown submit2 behind2 setup2 queue2 asks2 unknown2 put2 is2) =
     let f = first_one s.control submit submit2 behind behind2 queue queue2 in
-    let same = setup_one submit submit2 setup setup2 f.0 asks asks2 in
+    let same = setup_one once.meaning submit submit2 setup setup2 f.0 asks asks2 in
     (put ∙ ap (λ (x : Pending). answer_of x.head stalled [] ∷ []) f.0 ∙ sym put2, is ∙ ap (λ (x : List Pending). record s { control = x }) f.1 ∙ sym is2)
 
 stays_one : (running : Running) (request : ClassRequest) (a b : List ℕ) → class.StaysPending running request a → class.StaysPending running request b → a ≡ b
@@ -329,11 +329,11 @@ stays_one (AbortsIn false n) CheckIn a b p q = p ∙ sym q
 stays_one Clears CheckClear a b p q = p ∙ sym q
 stays_one _ _ a b p q = absurd p
 
-pub postpones_one : (s : State) (a b : List Put) (t u : State) → class.Postpones s a t → class.Postpones s b u → Same a t b u
-postpones_one s a b t u (class.DoesPostpone submit behind setup request layout queue asks row stays put is) (class.DoesPostpone submit2 behind2 setup2 request2 layout2 queue2 asks2 row2 stays2 put2 is2) =
+pub postpones_one : (s : State) (a b : List Put) (t u : State) → Once s.standing → class.Postpones s a t → class.Postpones s b u → Same a t b u
+postpones_one s a b t u once (class.DoesPostpone submit behind setup request layout queue asks row stays put is) (class.DoesPostpone submit2 behind2 setup2 request2 layout2 queue2 asks2 row2 stays2 put2 is2) =
     let f = first_one s.control submit submit2 behind behind2 queue queue2 in
-    let same = setup_one submit submit2 setup setup2 f.0 asks asks2 in
-    let own = one_row setup request request2 row (subst (λ (x : Setup). IsRow ends request2 x) (sym same) row2) in (
+    let same = setup_one once.meaning submit submit2 setup setup2 f.0 asks asks2 in
+    let own = once.meaning.row setup request request2 row (subst (λ (x : Setup). IsRow ends request2 x) (sym same) row2) in (
       put
           ∙ layout_one submit submit2 setup setup2 layout layout2 f.0 same
           (stays_one s.running request layout layout2 stays (subst (λ (x : ClassRequest). class.StaysPending s.running x layout2) (sym own) stays2))
@@ -345,13 +345,13 @@ abbrev status_tag : ClassRequest → ℕ
 status_tag (ReadStatus tag) = tag
 status_tag _ = 0
 
-pub tag_one : (setup setup2 : Setup) (tag tag2 : ℕ) → setup ≡ setup2 → IsRow ends (ReadStatus tag) setup → IsRow ends (ReadStatus tag2) setup2 → tag ≡ tag2
-tag_one setup setup2 tag tag2 same row row2 = ap (λ (x : ClassRequest). status_tag x) (one_row setup (ReadStatus tag) (ReadStatus tag2) row (subst (λ (x : Setup). IsRow ends (ReadStatus tag2) x) (sym same) row2))
+pub tag_one : OneMeaning → (setup setup2 : Setup) (tag tag2 : ℕ) → setup ≡ setup2 → IsRow ends (ReadStatus tag) setup → IsRow ends (ReadStatus tag2) setup2 → tag ≡ tag2
+tag_one meaning setup setup2 tag tag2 same row row2 = ap (λ (x : ClassRequest). status_tag x) (meaning.row setup (ReadStatus tag) (ReadStatus tag2) row (subst (λ (x : Setup). IsRow ends (ReadStatus tag2) x) (sym same) row2))
 
 pub polls_first_one : (s t u : State) → Once s.standing → class.PollsFirst s t → class.PollsFirst s u → t ≡ u
 polls_first_one s t u once (class.DoesPollFirst submit behind setup tag queue asks row good fresh free polling) (class.DoesPollFirst submit2 behind2 setup2 tag2 queue2 asks2 row2 good2 fresh2 free2 polling2) =
     let f = first_one s.control submit submit2 behind behind2 queue queue2 in
-    let tags = tag_one setup setup2 tag tag2 (setup_one submit submit2 setup setup2 f.0 asks asks2) row row2 in
+    let tags = tag_one once.meaning setup setup2 tag tag2 (setup_one once.meaning submit submit2 setup setup2 f.0 asks asks2) row row2 in
     polls_one submit.head.seqnum tag (record s { control = record submit { polled = true } ∷ behind }) t u once polling
     (subst (λ (n : ℕ). status.Polls submit.head.seqnum n (record s { control = record submit { polled = true } ∷ behind }) u) (sym tags)
     (subst (λ (x : Pending). status.Polls x.head.seqnum tag2 (record s { control = record x { polled = true } ∷ behind }) u) (sym f.0)

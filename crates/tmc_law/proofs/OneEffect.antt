@@ -1,5 +1,8 @@
 -- what Bulk-OUT does is determined
 use Rattle.std.proofs.Common.{◌≡◌, ◌∙◌, ◌≢◌, ℕ, ◌*◌, ◌≤◌, true, false, List, [], ◌∷◌, ◌++◌, Option, Some, None, length, take, drop, refl, ap, sym, subst, length-drop, arith}
+use Rattle.usb_setup.specs.declared.setup.Setup.{Setup}
+use Rattle.tmc_wire.specs.declared.class_request.ClassRequest.{ClassRequest}
+use Rattle.tmc_wire.specs.ControlTable.{IsRow}
 use Rattle.tmc_wire.specs.declared.header.OutHeader.{OutHeader}
 use Rattle.tmc_wire.specs.declared.header.OutHeader.TheVariants.{Message, Request, Trigger}
 use Rattle.tmc_wire.specs.Standard.{header_size}
@@ -9,15 +12,22 @@ use Rattle.instr_plain.specs.declared.log.LogEntry.{LogEntry}
 use Rattle.instr_plain.specs.declared.log.LogEntry.TheVariants as entry
 use Rattle.instr_plain.specs.Standing.{Standing}
 use Rattle.instr_plain.specs.Log.{After}
-use Rattle.tmc_law.specs.Endpoint.{packet_size}
+use Rattle.tmc_law.specs.Endpoint.{packet_size, ends}
+use Rattle.tmc_law.specs.Control.{Asks}
 use Rattle.tmc_law.specs.State.{State, Pending, Transfer, Waiting, Owed}
 use Rattle.tmc_law.specs.Put.{Put, ended, success}
 use Rattle.tmc_law.specs.Logging.{Logs, with_service}
 use Rattle.tmc_law.specs.BulkOut as out
 use Rattle.tmc_law.specs.BulkOut.{wants, packets_of}
 
+-- a setup has one meaning
+pub record OneMeaning : Type 0 where
+  pub asks : (submit : Pending) (a b : Setup) → Asks submit a → Asks submit b → a ≡ b
+  pub row : (setup : Setup) (a b : ClassRequest) → IsRow ends a setup → IsRow ends b setup → a ≡ b
+
 -- what one step's facts determine
 pub record Once (standing : Standing) : Type 0 where
+  pub meaning : OneMeaning
   pub after : (entry : LogEntry) (a b : Standing) → After standing entry a → After standing entry b → a ≡ b
   pub header : (a b : OutHeader) (bytes : List ℕ) → IsOutHeader a bytes → IsOutHeader b bytes → a ≡ b
 

@@ -14,7 +14,7 @@ use Rattle.tmc_law.specs.Status.{status_layout}
 use Rattle.tmc_law.specs.Queues.{Arrives, Queued, TurnedAway, Unlinks, Hits, Polled, Misses}
 use Rattle.tmc_law.specs.Step.{Move, Comes, Refuses, Take, Exec, Begin, Fill, Answer, Pend, Poll, Notify, Halt, Unplug, Leads}
 use Rattle.tmc_law.proofs.Queued.{times, here, times-append, times_own, not_here, IsSound}
-use Rattle.tmc_law.proofs.OneEffect.{Once, Same, ap2, takes_one}
+use Rattle.tmc_law.proofs.OneEffect.{OneMeaning, Once, Same, ap2, takes_one}
 use Rattle.tmc_law.proofs.OneAnswer.{executes_one, begins_one, fills_one, answers_one, postpones_one, polls_first_one, notifies_one, setup_one, tag_one}
 
 -- ---- arrivals
@@ -137,33 +137,33 @@ polled_not p q same fresh polled = let e : false ≡ true = sym fresh ∙ ap (λ
 left_same : (s : State) (d e : Endpoint) (p q : Place) → OnePlace d e p q → with_queue d (p.before ++ p.behind) s ≡ with_queue e (q.before ++ q.behind) s
 left_same s d e p q one = ap2 (λ (x : Endpoint) (y : Place). with_queue x (y.before ++ y.behind) s) one.queue one.place
 
-unlinks_one : (s : State) (head : UnlinkHead) (a b : List Put) (t u : State) → IsSound s → Unlinks s head a t → Unlinks s head b u → Same a t b u
-unlinks_one s head a b t u whole (Hits d before submit behind holds own fresh put is) (Hits e before2 submit2 behind2 holds2 own2 fresh2 put2 is2) =
+unlinks_one : OneMeaning → (s : State) (head : UnlinkHead) (a b : List Put) (t u : State) → IsSound s → Unlinks s head a t → Unlinks s head b u → Same a t b u
+unlinks_one meaning s head a b t u whole (Hits d before submit behind holds own fresh put is) (Hits e before2 submit2 behind2 holds2 own2 fresh2 put2 is2) =
     let one = found s head.target d e (place before submit behind) (place before2 submit2 behind2) whole holds own holds2 own2 in
     (put ∙ sym put2, is ∙ left_same s d e (place before submit behind) (place before2 submit2 behind2) one ∙ sym is2)
-unlinks_one s head a b t u whole (Hits d before submit behind holds own fresh put is) (Polled e before2 submit2 behind2 setup2 tag2 holds2 own2 polled2 asks2 row2 put2 is2) =
+unlinks_one meaning s head a b t u whole (Hits d before submit behind holds own fresh put is) (Polled e before2 submit2 behind2 setup2 tag2 holds2 own2 polled2 asks2 row2 put2 is2) =
     let one = found s head.target d e (place before submit behind) (place before2 submit2 behind2) whole holds own holds2 own2 in
     polled_not (place before submit behind) (place before2 submit2 behind2) one.place fresh polled2
-unlinks_one s head a b t u whole (Hits d before submit behind holds own fresh put is) (Misses avoids put2 is2) = not_pending s head.target d before submit behind holds own avoids
-unlinks_one s head a b t u whole (Polled d before submit behind setup tag holds own polled asks row put is) (Hits e before2 submit2 behind2 holds2 own2 fresh2 put2 is2) =
+unlinks_one meaning s head a b t u whole (Hits d before submit behind holds own fresh put is) (Misses avoids put2 is2) = not_pending s head.target d before submit behind holds own avoids
+unlinks_one meaning s head a b t u whole (Polled d before submit behind setup tag holds own polled asks row put is) (Hits e before2 submit2 behind2 holds2 own2 fresh2 put2 is2) =
     let one = found s head.target d e (place before submit behind) (place before2 submit2 behind2) whole holds own holds2 own2 in
     polled_not (place before2 submit2 behind2) (place before submit behind) (sym one.place) fresh2 polled
-unlinks_one s head a b t u whole (Polled d before submit behind setup tag holds own polled asks row put is) (Polled e before2 submit2 behind2 setup2 tag2 holds2 own2 polled2 asks2 row2 put2 is2) =
+unlinks_one meaning s head a b t u whole (Polled d before submit behind setup tag holds own polled asks row put is) (Polled e before2 submit2 behind2 setup2 tag2 holds2 own2 polled2 asks2 row2 put2 is2) =
     let one = found s head.target d e (place before submit behind) (place before2 submit2 behind2) whole holds own holds2 own2 in
     let same : submit ≡ submit2 = ap (λ (x : Place). x.submit) one.place in
-    let setups = setup_one submit submit2 setup setup2 same asks asks2 in
-    let tags = tag_one setup setup2 tag tag2 setups row row2 in (
+    let setups = setup_one meaning submit submit2 setup setup2 same asks asks2 in
+    let tags = tag_one meaning setup setup2 tag tag2 setups row row2 in (
       put
           ∙ ap (λ (x : Pending). control_answer x setup (status_layout STATUS_SUCCESS tag) ∷ unlink_answer head success ∷ []) same
           ∙ ap2 (λ (x : Setup) (n : ℕ). control_answer submit2 x (status_layout STATUS_SUCCESS n) ∷ unlink_answer head success ∷ []) setups tags
           ∙ sym put2,
       is ∙ left_same s d e (place before submit behind) (place before2 submit2 behind2) one ∙ sym is2,
     )
-unlinks_one s head a b t u whole (Polled d before submit behind setup tag holds own polled asks row put is) (Misses avoids put2 is2) = not_pending s head.target d before submit behind holds own avoids
-unlinks_one s head a b t u whole (Misses avoids put is) (Hits e before2 submit2 behind2 holds2 own2 fresh2 put2 is2) = not_pending s head.target e before2 submit2 behind2 holds2 own2 avoids
-unlinks_one s head a b t u whole (Misses avoids put is) (Polled e before2 submit2 behind2 setup2 tag2 holds2 own2 polled2 asks2 row2 put2 is2) =
+unlinks_one meaning s head a b t u whole (Polled d before submit behind setup tag holds own polled asks row put is) (Misses avoids put2 is2) = not_pending s head.target d before submit behind holds own avoids
+unlinks_one meaning s head a b t u whole (Misses avoids put is) (Hits e before2 submit2 behind2 holds2 own2 fresh2 put2 is2) = not_pending s head.target e before2 submit2 behind2 holds2 own2 avoids
+unlinks_one meaning s head a b t u whole (Misses avoids put is) (Polled e before2 submit2 behind2 setup2 tag2 holds2 own2 polled2 asks2 row2 put2 is2) =
     not_pending s head.target e before2 submit2 behind2 holds2 own2 avoids
-unlinks_one s head a b t u whole (Misses avoids put is) (Misses avoids2 put2 is2) = (put ∙ sym put2, is ∙ sym is2)
+unlinks_one meaning s head a b t u whole (Misses avoids put is) (Misses avoids2 put2 is2) = (put ∙ sym put2, is ∙ sym is2)
 
 -- ---- all moves
 
@@ -172,14 +172,14 @@ halts_one s e a b t u (DoesHalt other usable put is) (DoesHalt other2 usable2 pu
 
 pub leads_one : (s : State) (move : Move) (a b : List Put) (t u : State) → IsSound s → Once s.standing → Leads s move a t → Leads s move b u → Same a t b u
 leads_one s (Comes (up.Submit head transferred)) a b t u whole once h k = arrives_one s head transferred a b t u h.3 k.3
-leads_one s (Comes (up.Unlink head)) a b t u whole once h k = unlinks_one s head a b t u whole h.1 k.1
+leads_one s (Comes (up.Unlink head)) a b t u whole once h k = unlinks_one once.meaning s head a b t u whole h.1 k.1
 leads_one s (Refuses devid bytes f) a b t u whole once h k = (h.1 ∙ sym k.1, h.2 ∙ sym k.2)
 leads_one s (Take count) a b t u whole once h k = takes_one s count a b t u once h.1 k.1
 leads_one s Exec a b t u whole once h k = (h.1 ∙ sym k.1, executes_one s t u once h.0 k.0)
 leads_one s (Begin count) a b t u whole once h k = (h.1 ∙ sym k.1, begins_one s t u count once h.0 k.0)
 leads_one s (Fill count) a b t u whole once h k = fills_one s count a b t u h k
 leads_one s Answer a b t u whole once h k = answers_one s a b t u once h k
-leads_one s Pend a b t u whole once h k = postpones_one s a b t u h k
+leads_one s Pend a b t u whole once h k = postpones_one s a b t u once h k
 leads_one s Poll a b t u whole once h k = (h.1 ∙ sym k.1, polls_first_one s t u once h.0 k.0)
 leads_one s Notify a b t u whole once h k = notifies_one s a b t u h k
 leads_one s (Halt e) a b t u whole once h k = halts_one s e a b t u h k

@@ -15,6 +15,7 @@ returns c = λ run s t other move puts others goes step again.
     let grown = runs run start s goes in
     let stands : Stands s.log s.standing = subst (λ (log : List LogEntry). Stands log s.standing) (sym grown.1) (follows at_power_on grown.0 s.standing grown.2) in
     let once : Once s.standing = record {
+      meaning = record { asks = c.setups_have_one_meaning.ensures.one; row = c.setups_have_one_meaning.ensures.class };
       after = λ entry a b p q. c.one_standing.ensures (s.log ++ entry ∷ []) a b (c.grows.ensures s.log entry s.standing a stands p) (c.grows.ensures s.log entry s.standing b stands q);
       header = c.headers_are_read_again.ensures.out_one;
     } in
