@@ -1,6 +1,6 @@
 -- reads and writes, one more behind the others
-use Rattle.std.proofs.Common.{◌≡◌, ℕ, ◌+◌, ◌<◌, ◌≤◌, List, [], ◌++◌, length, take, drop, Option, Some, None, sym, ap, ◌∙◌, subst, append_assoc, arith}
-use Rattle.std.proofs.lemmas.List.{drop-drop, length-drop, length-take-le}
+use Rattle.std.proofs.Common.{◌≡◌, ℕ, ◌+◌, ◌<◌, ◌≤◌, List, ◌++◌, length, take, drop, Option, Some, None, sym, ap, ◌∙◌, subst, append_assoc, arith}
+use Rattle.std.proofs.lemmas.List.{drop-drop, length-take-le}
 use Rattle.tmc_base.specs.declared.source.ReadStep.{ReadStep}
 use Rattle.tmc_base.specs.declared.source.ReadStep.TheVariants.{Got}
 use Rattle.tmc_base.specs.declared.sink.WriteStep.{WriteStep}

@@ -1,9 +1,8 @@
 -- the limits of a script
-use Rattle.std.proofs.Common.{◌≡◌, ℕ, ◌+◌, ◌<◌, ◌≤◌, Bool, true, false, ltb, ◌==◌, cond, Result, Ok, Err, List, [], ◌∷◌, ◌++◌, length, refl, sym, ap, ◌∙◌, subst, arith, length-append, append_assoc, append-nil, Option, Some, None, take, get_or, suc}
+use Rattle.std.proofs.Common.{◌≡◌, ℕ, ◌+◌, ◌<◌, ◌≤◌, Bool, true, false, ltb, ◌==◌, cond, Result, Ok, Err, List, [], ◌∷◌, ◌++◌, length, refl, sym, ap, ◌∙◌, subst, arith, length-append, append_assoc, append-nil, take, get_or, suc}
 use Rattle.std.proofs.Math.Seq.{take-suc}
 use Rattle.std.proofs.lemmas.Bool.{ltb-false}
 use Rattle.std.specs.List.{AllByRecursion, onto_first}
-use Rattle.tmc_base.specs.Source.{GivesFirst}
 use Rattle.usbip_wire.specs.declared.urb.Dir.{Dir}
 use Rattle.event_text.specs.declared.line_fault.LineWhat.{LineWhat}
 use Rattle.event_text.specs.declared.line_fault.LineWhat.TheVariants.{TooLong, TooMany}

@@ -29,7 +29,7 @@ use usbip_wire::Dir;
 /// Runs the program: `words` are the arguments behind its name, the input comes from `source`, and the
 /// text goes to `sink`. The text is made whole before the first write, and each write offers all that
 /// is left of it. `ask` reads one byte more than a line may have at most, and `show` until a read passes a limit of a
-/// script.
+/// script. Behind a read that ended or failed no read is made, and behind a write that failed no write.
 ///
 /// | Status | Comes where | Printed |
 /// |---|---|---|

@@ -1,8 +1,7 @@
-use Rattle.std.proofs.Common.{◌≡◌, ◌++◌, ◌≤◌, length, rules, take, refl, sym, subst, arith}
-use Rattle.tmc_base.specs.Source.{GivesFirst}
+use Rattle.std.proofs.Common.{◌++◌, ◌≤◌, length, rules, take, refl, sym, subst, arith}
 use Rattle.tmc_base.specs.Reading.{Gave, none}
 use Rattle.tmc_tool.specs.declared.script.Place.TheVariants.{Within}
-use Rattle.tmc_tool.specs.Script.{KeepsLimits, IsBounded, Stands}
+use Rattle.tmc_tool.specs.Script.{IsBounded, Stands}
 use Rattle.tmc_tool.proofs.Limits.{at_start, none_bounded}
 use Rattle.tmc_tool.proofs.Runs.{gave_more, gives_more}
 use Rattle.tmc_tool.proofs.script.read_script.Goals as goal

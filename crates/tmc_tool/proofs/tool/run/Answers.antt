@@ -1,4 +1,4 @@
-use Rattle.std.proofs.Common.{◌≡◌, List, ℕ, Some, map, string_bytes, codes, refl, ap}
+use Rattle.std.proofs.Common.{◌≡◌, Some, map, string_bytes, codes, refl, ap}
 use Rattle.tmc_base.specs.Reading.{ReadRun, none}
 use Rattle.tmc_base.specs.Writing.{WriteRun}
 use Rattle.tmc_tool.specs.declared.command.Command.TheVariants.{Ask, Show}
