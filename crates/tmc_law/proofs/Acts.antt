@@ -1,11 +1,10 @@
 -- what a step does to the queues, one submit at a time
-use Rattle.std.proofs.Common.{◌≡◌, ◌∙◌, ◌≤◌, ℕ, ℤ, List, [], ◌∷◌, ◌++◌, map, length, ap, sym, subst, append-nil, arith}
+use Rattle.std.proofs.Common.{◌≡◌, ◌∙◌, ◌≤◌, ℤ, List, [], ◌∷◌, ◌++◌, map, length, ap, sym, subst, append-nil, arith}
 use Rattle.usbip_wire.specs.declared.urb.Dir.{Dir}
 use Rattle.usbip_wire.specs.declared.urb.Dir.TheVariants.{Out, In}
-use Rattle.usbip_wire.specs.declared.unlink.UnlinkHead.{UnlinkHead}
 use Rattle.tmc_law.specs.Endpoint.{Endpoint}
-use Rattle.tmc_law.specs.State.{State, Pending, pending, Avoids, queue_of, with_queue}
-use Rattle.tmc_law.specs.Put.{Put, answer_of, ended, success, stalled, unlinked, unplugged, unlink_answer}
+use Rattle.tmc_law.specs.State.{State, Pending, queue_of, with_queue}
+use Rattle.tmc_law.specs.Put.{Put, answer_of, ended, success}
 use Rattle.tmc_law.specs.Halts.{all_ended}
 use Rattle.tmc_law.specs.Acts.{SameQueues, Sized, FitsAt, IsStatus, Succeeds, IsLater, Acts, Done, Replies, Changes}
 use Rattle.tmc_law.proofs.Queued.{queue-with, with-own, with-twice}

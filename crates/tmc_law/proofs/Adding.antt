@@ -1,5 +1,5 @@
 -- what each move adds to the log
-use Rattle.std.proofs.Common.{◌≡◌, ◌∙◌, ℕ, Bool, true, false, List, [], ◌∷◌, ◌++◌, Option, Some, None, refl, ap, sym, subst}
+use Rattle.std.proofs.Common.{◌≡◌, ◌∙◌, ℕ, Bool, true, false, List, [], ◌∷◌, ◌++◌, None, refl, ap, sym, subst}
 use Rattle.usbip_wire.specs.Up as up
 use Rattle.tmc_wire.specs.declared.class_request.ClassRequest.{ClassRequest}
 use Rattle.tmc_wire.specs.declared.class_request.ClassRequest.TheVariants.{AbortOut, CheckOut, AbortIn, CheckIn, Clear, CheckClear, Capabilities, Pulse, ReadStatus, Ren, GoLocal, Lockout}
@@ -8,7 +8,7 @@ use Rattle.instr_plain.specs.declared.log.LogEntry.TheVariants as entry
 use Rattle.instr_plain.specs.Log.{After}
 use Rattle.instr_plain.specs.Standing.{Standing}
 use Rattle.tmc_law.specs.Endpoint.{Endpoint, Control, BulkOut, BulkIn, InterruptIn}
-use Rattle.tmc_law.specs.State.{State, Pending, Transfer, Waiting, Running, Nothing, AbortsOut, AbortsIn, Clears, with_queue, with_halt}
+use Rattle.tmc_law.specs.State.{State, Pending, Transfer, Running, Nothing, AbortsOut, AbortsIn, Clears, with_queue, with_halt}
 use Rattle.tmc_law.specs.Put.{Put}
 use Rattle.tmc_law.specs.Halts.{halts, HaltsItself, DoesHalt}
 use Rattle.tmc_law.specs.Queues.{Arrives, Queued, TurnedAway, Unlinks, Hits, Polled, Misses}

@@ -89,7 +89,7 @@ whole_taken BulkOut s before submit behind holds whole =
 whole_taken BulkIn s before submit behind holds whole = whole
 whole_taken InterruptIn s before submit behind holds whole = whole
 
-owed_amid : (entries : List Outstanding) (endpoint : Endpoint) (s : State) (before : List Pending) (submit : Pending) (behind : List Pending)
+pub owed_amid : (entries : List Outstanding) (endpoint : Endpoint) (s : State) (before : List Pending) (submit : Pending) (behind : List Pending)
     → Holds s endpoint before submit behind → AreOwed entries (pending s)
     → AreOwed entries ((in_front endpoint s ++ before) ++ submit ∷ (behind ++ in_back endpoint s))
 owed_amid entries endpoint s before submit behind holds owed =

@@ -7,7 +7,7 @@ use Rattle.tmc_law.specs.Endpoint.{Endpoint, Control, BulkOut, BulkIn, Interrupt
 use Rattle.tmc_law.specs.State.{State, Pending, queue_of, with_queue, pending}
 use Rattle.tmc_law.specs.Put.{Put, answer_of, stalled}
 use Rattle.tmc_law.specs.Halts.{halts, halt_answers}
-use Rattle.tmc_law.specs.Laws.{AreAccepted, without_answered}
+use Rattle.tmc_law.proofs.Entries.{AreAccepted, without_answered}
 use Rattle.tmc_law.proofs.AnswerBytes.{IsStatus, stalled_is}
 use Rattle.tmc_law.proofs.Owing.{IsOwed}
 use Rattle.tmc_law.proofs.Owed.{AreOwed, owed_at, owed_replaced}

@@ -12,7 +12,8 @@ use Rattle.tmc_law.specs.State.{Pending, Avoids}
 use Rattle.tmc_law.specs.Put.{Put, answer_of, ended, unlink_answer, returned, success}
 use Rattle.tmc_law.specs.Halts.{all_ended}
 use Rattle.tmc_law.specs.Aborts.{part_answer, without_part}
-use Rattle.tmc_law.specs.Laws.{AreAccepted, message_of, without_answered}
+use Rattle.tmc_law.specs.Laws.{message_of}
+use Rattle.tmc_law.proofs.Entries.{AreAccepted, without_answered}
 use Rattle.tmc_law.proofs.AnswerBytes.{IsStatus, success_is, head_of, submit_spelled, unlink_spelled}
 use Rattle.tmc_law.proofs.Outstanding.{NoneHas}
 use Rattle.tmc_law.proofs.Owing.{IsOwed, AreListed, listed_others}

@@ -13,6 +13,8 @@ pub mod Arrivals
 pub mod Telling
 pub mod AnswerBytes
 pub mod Outstanding
+pub mod Entries
+pub mod Awaiting
 pub mod Owed
 pub mod Owing
 pub mod Answering

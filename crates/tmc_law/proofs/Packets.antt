@@ -1,10 +1,9 @@
 -- packets, as whole transfers see them
-use Rattle.std.proofs.Common.{◌≡◌, ◌∙◌, ◌≢◌, inl, inr, ℕ, ◌+◌, ◌-◌, ◌*◌, ◌/◌, ◌%◌, ◌<◌, ◌≤◌, max, min, true, false, List, [], ◌∷◌, ◌++◌, length, take, drop, Option, Some, None, refl, ap, sym, subst, length-append, length-take, take-append-drop, take_all, arith}
+use Rattle.std.proofs.Common.{◌≡◌, ◌∙◌, ◌≢◌, ℕ, ◌+◌, ◌*◌, ◌%◌, ◌≤◌, List, [], ◌∷◌, length, take, drop, Some, None, refl, ap, sym, subst, length-append, length-take, take-append-drop, take_all, arith}
 use Rattle.std.proofs.Math.Nat.{div-add-mod}
-use Rattle.tmc_law.specs.Endpoint.{BulkOut, BulkIn, packet_size}
-use Rattle.tmc_law.specs.State.{State, Pending, Transfer, Piece, Idle, Sending, room}
+use Rattle.tmc_law.specs.Endpoint.{packet_size}
+use Rattle.tmc_law.specs.State.{State, Pending, Transfer}
 use Rattle.tmc_law.specs.Put.{Put, ended, success}
-use Rattle.tmc_law.specs.Halts.{halts, halt_answers}
 use Rattle.tmc_law.specs.BulkOut as out
 use Rattle.tmc_law.specs.BulkOut.{Belongs, Spoils, Moves, Takes, TakesEffect, packets_of, wants}
 use Rattle.tmc_law.specs.BulkIn as «in»

@@ -1,14 +1,10 @@
 -- the queues of a state, and what stands in them
-use Rattle.std.proofs.Common.{◌≡◌, ◌∙◌, ◌≢◌, ℕ, ◌+◌, ◌≤◌, false, cond, eqb, List, [], ◌∷◌, ◌++◌, length, refl, sym, subst, arith}
+use Rattle.std.proofs.Common.{◌≡◌, ◌∙◌, ◌≢◌, ℕ, ◌+◌, ◌≤◌, false, cond, eqb, List, [], ◌∷◌, ◌++◌, refl, sym, subst, arith}
 use Rattle.std.proofs.lemmas.Bool.{eq-eqb, ne_eqb}
-use Rattle.std.specs.Prelude.{slice_index}
-use Rattle.usbip_wire.specs.declared.urb.Dir.{Dir}
-use Rattle.usbip_wire.specs.declared.urb.Dir.TheVariants.{Out, In}
-use Rattle.tmc_law.specs.Endpoint.{Endpoint, Control, BulkOut, BulkIn, InterruptIn, number_of, way_of}
+use Rattle.tmc_law.specs.Endpoint.{Endpoint, Control, BulkOut, BulkIn, InterruptIn}
 use Rattle.tmc_law.specs.Acts.{SameQueues, Unpolled}
 use Rattle.tmc_law.specs.Reached.{AllFit}
 use Rattle.tmc_law.specs.State.{State, Pending, queue_of, with_queue, pending, Avoids}
-use Rattle.tmc_law.specs.Queues.{IsSubmit}
 
 -- ---- counting numbers
 

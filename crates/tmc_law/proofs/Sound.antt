@@ -16,7 +16,7 @@ use Rattle.tmc_law.proofs.Queued.{here, not_here, Each, each-with, each_same, No
 use Rattle.tmc_law.specs.Reached.{AllFit}
 pub use Rattle.tmc_law.proofs.Queued.{IsSound}
 use Rattle.usbip_wire.specs.declared.unlink.UnlinkHead.{UnlinkHead}
-use Rattle.tmc_law.specs.Acts.{Unpolled, Sized, FitsAt, IsLater, Acts, Done, Replies, Changes, Hit, Miss, unlinks_of, IsArrival}
+use Rattle.tmc_law.specs.Acts.{Unpolled, Sized, FitsAt, IsLater, Acts, Done, Replies, Changes, Hit, Miss, unlinks_of}
 pub use Rattle.tmc_law.specs.Acts.{Does, Arriving, Acting}
 use Rattle.tmc_law.proofs.ActsOf.{acts}
 use Rattle.tmc_law.proofs.Counted.{acts_count, arrival_count}

@@ -2,9 +2,8 @@
 use Rattle.std.specs.Prelude.{◌≡◌, ◌≢◌, ℕ, ◌+◌, Bool, false, ◌==◌, ◌||◌, if◌then◌else◌, List, [], ◌∷◌, ◌++◌, None}
 use Rattle.tmc_base.specs.declared.field.Field.{Field}
 use Rattle.usbip_wire.specs.declared.submit.SubmitHead.{SubmitHead}
-use Rattle.usbip_wire.specs.declared.dirs.Outstanding.{Outstanding}
-use Rattle.usbip_wire.specs.declared.dirs.Outstanding.TheVariants as outstanding
-use Rattle.usbip_wire.specs.Dirs.{find, others}
+use Rattle.usbip_wire.specs.Dirs.{find}
+use Rattle.usbip_wire.specs.Awaited.{Awaited, entries_of, sent, left_by, left}
 use Rattle.usbip_wire.specs.Down as down
 use Rattle.usbip_wire.specs.Up as up
 use Rattle.instr_plain.specs.declared.log.LogEntry.{LogEntry}
@@ -104,46 +103,30 @@ abbrev pub message_of : Put → down.Message
 message_of (Submitted asked answer transferred) = down.RetSubmit answer transferred
 message_of (Unlinked asked answer) = down.RetUnlink answer
 
--- what is outstanding when a message was sent
-abbrev pub entry_of : up.Message → Outstanding
-entry_of (up.Submit head transferred) = outstanding.Submit head.seqnum head.dir head.length
-entry_of (up.Unlink head) = outstanding.Unlink head.seqnum
-
-abbrev pub with_messages : List Outstanding → List up.Message → List Outstanding
-with_messages entries [] = entries
-with_messages entries (message ∷ messages) = with_messages (entries ++ entry_of message ∷ []) messages
-
--- what an answer leaves outstanding: not what it answers, and behind the answer to an unlink not the submit that was to
--- be unlinked
-abbrev pub left_by : List Outstanding → Put → List Outstanding
-left_by entries (Submitted asked answer transferred) = others answer.seqnum entries
-left_by entries (Unlinked asked answer) = others asked.target (others answer.seqnum entries)
-
--- what is outstanding behind answers
-abbrev pub without_answered : List Outstanding → List Put → List Outstanding
-without_answered entries [] = entries
-without_answered entries (put ∷ puts) = without_answered (left_by entries put) puts
+abbrev pub messages_of : List Put → List down.Message
+messages_of [] = []
+messages_of (put ∷ puts) = message_of put ∷ messages_of puts
 
 -- the answers have spellings that a reader accepts, each by what is outstanding when it comes
-abbrev pub AreAccepted : List Outstanding → List Put → Type 0
-AreAccepted entries [] = Unit {0}
-AreAccepted entries (put ∷ puts) =
-    ((bytes : List ℕ) × down.SpellsAnswer entries (message_of put) bytes) × AreAccepted (left_by entries put) puts
+abbrev pub AreAccepted : List Awaited → List Put → Type 0
+AreAccepted awaited [] = Unit {0}
+AreAccepted awaited (put ∷ puts) =
+    ((bytes : List ℕ) × down.SpellsAnswer (entries_of awaited) (message_of put) bytes) × AreAccepted (left_by awaited (message_of put)) puts
 
 -- the same of the answers of a run: what it takes in is outstanding until an answer takes it out
-abbrev pub IsAccepted : List Outstanding → List Entry → Type 0
-IsAccepted entries [] = Unit {0}
-IsAccepted entries (entry ∷ run) =
-    AreAccepted (with_messages entries (taken entry.move)) entry.puts
-    × IsAccepted (without_answered (with_messages entries (taken entry.move)) entry.puts) run
+abbrev pub IsAccepted : List Awaited → List Entry → Type 0
+IsAccepted awaited [] = Unit {0}
+IsAccepted awaited (entry ∷ run) =
+    AreAccepted (sent awaited (taken entry.move)) entry.puts
+    × IsAccepted (left (sent awaited (taken entry.move)) (messages_of entry.puts)) run
 
 -- an unlink comes with a number that is not outstanding
-abbrev pub IsNew : List Outstanding → Move → Type 0
-IsNew entries (Comes (up.Unlink head)) = find head.seqnum entries ≡ None
-IsNew entries _ = Unit {0}
+abbrev pub IsNew : List Awaited → Move → Type 0
+IsNew awaited (Comes (up.Unlink head)) = find head.seqnum (entries_of awaited) ≡ None
+IsNew awaited _ = Unit {0}
 
 -- the same of each unlink of a run
-abbrev pub AreNew : List Outstanding → List Entry → Type 0
-AreNew entries [] = Unit {0}
-AreNew entries (entry ∷ run) =
-    IsNew entries entry.move × AreNew (without_answered (with_messages entries (taken entry.move)) entry.puts) run
+abbrev pub AreNew : List Awaited → List Entry → Type 0
+AreNew awaited [] = Unit {0}
+AreNew awaited (entry ∷ run) =
+    IsNew awaited entry.move × AreNew (left (sent awaited (taken entry.move)) (messages_of entry.puts)) run

@@ -23,7 +23,9 @@ ghost use Rattle.tmc_law.specs.Told.{Tells};
 ghost use Rattle.tmc_law.specs.Laws.{NoneArrives, NoneAnswers, NoneAgain, AreInOrder, answers_to, NoneRenews, bytes_taken, IsAccepted, AreNew, refusal, EndsRefused, EndsOver};
 
 use instr_plain::{keeps_responses, one_response};
-use usbip_wire::{bad_fields_are_alone, bad_fields_are_refused, urbs_are_determined};
+use usbip_wire::{
+    answers_take_out, bad_fields_are_alone, bad_fields_are_refused, urbs_are_determined,
+};
 
 /// A run's fronts are runs, and two runs of which the second starts where the first ended join end to end. The
 /// same holds of told runs, and of what a run takes in and puts out.
@@ -137,4 +139,6 @@ pub fn answers_keep_order()
 /// answered, and less the submits whose unlink was answered.
 pub fn answers_are_accepted()
     ensures { (run : List Entry) (t : State) → Runs start run t → AreNew [] run → IsAccepted [] run }
-{}
+{
+    answers_take_out();
+}
