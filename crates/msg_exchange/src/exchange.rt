@@ -1,4 +1,5 @@
-ghost use Rattle.std.specs.Prelude.{◌≡◌, ◌≢◌, ◌↔◌, ℕ, ◌+◌, ◌-◌, ◌<◌, ◌≤◌, ◌==◌, ◌++◌, List, [], length, take, Bool, true, false, IsTrue, None, Some, IfOk, OnOk, OnErr};
+ghost use Rattle.std.specs.Prelude.{◌≡◌, ◌≢◌, ℕ, ◌+◌, ◌-◌, ◌<◌, ◌≤◌, ◌==◌, ◌++◌, List, [], length, take, Bool, true, false, None, IfOk, OnOk, OnErr};
+ghost use Rattle.std.specs.Option.{is_some};
 ghost use Rattle.tmc_wire.specs.declared.header.OutHeader.TheVariants.{Message};
 ghost use Rattle.tmc_wire.specs.Transfer.{OutText};
 ghost use Rattle.instr_plain.specs.declared.log.LogEntry.TheVariants as entry;
@@ -220,7 +221,7 @@ impl Exchange {
 
     /// Whether a message waits for execution.
     pub fn waits(&self) -> bool
-        ensures { IsTrue result ↔ (self.now.held.waiting ≡ None → ⊥) }
+        ensures { result ≡ is_some self.now.held.waiting }
     {
         self.ended_by.is_some()
     }

@@ -7,5 +7,7 @@
 #![tactic(auto)]
 
 mod exchange;
+#[cfg(test)]
+mod tests;
 
 pub use exchange::Exchange;
