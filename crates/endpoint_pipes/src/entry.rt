@@ -45,7 +45,7 @@ impl Entry {
         ensures whole { IsWhole self.new }
     {
         let left = self.bytes.len() - self.index;
-        self.index += if n < left { n } else { left };
+        self.index += n.min(left);
     }
 
     /// A packet comes behind the bytes that were given.
@@ -68,8 +68,9 @@ impl Entry {
         requires { IsWhole self.now }
         ensures { result ≡ record { head = self.now.head; moved = length (submit_of self.now).moved } }
     {
+        let head = self.head;
         Pending {
-            head: self.head,
+            head,
             moved: self.index as u32,
         }
     }

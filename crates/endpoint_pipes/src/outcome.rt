@@ -1,3 +1,5 @@
+ghost use Rattle.std.specs.Prelude.{◌≡◌};
+
 use tmc_base::Memory;
 use usbip_wire::SubmitHead;
 

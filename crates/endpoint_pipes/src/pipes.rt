@@ -119,9 +119,8 @@ impl Pipes {
         ensures found { IfSome result (λ place. StandsAt seqnum (list_of (endpoint_of ep) self.now) place) }
         ensures absent { IfNone result (Avoids seqnum (list_of (endpoint_of ep) self.now)) }
     {
-        let keys = self.queues.at(ep);
-        for place in 0..keys.len() {
-            if let Some(entry) = self.slab.get(keys[place]) {
+        for place in 0..self.queues.len_at(ep) {
+            if let Some(entry) = self.slab.get(self.queues.key(ep, place)) {
                 if entry.head.seqnum == seqnum {
                     return Some(place);
                 }
@@ -140,7 +139,7 @@ impl Pipes {
             length before ≡ place → self.new ≡ with_list (endpoint_of ep) (before ++ behind) self.old }
         ensures gone { Avoids result.head.seqnum (all_of self.new) }
     {
-        let key = self.queues.at(ep)[place];
+        let key = self.queues.key(ep, place);
         self.queues.remove(ep, place);
         self.slab.remove(key)
     }
@@ -172,7 +171,7 @@ impl Pipes {
             self.new ≡ record self.old {
                 bulk_out = moved_on submit (take (packets * packet_size) submit.left) (drop (packets * packet_size) submit.left) ∷ behind } }
     {
-        let key = self.queues.at(BULK_OUT)[0];
+        let key = self.queues.key(BULK_OUT, 0);
         self.slab[key].pass(packets as usize * PACKET_SIZE);
     }
 
@@ -183,7 +182,7 @@ impl Pipes {
         ensures { (submit : law.Pending) (behind : _) → list_of (endpoint_of ep) self.old ≡ submit ∷ behind →
             self.new ≡ with_list (endpoint_of ep) (filled_by submit packet.now ∷ behind) self.old }
     {
-        let key = self.queues.at(ep)[0];
+        let key = self.queues.key(ep, 0);
         self.slab[key].fill(packet);
     }
 
@@ -263,7 +262,9 @@ impl Pipes {
         ensures first { IfSome result (λ entry. (behind : _) × (list_of (endpoint_of ep) self.now ≡ submit_of entry.now ∷ behind)) }
         ensures none { IfNone result (list_of (endpoint_of ep) self.now ≡ []) }
     {
-        let key = *self.queues.at(ep).front()?;
-        self.slab.get(key)
+        if self.queues.len_at(ep) == 0 {
+            return None;
+        }
+        self.slab.get(self.queues.key(ep, 0))
     }
 }

@@ -1,4 +1,4 @@
-ghost use Rattle.std.specs.Prelude.{◌≡◌, ◌<◌, ◌++◌, ◌∷◌, [], length, remove, IfOk, OnOk, OnErr};
+ghost use Rattle.std.specs.Prelude.{◌≡◌, ◌+◌, ◌<◌, ◌++◌, ◌∷◌, [], length, remove, slice_index_or, IfOk, OnOk, OnErr};
 ghost use Rattle.endpoint_pipes.specs.Held.{endpoint_of};
 ghost use Rattle.endpoint_pipes.specs.Keys.{Keys, no_keys, keys_at, with_keys};
 
@@ -42,15 +42,28 @@ impl Queues {
         })
     }
 
-    /// The keys of an endpoint.
-    pub(crate) fn at(&self, ep: u8) -> &VecDeque<usize>
-        ensures { result.now.items ≡ keys_at (endpoint_of ep) self.now }
+    /// How many keys an endpoint has.
+    pub(crate) fn len_at(&self, ep: u8) -> usize
+        ensures { result ≡ length (keys_at (endpoint_of ep) self.now) }
     {
         match ep {
-            0 => &self.control,
-            1 => &self.bulk_out,
-            2 => &self.bulk_in,
-            _ => &self.interrupt_in,
+            0 => self.control.len(),
+            1 => self.bulk_out.len(),
+            2 => self.bulk_in.len(),
+            _ => self.interrupt_in.len(),
+        }
+    }
+
+    /// The key at this place of an endpoint's queue.
+    pub(crate) fn key(&self, ep: u8, place: usize) -> usize
+        requires { place < length (keys_at (endpoint_of ep) self.now) }
+        ensures { result ≡ slice_index_or (keys_at (endpoint_of ep) self.now) place result }
+    {
+        match ep {
+            0 => self.control[place],
+            1 => self.bulk_out[place],
+            2 => self.bulk_in[place],
+            _ => self.interrupt_in[place],
         }
     }
 
