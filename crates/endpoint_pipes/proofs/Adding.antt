@@ -1,5 +1,5 @@
 -- a submit arrives
-use Rattle.std.proofs.Common.{◌≡◌, ◌≢◌, ◌∙◌, ℕ, ◌+◌, ◌≤◌, ◌<◌, ◌==◌, List, [], ◌∷◌, ◌++◌, length, Option, Some, None, refl, ap, sym, subst, arith}
+use Rattle.std.proofs.Common.{◌≡◌, ◌∙◌, ℕ, ◌+◌, ◌≤◌, List, [], ◌∷◌, ◌++◌, length, Option, Some, None, ap, sym, subst, arith}
 use Rattle.std.proofs.lemmas.List.{length-append}
 use Rattle.std.proofs.lemmas.Bool.Decides.{nat_tests}
 use Rattle.tmc_law.specs.Endpoint.{Endpoint, Control, BulkOut, BulkIn, InterruptIn}
@@ -7,7 +7,7 @@ use Rattle.tmc_law.specs.State.{Pending, Halted}
 use Rattle.endpoint_pipes.specs.declared.entry.Entry.{Entry}
 use Rattle.endpoint_pipes.specs.Held.{Held, list_of, with_list, all_of}
 use Rattle.endpoint_pipes.specs.Keys.{Keys, keys_at, with_keys}
-use Rattle.endpoint_pipes.specs.Kept.{submit_of, entry_at, in_front, submits_of, held_of, IsThere, IsWhole, AreThere, count_of, total, size, IsSound}
+use Rattle.endpoint_pipes.specs.Kept.{submit_of, entry_at, in_front, submits_of, held_of, IsThere, IsWhole, count_of, total, size, IsSound}
 use Rattle.endpoint_pipes.specs.Outcome.{IsFree}
 use Rattle.endpoint_pipes.proofs.Counts.{count-append, none_avoids}
 use Rattle.endpoint_pipes.proofs.Stored.{Apart, OthersKept, same_submits, still_there, apart_vacant, submits-append, there-append, length-submits}
@@ -56,12 +56,12 @@ module _ (old new : List (Option Entry)) (keys : Keys) (e : Endpoint) (key : ℕ
       (there-append new (keys_at e keys) (key ∷ []) (still_there old new key others (keys_at e keys) apart_here (sound.there e))
       (subst (λ (o : Option Entry). IsThere o) (sym is) whole, tt))
       (λ n. let now : count_of n (submits_of new (keys_at e keys ++ key ∷ [])) ≡ count_of n (submits_of old (keys_at e keys)) + count_of n (submit_of entry ∷ []) =
-        ap (count_of n) lists ∙ count-append n (submits_of old (keys_at e keys)) (submit_of entry ∷ []) in
-        let sum = counted n in let most = fresh (submit_of entry) n (total old keys) none (sound.once n) in omega (arith, now, sum, most))
+      ap (count_of n) lists ∙ count-append n (submits_of old (keys_at e keys)) (submit_of entry ∷ []) in
+      let sum = counted n in let most = fresh (submit_of entry) n (total old keys) none (sound.once n) in omega (arith, now, sum, most))
       (let all : size keys ≡ size (with_keys e [] keys) + length (keys_at e keys) = ap size (sym (with_same keys e)) ∙ size_with keys e (keys_at e keys) in
-        let long = length-append (keys_at e keys) (key ∷ []) in
-        let few : length (all_of held) ≡ size keys = ap (λ (v : Held). length (all_of v)) (sym view) ∙ length_all old keys h sound in
-        let room = free.0 in omega (arith, all, long, few, room))
+      let long = length-append (keys_at e keys) (key ∷ []) in
+      let few : length (all_of held) ≡ size keys = ap (λ (v : Held). length (all_of v)) (sym view) ∙ length_all old keys h sound in
+      let room = free.0 in omega (arith, all, long, few, room))
 
   pub held_added : held_of new (with_keys e (keys_at e keys ++ key ∷ []) keys) h ≡ with_list e (list_of e held ++ submit_of entry ∷ []) held
   held_added =

@@ -1,14 +1,14 @@
 -- one slot changes, and the queue of one endpoint
-use Rattle.std.proofs.Common.{◌≡◌, ◌≢◌, ◌∙◌, ℕ, ◌+◌, ◌≤◌, ◌<◌, suc, Bool, List, [], ◌∷◌, ◌++◌, length, take, drop, Option, Some, None, refl, ap, sym, subst, arith}
+use Rattle.std.proofs.Common.{◌≡◌, ◌∙◌, ℕ, ◌+◌, ◌≤◌, List, [], ◌++◌, length, Option, Some, None, refl, ap, arith}
 use Rattle.tmc_law.specs.Endpoint.{Endpoint, Control, BulkOut, BulkIn, InterruptIn}
-use Rattle.tmc_law.specs.State.{Pending, Halted, Avoids}
+use Rattle.tmc_law.specs.State.{Pending, Halted}
 use Rattle.tmc_law.specs.Queues.{pending_most}
 use Rattle.endpoint_pipes.specs.declared.entry.Entry.{Entry}
 use Rattle.endpoint_pipes.specs.Held.{Held, list_of, with_list, all_of}
 use Rattle.endpoint_pipes.specs.Keys.{Keys, keys_at, with_keys}
-use Rattle.endpoint_pipes.specs.Kept.{submit_of, entry_at, in_front, submits_of, held_of, IsThere, IsWhole, AreThere, count_of, total, size, IsSound}
-use Rattle.endpoint_pipes.proofs.Counts.{count-append, count_first, avoids_none, none_avoids}
-use Rattle.endpoint_pipes.proofs.Stored.{Apart, OthersKept, same_submits, still_there, apart_vacant, apart_number, submits-append, there-append, there-left, there-right, length-submits}
+use Rattle.endpoint_pipes.specs.Kept.{entry_at, submits_of, held_of, AreThere, count_of, total, size, IsSound}
+use Rattle.endpoint_pipes.proofs.Counts.{count-append}
+use Rattle.endpoint_pipes.proofs.Stored.{Apart, OthersKept, same_submits, still_there, apart_vacant, apart_number}
 
 -- what holds of no keys and of an endpoint's holds when one endpoint has none
 emptied : (P : List ℕ → Type 0) → P [] → (keys : Keys) (e f : Endpoint) → P (keys_at f keys) → P (keys_at f (with_keys e [] keys))

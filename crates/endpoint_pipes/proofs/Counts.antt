@@ -1,5 +1,5 @@
 -- how often a number is among submits
-use Rattle.std.proofs.Common.{◌≡◌, ◌≢◌, ◌∙◌, ℕ, ◌+◌, ◌≤◌, ◌==◌, List, [], ◌∷◌, ◌++◌, refl, ap, sym, subst, inl, inr, arith}
+use Rattle.std.proofs.Common.{◌≡◌, ℕ, ◌+◌, List, [], ◌∷◌, ◌++◌, refl, subst, inl, inr, arith}
 use Rattle.std.proofs.lemmas.Bool.Decides.{nat_tests}
 use Rattle.tmc_law.specs.State.{Pending, Avoids}
 use Rattle.endpoint_pipes.specs.Held.{IsPending}
@@ -14,9 +14,10 @@ count_first x xs = grind (arith, nat_tests)
 
 pub avoids_none : (n : ℕ) (xs : List Pending) → count_of n xs ≡ 0 → Avoids n xs
 avoids_none n [] none = tt
-avoids_none n (x ∷ xs) none =
-    (λ (same : x.head.seqnum ≡ n). let once : count_of n (x ∷ xs) ≡ 1 + count_of n xs = subst (λ (m : ℕ). count_of m (x ∷ xs) ≡ 1 + count_of m xs) same (count_first x xs) in omega (arith, once, none),
-    avoids_none n xs (omega (arith, none)))
+avoids_none n (x ∷ xs) none = (
+  λ (same : x.head.seqnum ≡ n). let once : count_of n (x ∷ xs) ≡ 1 + count_of n xs = subst (λ (m : ℕ). count_of m (x ∷ xs) ≡ 1 + count_of m xs) same (count_first x xs) in omega (arith, once, none),
+  avoids_none n xs (omega (arith, none)),
+)
 
 pub none_avoids : (n : ℕ) (xs : List Pending) → Avoids n xs → count_of n xs ≡ 0
 none_avoids n [] avoids = refl

@@ -1,5 +1,5 @@
 -- bytes are taken from a submit, or given to it
-use Rattle.std.proofs.Common.{◌≡◌, ◌∙◌, ℕ, ◌+◌, ◌-◌, ◌≤◌, min, List, ◌++◌, length, take, drop, false, refl, ap, sym, arith, rules}
+use Rattle.std.proofs.Common.{◌≡◌, ◌∙◌, ℕ, ◌+◌, ◌-◌, min, List, ◌++◌, length, take, drop, false, ap, sym, arith}
 use Rattle.std.proofs.lemmas.List.{take_min, drop_min, drop-drop, drop-take, take-take, take-append-drop, length-drop}
 use Rattle.usbip_wire.specs.declared.submit.SubmitHead.{SubmitHead}
 use Rattle.tmc_law.specs.State.{Pending}
@@ -17,6 +17,6 @@ passed head bytes i n k least =
     let size : k ≡ min n (length (drop i bytes)) = least ∙ ap (λ (m : ℕ). min n m) (sym (length-drop i bytes)) in
     let left : drop (i + k) bytes ≡ drop n (drop i bytes) = sym (drop-drop k i bytes) ∙ ap (λ (m : ℕ). drop m (drop i bytes)) size ∙ drop_min n (drop i bytes) in
     let moved : take (i + k) bytes ≡ take i bytes ++ take n (drop i bytes) =
-      take_both bytes i k ∙ ap (λ (m : ℕ). take i bytes ++ take m (drop i bytes)) size ∙ ap (λ (l : List ℕ). take i bytes ++ l) (take_min n (drop i bytes)) in
+    take_both bytes i k ∙ ap (λ (m : ℕ). take i bytes ++ take m (drop i bytes)) size ∙ ap (λ (l : List ℕ). take i bytes ++ l) (take_min n (drop i bytes)) in
     ap (λ (l : List ℕ). record { head = head; left = l; moved = take (i + k) bytes; polled = false }) left
     ∙ ap (λ (l : List ℕ). record { head = head; left = drop n (drop i bytes); moved = l; polled = false }) moved

@@ -1,13 +1,13 @@
 -- the submit at a place of a queue
-use Rattle.std.proofs.Common.{◌≡◌, ◌≢◌, ◌∙◌, ℕ, ◌+◌, ◌≤◌, ◌<◌, suc, zero, List, [], ◌∷◌, ◌++◌, length, take, drop, get_or, Option, Some, None, IsSome, refl, ap, sym, subst, arith}
-use Rattle.std.proofs.lemmas.List.{take-append-drop, drop_more, take_more, length-take-le, take_at, drop_at}
-use Rattle.tmc_law.specs.Endpoint.{Endpoint}
+use Rattle.std.proofs.Common.{◌≡◌, ◌∙◌, ℕ, ◌+◌, ◌<◌, suc, zero, List, [], ◌∷◌, ◌++◌, length, take, drop, get_or, Option, Some, None, IsSome, refl, ap, sym, subst, inl, arith}
+use Rattle.std.proofs.lemmas.List.{take-append-drop, drop_more, take_more, length-take-le, length-append, take_at, drop_at}
+use Rattle.tmc_law.specs.Endpoint.{Endpoint, Control, BulkOut, BulkIn, InterruptIn}
 use Rattle.tmc_law.specs.State.{Pending, Halted, Avoids}
 use Rattle.endpoint_pipes.specs.declared.entry.Entry.{Entry}
-use Rattle.endpoint_pipes.specs.Held.{Held, list_of, all_of}
+use Rattle.endpoint_pipes.specs.Held.{Held, endpoint_of, list_of, all_of, IsPending, HasRoom, HasPackets}
 use Rattle.endpoint_pipes.specs.Keys.{Keys, keys_at}
 use Rattle.endpoint_pipes.specs.Kept.{submit_of, entry_at, in_front, submits_of, held_of, IsThere, IsWhole, AreThere, IsSound, StandsAt}
-use Rattle.endpoint_pipes.proofs.Counts.{avoids-append}
+use Rattle.endpoint_pipes.proofs.Counts.{avoids-append, pending-left, pending-right}
 use Rattle.endpoint_pipes.proofs.Stored.{submits-append, there-left, there-right, length-submits}
 use Rattle.endpoint_pipes.proofs.Changes.{list-held}
 
@@ -73,3 +73,43 @@ same_split b before x y a behind same long =
     let first : b ≡ before = sym (take_at b (x ∷ a) (length before) long) ∙ ap (take (length before)) same ∙ take_at before (y ∷ behind) (length before) refl in
     let rest : x ∷ a ≡ y ∷ behind = sym (drop_at b (x ∷ a) (length before) long) ∙ ap (drop (length before)) same ∙ drop_at before (y ∷ behind) (length before) refl in
     (first, ap (λ (l : List Pending). get_or l zero x) rest, ap (λ (l : List Pending). drop (suc zero) l) rest)
+
+-- the list of an endpoint, from its first entry on
+pub first_list : (slots : List (Option Entry)) (keys : Keys) (h : Halted) (held : Held) (e : Endpoint) (key : ℕ) (entry : Entry) → held_of slots keys h ≡ held
+    → 0 < length (keys_at e keys) → key ≡ get_or (keys_at e keys) 0 key → entry_at slots key ≡ Some entry
+    → list_of e held ≡ submit_of entry ∷ submits_of slots (drop 1 (keys_at e keys))
+first_list slots keys h held e key entry view within read is =
+    sym (list_is slots keys h held e view) ∙ submits_split slots (keys_at e keys) 0 key entry within read is
+
+pub some_room : (n : ℕ) (list : List Pending) → HasRoom n list → 0 < length list
+some_room n [] there = absurd there
+some_room n (first ∷ others) there = omega arith
+
+pub some_packets : (n : ℕ) (list : List Pending) → HasPackets n list → 0 < length list
+some_packets n [] there = absurd there
+some_packets n (first ∷ others) there = omega arith
+
+pub stands_within : (n : ℕ) (list : List Pending) (place : ℕ) → StandsAt n list place → place < length list
+stands_within n list place s =
+    let long : length list ≡ length s.before + length (s.submit ∷ s.behind) = ap length s.stands ∙ length-append s.before (s.submit ∷ s.behind) in
+    let at = s.at in omega (arith, long, at)
+
+pub stands_pending : (n : ℕ) (list : List Pending) (place : ℕ) → StandsAt n list place → IsPending n list
+stands_pending n list place s = subst (IsPending n) (sym s.stands) (pending-right n s.before (s.submit ∷ s.behind) (inl s.number))
+
+pub pending_all : (n : ℕ) (held : Held) (e : Endpoint) → IsPending n (list_of e held) → IsPending n (all_of held)
+pending_all n held Control there = pending-left n held.control (held.bulk_out ++ (held.bulk_in ++ held.interrupt_in)) there
+pending_all n held BulkOut there =
+    pending-right n held.control (held.bulk_out ++ (held.bulk_in ++ held.interrupt_in)) (pending-left n held.bulk_out (held.bulk_in ++ held.interrupt_in) there)
+pending_all n held BulkIn there =
+    pending-right n held.control (held.bulk_out ++ (held.bulk_in ++ held.interrupt_in))
+    (pending-right n held.bulk_out (held.bulk_in ++ held.interrupt_in) (pending-left n held.bulk_in held.interrupt_in there))
+pending_all n held InterruptIn there =
+    pending-right n held.control (held.bulk_out ++ (held.bulk_in ++ held.interrupt_in))
+    (pending-right n held.bulk_out (held.bulk_in ++ held.interrupt_in) (pending-right n held.bulk_in held.interrupt_in there))
+
+pub avoids_all : (n : ℕ) (held : Held) → ((k : ℕ) → k < 4 → Avoids n (list_of (endpoint_of k) held)) → Avoids n (all_of held)
+avoids_all n held each =
+    avoids-append n held.control (held.bulk_out ++ (held.bulk_in ++ held.interrupt_in)) (each 0 (omega arith))
+    (avoids-append n held.bulk_out (held.bulk_in ++ held.interrupt_in) (each 1 (omega arith))
+    (avoids-append n held.bulk_in held.interrupt_in (each 2 (omega arith)) (each 3 (omega arith))))

@@ -1,14 +1,13 @@
 -- a submit leaves its queue
-use Rattle.std.proofs.Common.{◌≡◌, ◌≢◌, ◌∙◌, ℕ, ◌+◌, ◌≤◌, ◌<◌, ◌==◌, if◌then◌else◌, suc, List, [], ◌∷◌, ◌++◌, length, take, drop, get_or, Option, Some, None, refl, ap, sym, subst, arith}
+use Rattle.std.proofs.Common.{◌≡◌, ◌∙◌, ℕ, ◌+◌, ◌<◌, ◌==◌, if◌then◌else◌, suc, List, [], ◌∷◌, ◌++◌, length, take, drop, get_or, Option, Some, ap, sym, subst, arith}
 use Rattle.std.specs.List.{remove}
-use Rattle.std.proofs.lemmas.List.{take-append-drop}
 use Rattle.std.proofs.lemmas.List.Edits.{length-remove}
 use Rattle.tmc_law.specs.Endpoint.{Endpoint}
 use Rattle.tmc_law.specs.State.{Pending, Halted, Avoids}
 use Rattle.endpoint_pipes.specs.declared.entry.Entry.{Entry}
 use Rattle.endpoint_pipes.specs.Held.{Held, list_of, with_list, all_of}
 use Rattle.endpoint_pipes.specs.Keys.{Keys, keys_at, with_keys}
-use Rattle.endpoint_pipes.specs.Kept.{submit_of, entry_at, in_front, submits_of, held_of, IsThere, IsWhole, AreThere, count_of, total, size, IsSound}
+use Rattle.endpoint_pipes.specs.Kept.{submit_of, entry_at, submits_of, held_of, IsThere, IsWhole, AreThere, count_of, total, size, IsSound}
 use Rattle.endpoint_pipes.proofs.Counts.{count-append, count_first, avoids_none}
 use Rattle.endpoint_pipes.proofs.Stored.{Apart, OthersKept, same_submits, still_there, apart_number, submits-append, there-append, there-left, there-right}
 use Rattle.endpoint_pipes.proofs.Changes.{total_with, total_same, size_with, with_same, held_with, sound_with, all_apart, count_all}
@@ -65,15 +64,15 @@ module _ (old new : List (Option Entry)) (keys : Keys) (e : Endpoint) (place key
       (still_there old new key others first (apart_number old key entry is first none_before) (there-left old first (key ∷ last) parts))
       (still_there old new key others last (apart_number old key entry is last none_behind) (there-right old first (key ∷ last) parts).1))
       (λ n. let now : count_of n (submits_of new (remove (keys_at e keys) place)) ≡ count_of n (submits_of old first) + count_of n (submits_of old last) =
-        ap (count_of n) left_over ∙ count-append n (submits_of old first) (submits_of old last) in
-        let sum = counted n in let most = sound.once n in omega (arith, now, sum, most))
+      ap (count_of n) left_over ∙ count-append n (submits_of old first) (submits_of old last) in
+      let sum = counted n in let most = sound.once n in omega (arith, now, sum, most))
       (let less = length-remove (keys_at e keys) place within in let all : size keys ≡ size (with_keys e [] keys) + length (keys_at e keys) =
-        ap size (sym (with_same keys e)) ∙ size_with keys e (keys_at e keys) in let most = sound.few in omega (arith, less, all, most))
+      ap size (sym (with_same keys e)) ∙ size_with keys e (keys_at e keys) in let most = sound.few in omega (arith, less, all, most))
 
   pub gone_removed : (h : Halted) → Avoids entry.head.seqnum (all_of (held_of new (with_keys e (remove (keys_at e keys) place) keys) h))
   gone_removed h =
       let now : count_of entry.head.seqnum (submits_of new (remove (keys_at e keys) place)) ≡ count_of entry.head.seqnum (submits_of old first) + count_of entry.head.seqnum (submits_of old last) =
-        ap (count_of entry.head.seqnum) left_over ∙ count-append entry.head.seqnum (submits_of old first) (submits_of old last) in
+      ap (count_of entry.head.seqnum) left_over ∙ count-append entry.head.seqnum (submits_of old first) (submits_of old last) in
       let sum = total_with new keys e (remove (keys_at e keys) place) entry.head.seqnum in
       let same = total_same old new key others (with_keys e [] keys) apart entry.head.seqnum in
       let all = count_all new (with_keys e (remove (keys_at e keys) place) keys) h entry.head.seqnum in
@@ -85,11 +84,11 @@ module _ (old new : List (Option Entry)) (keys : Keys) (e : Endpoint) (place key
       → (submit_of entry ≡ submit) × (held_of new (with_keys e (remove (keys_at e keys) place) keys) h ≡ with_list e (before ++ behind) held)
   held_removed h held view before submit behind stood at =
       let same = same_split (submits_of old first) before (submit_of entry) submit (submits_of old last) behind
-        (sym lists ∙ list_is old keys h held e view ∙ stood) (length_before old (keys_at e keys) place within (sound.there e) ∙ sym at) in (
+      (sym lists ∙ list_is old keys h held e view ∙ stood) (length_before old (keys_at e keys) place within (sound.there e) ∙ sym at) in (
         same.1,
         held_with old new key others keys e (remove (keys_at e keys) place) apart (before ++ behind)
-        (left_over ∙ ap (λ (l : List Pending). l ++ submits_of old last) same.0 ∙ ap (λ (l : List Pending). before ++ l) same.2) h
-        ∙ ap (with_list e (before ++ behind)) view,
+            (left_over ∙ ap (λ (l : List Pending). l ++ submits_of old last) same.0 ∙ ap (λ (l : List Pending). before ++ l) same.2) h
+            ∙ ap (with_list e (before ++ behind)) view,
       )
 
   -- the submit changes, and stays in its place
@@ -111,22 +110,23 @@ module _ (old new : List (Option Entry)) (keys : Keys) (e : Endpoint) (place key
         (sound_with old new key others keys e (keys_at e keys) apart sound
         (subst (AreThere new) (sym (split (keys_at e keys) place key within read))
         (there-append new first (key ∷ last)
-        (still_there old new key others first (apart_number old key entry is first none_before) (there-left old first (key ∷ last) parts))
-        (subst (λ (o : Option Entry). IsThere o) (sym now) whole,
-        still_there old new key others last (apart_number old key entry is last none_behind) (there-right old first (key ∷ last) parts).1)))
+        (still_there old new key others first (apart_number old key entry is first none_before) (there-left old first (key ∷ last) parts)) (
+          subst (λ (o : Option Entry). IsThere o) (sym now) whole,
+          still_there old new key others last (apart_number old key entry is last none_behind) (there-right old first (key ∷ last) parts).1,
+        )))
         (λ n. let same = set_counts n in let sum = counted n in let most = sound.once n in omega (arith, same, sum, most))
         (let all : size keys ≡ size (with_keys e [] keys) + length (keys_at e keys) = ap size (sym (with_same keys e)) ∙ size_with keys e (keys_at e keys) in
-          let most = sound.few in omega (arith, all, most)))
+        let most = sound.few in omega (arith, all, most)))
 
     pub held_set : (h : Halted) (held : Held) → held_of old keys h ≡ held → (before : List Pending) (submit : Pending) (behind : List Pending)
         → list_of e held ≡ before ++ submit ∷ behind → length before ≡ place
         → (submit_of entry ≡ submit) × (held_of new keys h ≡ with_list e (before ++ submit_of later ∷ behind) held)
     held_set h held view before submit behind stood at =
         let same = same_split (submits_of old first) before (submit_of entry) submit (submits_of old last) behind
-          (sym lists ∙ list_is old keys h held e view ∙ stood) (length_before old (keys_at e keys) place within (sound.there e) ∙ sym at) in (
+        (sym lists ∙ list_is old keys h held e view ∙ stood) (length_before old (keys_at e keys) place within (sound.there e) ∙ sym at) in (
           same.1,
           ap (λ (ks : Keys). held_of new ks h) (sym (with_same keys e))
-          ∙ held_with old new key others keys e (keys_at e keys) apart (before ++ submit_of later ∷ behind)
-          (set_lists ∙ ap (λ (l : List Pending). l ++ submit_of later ∷ submits_of old last) same.0 ∙ ap (λ (l : List Pending). before ++ submit_of later ∷ l) same.2) h
-          ∙ ap (with_list e (before ++ submit_of later ∷ behind)) view,
+              ∙ held_with old new key others keys e (keys_at e keys) apart (before ++ submit_of later ∷ behind)
+              (set_lists ∙ ap (λ (l : List Pending). l ++ submit_of later ∷ submits_of old last) same.0 ∙ ap (λ (l : List Pending). before ++ submit_of later ∷ l) same.2) h
+              ∙ ap (with_list e (before ++ submit_of later ∷ behind)) view,
         )

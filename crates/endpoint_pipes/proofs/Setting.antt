@@ -1,5 +1,5 @@
 -- a slot is written
-use Rattle.std.proofs.Common.{◌≡◌, ℕ, suc, zero, List, [], ◌∷◌, set, Option, Some, None, refl}
+use Rattle.std.proofs.Common.{◌≡◌, ℕ, suc, zero, List, [], ◌∷◌, set, Option, Some, refl}
 use Rattle.endpoint_pipes.specs.declared.entry.Entry.{Entry}
 use Rattle.endpoint_pipes.specs.Kept.{entry_at}
 

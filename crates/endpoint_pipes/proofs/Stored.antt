@@ -2,7 +2,7 @@
 use Rattle.std.proofs.Common.{◌≡◌, ◌≢◌, ◌∙◌, ℕ, ◌+◌, ◌≤◌, suc, List, [], ◌∷◌, ◌++◌, length, Option, Some, None, refl, ap, sym, subst, arith}
 use Rattle.tmc_law.specs.State.{Pending}
 use Rattle.endpoint_pipes.specs.declared.entry.Entry.{Entry}
-use Rattle.endpoint_pipes.specs.Kept.{submit_of, entry_at, in_front, submits_of, IsThere, IsWhole, AreThere, count_of}
+use Rattle.endpoint_pipes.specs.Kept.{submit_of, entry_at, in_front, submits_of, IsThere, AreThere, count_of}
 use Rattle.endpoint_pipes.proofs.Counts.{count_first}
 
 -- the key is none of these
@@ -28,9 +28,10 @@ still_there old new key others (k ∷ keys) apart there =
 -- a key without an entry is none of these
 pub apart_vacant : (slots : List (Option Entry)) (key : ℕ) → entry_at slots key ≡ None → (keys : List ℕ) → AreThere slots keys → Apart key keys
 apart_vacant slots key vacant [] there = tt
-apart_vacant slots key vacant (k ∷ keys) there =
-    (λ (same : k ≡ key). subst (λ (o : Option Entry). IsThere o) (ap (λ (m : ℕ). entry_at slots m) same ∙ vacant) there.0,
-    apart_vacant slots key vacant keys there.1)
+apart_vacant slots key vacant (k ∷ keys) there = (
+  λ (same : k ≡ key). subst (λ (o : Option Entry). IsThere o) (ap (λ (m : ℕ). entry_at slots m) same ∙ vacant) there.0,
+  apart_vacant slots key vacant keys there.1,
+)
 
 fewer : (n : ℕ) (o : Option Entry) (submits : List Pending) → count_of n submits ≤ count_of n (in_front o submits)
 fewer n None submits = omega arith
@@ -40,11 +41,12 @@ fewer n (Some entry) submits = omega arith
 pub apart_number : (slots : List (Option Entry)) (key : ℕ) (entry : Entry) → entry_at slots key ≡ Some entry → (keys : List ℕ)
     → count_of entry.head.seqnum (submits_of slots keys) ≡ 0 → Apart key keys
 apart_number slots key entry is [] none = tt
-apart_number slots key entry is (k ∷ keys) none =
-    (λ (same : k ≡ key). let here : count_of entry.head.seqnum (in_front (entry_at slots k) (submits_of slots keys)) ≡ 1 + count_of entry.head.seqnum (submits_of slots keys) =
+apart_number slots key entry is (k ∷ keys) none = (
+  λ (same : k ≡ key). let here : count_of entry.head.seqnum (in_front (entry_at slots k) (submits_of slots keys)) ≡ 1 + count_of entry.head.seqnum (submits_of slots keys) =
       ap (λ (o : Option Entry). count_of entry.head.seqnum (in_front o (submits_of slots keys))) (ap (λ (m : ℕ). entry_at slots m) same ∙ is)
       ∙ count_first (submit_of entry) (submits_of slots keys) in omega (arith, here, none),
-    apart_number slots key entry is keys (let less = fewer entry.head.seqnum (entry_at slots k) (submits_of slots keys) in omega (arith, less, none)))
+  apart_number slots key entry is keys (let less = fewer entry.head.seqnum (entry_at slots k) (submits_of slots keys) in omega (arith, less, none)),
+)
 
 front-append : (o : Option Entry) (xs ys : List Pending) → in_front o (xs ++ ys) ≡ in_front o xs ++ ys
 front-append None xs ys = refl

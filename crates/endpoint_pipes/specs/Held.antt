@@ -1,8 +1,8 @@
 -- what the pipes keep of a device's state
-use Rattle.std.specs.Prelude.{◌≡◌, ◌≢◌, ◌⊎◌, ℕ, ◌≤◌, Bool, true, false, ◌==◌, if◌then◌else◌, List, [], ◌∷◌, ◌++◌, length, map}
+use Rattle.std.specs.Prelude.{◌≡◌, ◌⊎◌, ℕ, ◌≤◌, Bool, false, ◌==◌, if◌then◌else◌, List, [], ◌∷◌, ◌++◌, length}
 use Rattle.usbip_wire.specs.declared.urb.Dir.TheVariants.{In}
 use Rattle.tmc_law.specs.Endpoint.{Endpoint, Control, BulkOut, BulkIn, InterruptIn}
-use Rattle.tmc_law.specs.State.{State, Pending, Halted, room}
+use Rattle.tmc_law.specs.State.{Pending, Halted, room}
 use Rattle.tmc_law.specs.BulkOut.{packets_of}
 
 -- the endpoint that has this number

@@ -68,9 +68,9 @@ impl Entry {
         requires { IsWhole self.now }
         ensures { result ≡ record { head = self.now.head; moved = length (submit_of self.now).moved } }
     {
-        let head = self.head;
+        let _asked = self.head.length;
         Pending {
-            head,
+            head: self.head,
             moved: self.index as u32,
         }
     }

@@ -14,7 +14,9 @@ pub enum PipeFault {
 }
 
 impl From<Memory> for PipeFault {
-    ghost from_gives = { λ memory fault. fault ≡ PipeFault.Memory };
+    ghost use Rattle.endpoint_pipes.specs.declared.outcome.PipeFault.TheVariants as fault;
+
+    ghost from_gives = { λ memory given. given ≡ fault.Memory };
 
     fn from(_memory: Memory) -> PipeFault {
         PipeFault::Memory

@@ -105,13 +105,26 @@ impl Pipes {
     pub fn unlink(&mut self, target: u32) -> Unlinked
         ensures { Unlinks target self.old self.new result }
     {
-        for ep in 0..4 {
-            if let Some(place) = self.find(ep, target) {
+        match self.locate(target) {
+            Some((ep, place)) => {
                 self.take_at(ep, place);
-                return Unlinked::Hit;
+                Unlinked::Hit
+            }
+            None => Unlinked::Miss,
+        }
+    }
+
+    /// The endpoint of the pending submit with this number, and its place there.
+    fn locate(&self, seqnum: u32) -> Option<(u8, usize)>
+        ensures found { IfSome result (λ at. StandsAt seqnum (list_of (endpoint_of at.0) self.now) at.1) }
+        ensures absent { IfNone result (Avoids seqnum (all_of self.now)) }
+    {
+        for ep in 0..4 {
+            if let Some(place) = self.find(ep, seqnum) {
+                return Some((ep, place));
             }
         }
-        Unlinked::Miss
+        None
     }
 
     /// The place of this number in an endpoint's queue.
@@ -169,7 +182,8 @@ impl Pipes {
         requires there { HasPackets packets self.old.bulk_out }
         ensures { (submit : law.Pending) (behind : _) → self.old.bulk_out ≡ submit ∷ behind →
             self.new ≡ record self.old {
-                bulk_out = moved_on submit (take (packets * packet_size) submit.left) (drop (packets * packet_size) submit.left) ∷ behind } }
+              bulk_out = moved_on submit (take (packets * packet_size) submit.left) (drop (packets * packet_size) submit.left) ∷ behind;
+            } }
     {
         let key = self.queues.key(BULK_OUT, 0);
         self.slab[key].pass(packets as usize * PACKET_SIZE);
@@ -242,10 +256,10 @@ impl Pipes {
     pub fn holds(&self, seqnum: u32) -> bool
         ensures { MatchBool result (IsPending seqnum (all_of self.now)) (Avoids seqnum (all_of self.now)) }
     {
-        self.find(0, seqnum).is_some()
-            || self.find(1, seqnum).is_some()
-            || self.find(2, seqnum).is_some()
-            || self.find(3, seqnum).is_some()
+        match self.locate(seqnum) {
+            Some(_) => true,
+            None => false,
+        }
     }
 
     /// How many submits are pending.
@@ -265,6 +279,6 @@ impl Pipes {
         if self.queues.len_at(ep) == 0 {
             return None;
         }
-        self.slab.get(self.queues.key(ep, 0))
+        Some(&self.slab[self.queues.key(ep, 0)])
     }
 }

@@ -1,4 +1,4 @@
-use Rattle.std.proofs.Common.{◌≡◌, ◌<◌, ℕ, List, [], length, Option, sym, subst, arith}
+use Rattle.std.proofs.Common.{◌<◌, List, [], length, Option, sym, subst, arith}
 use Rattle.tmc_law.specs.State.{Pending, Avoids}
 use Rattle.endpoint_pipes.specs.declared.entry.Entry.{Entry}
 use Rattle.endpoint_pipes.specs.Held.{endpoint_of}

@@ -1,7 +1,7 @@
-use Rattle.std.proofs.Common.{◌≡◌, sym, subst, ap, ◌∙◌}
+use Rattle.std.proofs.Common.{sym, subst, ap, ◌∙◌}
 use Rattle.tmc_law.specs.State.{Avoids, Halted}
-use Rattle.endpoint_pipes.specs.Held.{Held, endpoint_of, all_of}
-use Rattle.endpoint_pipes.specs.Keys.{Keys, keys_at, with_keys}
+use Rattle.endpoint_pipes.specs.Held.{endpoint_of, all_of}
+use Rattle.endpoint_pipes.specs.Keys.{Keys, keys_at}
 use Rattle.endpoint_pipes.specs.Kept.{IsSound, held_of}
 use Rattle.endpoint_pipes.proofs.Placing.{place_within, entry_there, some_there, whole_there}
 use Rattle.endpoint_pipes.proofs.Removing.{sound_removed, gone_removed, held_removed}
