@@ -4,7 +4,8 @@ use Rattle.std.proofs.lemmas.List.{take-append-drop, drop_more, take_more, lengt
 use Rattle.tmc_law.specs.Endpoint.{Endpoint, Control, BulkOut, BulkIn, InterruptIn}
 use Rattle.tmc_law.specs.State.{Pending, Halted, Avoids}
 use Rattle.endpoint_pipes.specs.declared.entry.Entry.{Entry}
-use Rattle.endpoint_pipes.specs.Held.{Held, endpoint_of, list_of, all_of, IsPending, HasRoom, HasPackets}
+use Rattle.endpoint_pipes.specs.Held.{Held, endpoint_of, list_of, all_of, IsPending}
+use Rattle.endpoint_pipes.specs.Outcome.{first_of, HasRoom}
 use Rattle.endpoint_pipes.specs.Keys.{Keys, keys_at}
 use Rattle.endpoint_pipes.specs.Kept.{submit_of, entry_at, in_front, submits_of, held_of, IsThere, IsWhole, AreThere, IsSound, StandsAt}
 use Rattle.endpoint_pipes.proofs.Counts.{avoids-append, pending-left, pending-right}
@@ -81,13 +82,13 @@ pub first_list : (slots : List (Option Entry)) (keys : Keys) (h : Halted) (held 
 first_list slots keys h held e key entry view within read is =
     sym (list_is slots keys h held e view) ∙ submits_split slots (keys_at e keys) 0 key entry within read is
 
-pub some_room : (n : ℕ) (list : List Pending) → HasRoom n list → 0 < length list
+pub some_room : (n : ℕ) (list : List Pending) → HasRoom n (first_of list) → 0 < length list
 some_room n [] there = absurd there
 some_room n (first ∷ others) there = omega arith
 
-pub some_packets : (n : ℕ) (list : List Pending) → HasPackets n list → 0 < length list
-some_packets n [] there = absurd there
-some_packets n (first ∷ others) there = omega arith
+pub some_first : (list : List Pending) → IsSome (first_of list) → 0 < length list
+some_first [] there = absurd (cc)
+some_first (first ∷ others) there = omega arith
 
 pub stands_within : (n : ℕ) (list : List Pending) (place : ℕ) → StandsAt n list place → place < length list
 stands_within n list place s =

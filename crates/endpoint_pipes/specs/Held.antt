@@ -1,9 +1,7 @@
 -- what the pipes keep of a device's state
 use Rattle.std.specs.Prelude.{◌≡◌, ◌⊎◌, ℕ, ◌≤◌, Bool, false, ◌==◌, if◌then◌else◌, List, [], ◌∷◌, ◌++◌, length}
-use Rattle.usbip_wire.specs.declared.urb.Dir.TheVariants.{In}
 use Rattle.tmc_law.specs.Endpoint.{Endpoint, Control, BulkOut, BulkIn, InterruptIn}
 use Rattle.tmc_law.specs.State.{Pending, Halted, room}
-use Rattle.tmc_law.specs.BulkOut.{packets_of}
 
 -- the endpoint that has this number
 abbrev pub endpoint_of : ℕ → Endpoint
@@ -60,13 +58,3 @@ with_mark Control halted held = held
 with_mark BulkOut halted held = record held { halted = record held.halted { bulk_out = halted } }
 with_mark BulkIn halted held = record held { halted = record held.halted { bulk_in = halted } }
 with_mark InterruptIn halted held = record held { halted = record held.halted { interrupt_in = halted } }
-
--- the first of them has so many packets more
-abbrev pub HasPackets : ℕ → List Pending → Type 0
-HasPackets packets [] = ⊥
-HasPackets packets (first ∷ others) = packets ≤ packets_of (length first.left)
-
--- the first of them is an IN submit that has room for so many bytes more
-abbrev pub HasRoom : ℕ → List Pending → Type 0
-HasRoom size [] = ⊥
-HasRoom size (first ∷ others) = (first.head.dir ≡ In) × (length first.moved ≤ first.head.length) × (size ≤ room first)

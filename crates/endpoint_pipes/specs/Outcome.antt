@@ -1,5 +1,6 @@
 -- what the calls of the pipes tell
-use Rattle.std.specs.Prelude.{◌≡◌, ℕ, ◌<◌, List, [], ◌∷◌, ◌++◌, length, Option, Some, None}
+use Rattle.std.specs.Prelude.{◌≡◌, ℕ, ◌+◌, ◌<◌, ◌≤◌, List, [], ◌∷◌, ◌++◌, length, Option, Some, None}
+use Rattle.usbip_wire.specs.declared.urb.Dir.TheVariants.{In}
 use Rattle.tmc_law.specs.Endpoint.{Endpoint}
 use Rattle.tmc_law.specs.State as law
 use Rattle.tmc_law.specs.Queues.{pending_most}
@@ -48,6 +49,11 @@ first_of (first ∷ others) = Some (record { head = first.head; moved = length f
 abbrev pub left_of : List law.Pending → List ℕ
 left_of [] = []
 left_of (first ∷ others) = first.left
+
+-- there is a first submit, an IN submit that has room for so many bytes more
+abbrev pub HasRoom : ℕ → Option Pending → Type 0
+HasRoom more None = ⊥
+HasRoom more (Some first) = (first.head.dir ≡ In) × (first.moved + more ≤ first.head.length)
 
 -- what goes into the answer to a submit
 pub record Ends (submit : law.Pending) (over : Over) : Type 0 where

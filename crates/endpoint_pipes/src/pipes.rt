@@ -1,13 +1,14 @@
-ghost use Rattle.std.specs.Prelude.{◌≡◌, ◌≢◌, ◌+◌, ◌*◌, ◌<◌, ◌≤◌, ◌++◌, ◌∷◌, [], length, take, drop, true, false, IfOk, IfErr, IfSome, IfNone, OnOk, OnErr, MatchBool};
+ghost use Rattle.std.specs.Prelude.{◌≡◌, ◌+◌, ◌*◌, ◌<◌, ◌≤◌, ◌++◌, ◌∷◌, [], length, take, drop, true, false, IfOk, IfErr, IfSome, IfNone, IsSome, OnOk, OnErr, MatchBool};
 ghost use Rattle.usbip_wire.specs.Submit.{Carries};
 ghost use Rattle.tmc_law.specs.Endpoint.{BulkOut, packet_size};
 ghost use Rattle.tmc_law.specs.State.{arrived, Avoids};
 ghost use Rattle.tmc_law.specs.State as law;
+ghost use Rattle.tmc_law.specs.BulkOut.{packets_of};
 ghost use Rattle.tmc_law.specs.Queues.{pending_most};
 ghost use Rattle.tmc_law.specs.Packets.{moved_on, filled_by};
-ghost use Rattle.endpoint_pipes.specs.Held.{endpoint_of, nothing_held, list_of, with_list, all_of, is_marked, with_mark, IsPending, HasPackets, HasRoom};
+ghost use Rattle.endpoint_pipes.specs.Held.{endpoint_of, nothing_held, list_of, with_list, all_of, is_marked, with_mark, IsPending};
 ghost use Rattle.endpoint_pipes.specs.Kept.{IsWhole, StandsAt, submit_of};
-ghost use Rattle.endpoint_pipes.specs.Outcome.{IsFree, Refuses, Unlinks, first_of, left_of, Ends};
+ghost use Rattle.endpoint_pipes.specs.Outcome.{IsFree, Refuses, Unlinks, first_of, left_of, HasRoom, Ends};
 
 use crate::entry::Entry;
 use crate::outcome::{Over, Pending, PipeFault, Unlinked};
@@ -179,7 +180,8 @@ impl Pipes {
     /// The next packets of the first Bulk-OUT submit are taken.
     pub fn take_out(&mut self, packets: u32)
         requires some { 1 ≤ packets }
-        requires there { HasPackets packets self.old.bulk_out }
+        requires there { IsSome (first_of self.old.bulk_out) }
+        requires left { packets ≤ packets_of (length (left_of self.old.bulk_out)) }
         ensures { (submit : law.Pending) (behind : _) → self.old.bulk_out ≡ submit ∷ behind →
             self.new ≡ record self.old {
               bulk_out = moved_on submit (take (packets * packet_size) submit.left) (drop (packets * packet_size) submit.left) ∷ behind;
@@ -192,7 +194,7 @@ impl Pipes {
     /// A packet goes into the first submit of an endpoint.
     pub fn give_in(&mut self, ep: u8, packet: &[u8])
         requires endpoint { ep < 4 }
-        requires there { HasRoom (length packet.now) (list_of (endpoint_of ep) self.old) }
+        requires there { HasRoom (length packet.now) (first_of (list_of (endpoint_of ep) self.old)) }
         ensures { (submit : law.Pending) (behind : _) → list_of (endpoint_of ep) self.old ≡ submit ∷ behind →
             self.new ≡ with_list (endpoint_of ep) (filled_by submit packet.now ∷ behind) self.old }
     {
@@ -203,7 +205,7 @@ impl Pipes {
     /// The first submit of an endpoint leaves its queue.
     pub fn answer(&mut self, ep: u8) -> Over
         requires endpoint { ep < 4 }
-        requires there { list_of (endpoint_of ep) self.old ≢ [] }
+        requires there { IsSome (first_of (list_of (endpoint_of ep) self.old)) }
         ensures over { (submit : law.Pending) (behind : _) → list_of (endpoint_of ep) self.old ≡ submit ∷ behind → Ends submit result }
         ensures left { (submit : law.Pending) (behind : _) → list_of (endpoint_of ep) self.old ≡ submit ∷ behind →
             self.new ≡ with_list (endpoint_of ep) behind self.old }
