@@ -1,15 +1,16 @@
 -- a submit arrives
-use Rattle.std.proofs.Common.{◌≡◌, ◌∙◌, ℕ, ◌+◌, ◌≤◌, List, [], ◌∷◌, ◌++◌, length, Option, Some, None, ap, sym, subst, arith}
+use Rattle.std.proofs.Common.{refl, ◌≡◌, ◌∙◌, ℕ, ◌+◌, ◌≤◌, List, [], ◌∷◌, ◌++◌, length, Option, Some, None, ap, sym, subst, arith}
 use Rattle.std.proofs.lemmas.List.{length-append}
 use Rattle.std.proofs.lemmas.Bool.Decides.{nat_tests}
 use Rattle.tmc_law.specs.Endpoint.{Endpoint, Control, BulkOut, BulkIn, InterruptIn}
 use Rattle.tmc_law.specs.State.{Pending, Halted}
 use Rattle.endpoint_pipes.specs.declared.entry.Entry.{Entry}
-use Rattle.endpoint_pipes.specs.Held.{Held, list_of, with_list, all_of}
+use Rattle.endpoint_pipes.specs.Held.{Held, list_of, with_list, all_of, AreUnpolled}
+use Rattle.tmc_law.specs.Reached.{AreDistinct}
 use Rattle.endpoint_pipes.specs.Keys.{Keys, keys_at, with_keys}
 use Rattle.endpoint_pipes.specs.Kept.{submit_of, entry_at, in_front, submits_of, held_of, IsThere, IsWhole, count_of, total, size, IsSound}
 use Rattle.endpoint_pipes.specs.Outcome.{IsFree}
-use Rattle.endpoint_pipes.proofs.Counts.{count-append, none_avoids}
+use Rattle.endpoint_pipes.proofs.Counts.{count-append, none_avoids, distinct_once, unpolled-append}
 use Rattle.endpoint_pipes.proofs.Stored.{Apart, OthersKept, same_submits, still_there, apart_vacant, submits-append, there-append, length-submits}
 use Rattle.endpoint_pipes.proofs.Changes.{total_with, size_with, with_same, held_with, sound_with, all_apart_vacant, count_all}
 use Rattle.endpoint_pipes.proofs.Placing.{list_is}
@@ -68,3 +69,21 @@ module _ (old new : List (Option Entry)) (keys : Keys) (e : Endpoint) (key : ℕ
       held_with old new key others keys e (keys_at e keys ++ key ∷ []) apart (list_of e held ++ submit_of entry ∷ [])
       (lists ∙ ap (λ (l : List Pending). l ++ submit_of entry ∷ []) (list_is old keys h held e view)) h
       ∙ ap (with_list e (list_of e held ++ submit_of entry ∷ [])) view
+
+front_unpolled : (o : Option Entry) (submits : List Pending) → AreUnpolled submits → AreUnpolled (in_front o submits)
+front_unpolled None submits rest = rest
+front_unpolled (Some entry) submits rest = (refl, rest)
+
+unpolled : (slots : List (Option Entry)) (keys : List ℕ) → AreUnpolled (submits_of slots keys)
+unpolled slots [] = tt
+unpolled slots (k ∷ keys) = front_unpolled (entry_at slots k) (submits_of slots keys) (unpolled slots keys)
+
+pub all_unpolled : (slots : List (Option Entry)) (keys : Keys) (h : Halted) → AreUnpolled (all_of (held_of slots keys h))
+all_unpolled slots keys h =
+    unpolled-append (submits_of slots keys.control) (submits_of slots keys.bulk_out ++ (submits_of slots keys.bulk_in ++ submits_of slots keys.interrupt_in)) (unpolled slots keys.control)
+    (unpolled-append (submits_of slots keys.bulk_out) (submits_of slots keys.bulk_in ++ submits_of slots keys.interrupt_in) (unpolled slots keys.bulk_out)
+    (unpolled-append (submits_of slots keys.bulk_in) (submits_of slots keys.interrupt_in) (unpolled slots keys.bulk_in) (unpolled slots keys.interrupt_in)))
+
+pub all_distinct : (slots : List (Option Entry)) (keys : Keys) (h : Halted) → IsSound slots keys → AreDistinct (all_of (held_of slots keys h))
+all_distinct slots keys h sound =
+    distinct_once (all_of (held_of slots keys h)) (λ n. let all = count_all slots keys h n in let most = sound.once n in omega (arith, all, most))

@@ -1,8 +1,9 @@
 -- how often a number is among submits
-use Rattle.std.proofs.Common.{◌≡◌, ℕ, ◌+◌, List, [], ◌∷◌, ◌++◌, refl, subst, inl, inr, arith}
+use Rattle.std.proofs.Common.{◌≤◌, ◌≡◌, ℕ, ◌+◌, List, [], ◌∷◌, ◌++◌, refl, subst, inl, inr, arith}
 use Rattle.std.proofs.lemmas.Bool.Decides.{nat_tests}
 use Rattle.tmc_law.specs.State.{Pending, Avoids}
-use Rattle.endpoint_pipes.specs.Held.{IsPending}
+use Rattle.endpoint_pipes.specs.Held.{IsPending, AreUnpolled}
+use Rattle.tmc_law.specs.Reached.{AreDistinct}
 use Rattle.endpoint_pipes.specs.Kept.{count_of}
 
 pub count-append : (n : ℕ) (xs ys : List Pending) → count_of n (xs ++ ys) ≡ count_of n xs + count_of n ys
@@ -34,3 +35,14 @@ pending-left n (x ∷ xs) ys there = elim there [ inl same ↦ inl same | inr re
 pub pending-right : (n : ℕ) (xs ys : List Pending) → IsPending n ys → IsPending n (xs ++ ys)
 pending-right n [] ys there = there
 pending-right n (x ∷ xs) ys there = inr (pending-right n xs ys there)
+
+pub distinct_once : (xs : List Pending) → ((n : ℕ) → count_of n xs ≤ 1) → AreDistinct xs
+distinct_once [] once = tt
+distinct_once (x ∷ xs) once = (
+  avoids_none x.head.seqnum xs (let first = count_first x xs in let most = once x.head.seqnum in omega (arith, first, most)),
+  distinct_once xs (λ n. let most = once n in omega (arith, most)),
+)
+
+pub unpolled-append : (xs ys : List Pending) → AreUnpolled xs → AreUnpolled ys → AreUnpolled (xs ++ ys)
+unpolled-append [] ys first second = second
+unpolled-append (x ∷ xs) ys first second = (first.0, unpolled-append xs ys first.1 second)

@@ -1,7 +1,7 @@
 -- what the pipes keep of a device's state
-use Rattle.std.specs.Prelude.{◌≡◌, ◌⊎◌, ℕ, ◌≤◌, Bool, false, ◌==◌, if◌then◌else◌, List, [], ◌∷◌, ◌++◌, length}
+use Rattle.std.specs.Prelude.{◌≡◌, ◌⊎◌, ℕ, Bool, false, ◌==◌, if◌then◌else◌, List, [], ◌∷◌, ◌++◌}
 use Rattle.tmc_law.specs.Endpoint.{Endpoint, Control, BulkOut, BulkIn, InterruptIn}
-use Rattle.tmc_law.specs.State.{Pending, Halted, room}
+use Rattle.tmc_law.specs.State.{Pending, Halted}
 
 -- the endpoint that has this number
 abbrev pub endpoint_of : ℕ → Endpoint
@@ -58,3 +58,8 @@ with_mark Control halted held = held
 with_mark BulkOut halted held = record held { halted = record held.halted { bulk_out = halted } }
 with_mark BulkIn halted held = record held { halted = record held.halted { bulk_in = halted } }
 with_mark InterruptIn halted held = record held { halted = record held.halted { interrupt_in = halted } }
+
+-- for none of these submits the status byte was polled
+abbrev pub AreUnpolled : List Pending → Type 0
+AreUnpolled [] = Unit {0}
+AreUnpolled (submit ∷ submits) = (submit.polled ≡ false) × AreUnpolled submits

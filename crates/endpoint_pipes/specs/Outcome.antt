@@ -1,5 +1,5 @@
 -- what the calls of the pipes tell
-use Rattle.std.specs.Prelude.{◌≡◌, ℕ, ◌+◌, ◌<◌, ◌≤◌, List, [], ◌∷◌, ◌++◌, length, Option, Some, None}
+use Rattle.std.specs.Prelude.{◌≡◌, ℕ, ◌+◌, ◌<◌, ◌≤◌, false, List, [], ◌∷◌, ◌++◌, length, Option, Some, None}
 use Rattle.usbip_wire.specs.declared.urb.Dir.TheVariants.{In}
 use Rattle.tmc_law.specs.Endpoint.{Endpoint}
 use Rattle.tmc_law.specs.State as law
@@ -32,6 +32,7 @@ pub record Leaves (target : ℕ) (old new : Held) : Type 0 where
   pub behind : List law.Pending
   pub stood : list_of endpoint old ≡ before ++ submit ∷ behind
   pub number : submit.head.seqnum ≡ target
+  pub unpolled : submit.polled ≡ false
   pub left : new ≡ with_list endpoint (before ++ behind) old
   pub gone : law.Avoids target (all_of new)
 

@@ -6,7 +6,8 @@ ghost use Rattle.tmc_law.specs.State as law;
 ghost use Rattle.tmc_law.specs.BulkOut.{packets_of};
 ghost use Rattle.tmc_law.specs.Queues.{pending_most};
 ghost use Rattle.tmc_law.specs.Packets.{moved_on, filled_by};
-ghost use Rattle.endpoint_pipes.specs.Held.{endpoint_of, nothing_held, list_of, with_list, all_of, is_marked, with_mark, IsPending};
+ghost use Rattle.tmc_law.specs.Reached.{AreDistinct};
+ghost use Rattle.endpoint_pipes.specs.Held.{endpoint_of, nothing_held, list_of, with_list, all_of, is_marked, with_mark, IsPending, AreUnpolled};
 ghost use Rattle.endpoint_pipes.specs.Kept.{IsWhole, StandsAt, submit_of};
 ghost use Rattle.endpoint_pipes.specs.Outcome.{IsFree, Refuses, Unlinks, first_of, left_of, HasRoom, Ends};
 
@@ -264,10 +265,12 @@ impl Pipes {
         }
     }
 
-    /// How many submits are pending.
+    /// How many submits are pending. Their numbers are distinct.
     pub fn len(&self) -> u32
         ensures len { result ≡ length (all_of self.now) }
         ensures few { result ≤ pending_most }
+        ensures distinct { AreDistinct (all_of self.now) }
+        ensures unpolled { AreUnpolled (all_of self.now) }
     {
         self.queues.len() as u32
     }

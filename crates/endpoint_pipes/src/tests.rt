@@ -24,12 +24,7 @@ fn ask(
 }
 
 /// A Bulk-OUT submit arrives.
-fn send(
-    rt: &impl Abort,
-    pipes: &mut Pipes,
-    seqnum: u32,
-    bytes: &[u8],
-) -> Result<(), PipeFault> {
+fn send(rt: &impl Abort, pipes: &mut Pipes, seqnum: u32, bytes: &[u8]) -> Result<(), PipeFault> {
     assert!(rt; bytes.len() < 1_000);
     let head = SubmitHead {
         seqnum,
