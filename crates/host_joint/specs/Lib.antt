@@ -1,0 +1,3 @@
+-- messages in flight
+pub mod Lines
+pub mod Unlinking
