@@ -1,2 +1,10 @@
 mod Queues
 mod Flows
+mod Parts
+mod Taking
+mod Filling
+mod Logged
+mod Listing
+mod Staging
+mod Asking
+mod Falling

@@ -1,7 +1,8 @@
 -- the queues of a state
-use Rattle.std.proofs.Common.{◌≡◌, ◌⊎◌, inl, inr, ℕ, Bool, false, eqb, List, [], ◌∷◌, ◌++◌, refl, subst}
+use Rattle.std.proofs.Common.{◌≡◌, ◌⊎◌, inl, inr, ℕ, Bool, true, false, eqb, List, [], ◌∷◌, ◌++◌, refl, subst}
 use Rattle.tmc_law.specs.Endpoint.{Endpoint, Control, BulkOut, BulkIn, InterruptIn, number_of}
 use Rattle.tmc_law.specs.Acts.{SameQueues}
+use Rattle.tmc_law.specs.Reached.{AllFit}
 use Rattle.tmc_law.specs.State.{State, Pending, queue_of, with_queue, pending, Avoids}
 
 -- ---- one queue and the others
@@ -95,3 +96,10 @@ avoids_queue n s h BulkOut = avoids-front n s.bulk_out (s.bulk_in ++ s.interrupt
 avoids_queue n s h BulkIn = avoids-front n s.bulk_in s.interrupt_in (avoids-behind n s.bulk_out (s.bulk_in ++ s.interrupt_in) (avoids-behind n s.control (s.bulk_out ++ (s.bulk_in ++ s.interrupt_in)) h))
 avoids_queue n s h InterruptIn = avoids-behind n s.bulk_in s.interrupt_in (avoids-behind n s.bulk_out (s.bulk_in ++ s.interrupt_in) (avoids-behind n s.control (s.bulk_out ++ (s.bulk_in ++ s.interrupt_in)) h))
 
+
+-- ---- the queues of a state that can be reached
+
+pub record IsSound (s : State) : Type 0 where
+  pub fits : (e : Endpoint) → AllFit e (queue_of e s)
+  pub polled : (e : Endpoint) (before : List Pending) (submit : Pending) (behind : List Pending) → queue_of e s ≡ before ++ submit ∷ behind → submit.polled ≡ true
+      → (e ≡ Control) × (before ≡ [])

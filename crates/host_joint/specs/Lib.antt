@@ -1,3 +1,8 @@
 -- messages in flight
 pub mod Lines
 pub mod Unlinking
+-- an ask in hand
+pub mod Jobs
+pub mod Reads
+pub mod Stage
+pub mod Asking

@@ -5,6 +5,8 @@
 //! nothing, and its contract is the law.
 #![tactic(auto)]
 
+mod asks;
 mod lines;
 
+pub use asks::{asking_stays, cancelled_asks_stay, unplugged_asks_were_in_hand};
 pub use lines::lines_stay;

@@ -1,0 +1,50 @@
+//! An ask in hand: its message, its execution and its response, wherever they are. Each function does nothing, and its
+//! contract is the law.
+
+ghost use Rattle.std.specs.Prelude.{◌≢◌, List, ◌++◌};
+ghost use Rattle.usbip_wire.specs.declared.submit.SubmitHead.{SubmitHead};
+ghost use Rattle.usbip_wire.specs.declared.unlink.UnlinkHead.{UnlinkHead};
+ghost use Rattle.usbip_wire.specs.Up as up;
+ghost use Rattle.tmc_law.specs.Endpoint.{Endpoint};
+ghost use Rattle.tmc_law.specs.State.{State, start};
+ghost use Rattle.tmc_law.specs.Put.{Put};
+ghost use Rattle.tmc_law.specs.Step.{Move, Unplug, Steps};
+ghost use Rattle.tmc_law.specs.Run.{Entry, Runs, taken};
+ghost use Rattle.host_joint.specs.Lines.{AllFitting, InOrder};
+ghost use Rattle.host_joint.specs.Asking.{Ask, Asking, IsSafe, Cancelled, WasAsking};
+
+use tmc_law::{pending_submits_are_sound, runs_join, steps_act, the_log_grows};
+use tmc_wire::headers_are_read_again;
+
+/// It stays one under each step of a device, with halts and unlinks, until the device is unplugged. An unlink hits the last
+/// submit of its queue.
+pub fn asking_stays()
+    ensures { (run : List Entry) (ask : Ask) (s t : State) (move : Move) (ups : List up.Message) (downs puts : List Put)
+        → Runs start run s → Steps s move puts t → AllFitting (taken move ++ ups) → IsSafe move ups s
+        → Asking ask (taken move ++ ups) downs s → Asking ask ups (downs ++ puts) t }
+{
+    pending_submits_are_sound();
+    the_log_grows();
+    headers_are_read_again();
+}
+
+/// A cancelled ask stays one, until the device is unplugged: its unlinks are answered, each one that hits takes the last submit
+/// of its queue, and packets that were moved may be lost.
+pub fn cancelled_asks_stay()
+    ensures { (run : List Entry) (asked : Endpoint → List SubmitHead) (unlinks : List UnlinkHead) (ask : Ask) (s t : State) (move : Move) (ups : List up.Message) (downs puts : List Put)
+        → Runs start run s → Steps s move puts t → AllFitting (taken move ++ ups) → InOrder (taken move ++ ups) → move ≢ Unplug
+        → Cancelled asked unlinks ask (taken move ++ ups) downs s → Cancelled asked unlinks ask ups (downs ++ puts) t }
+{
+    pending_submits_are_sound();
+    steps_act();
+    runs_join();
+    the_log_grows();
+    headers_are_read_again();
+}
+
+/// Where the device is unplugged, the ask was in hand until then: what is true of it at that moment stays to be used for the
+/// answers that were on their way, and behind them come those of the unplugging.
+pub fn unplugged_asks_were_in_hand()
+    ensures { (ask : Ask) (s t : State) (ups : List up.Message) (downs puts : List Put) → Steps s Unplug puts t
+        → Asking ask ups downs s → WasAsking ask ups (downs ++ puts) t }
+{}
