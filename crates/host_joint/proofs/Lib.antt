@@ -8,3 +8,8 @@ mod Listing
 mod Staging
 mod Asking
 mod Falling
+mod Owning
+mod Counting
+mod Hosting
+mod Starting
+mod Numbered

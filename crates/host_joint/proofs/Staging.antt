@@ -425,7 +425,7 @@ stage_tears last message tag size past todo sofar flow s (Waits waits part idle 
 stage_tears last message tag size past todo sofar flow s (Rests response waits part idle ran all still asks at further) = Rests response waits part refl ran all (ap torn still) asks at further
 stage_tears last message tag size past todo sofar flow s (Owes response waits part owed ran all still none at further) = Dropped response refl waits part refl ran all (ap torn still) none at
 stage_tears last message tag size past todo sofar flow s (Sends response carried bytes piece waits part sends ran all giving fits text none own at) =
-    Tears response carried bytes piece.left waits part refl ran all (ap torn giving) fits.1 text none at
+    Tears response carried bytes piece.left waits part refl ran all (ap torn giving) fits text none at
 stage_tears last message tag size past todo sofar flow s (Sent response carried bytes waits part idle ran all over fits text none at) = Sent response carried bytes waits part refl ran all (ap torn over) fits text none at
 stage_tears last message tag size past todo sofar flow s (Tears response carried bytes dropped waits part idle ran all tears fits text none at) =
     Tears response carried bytes dropped waits part refl ran all (ap torn tears) fits text none at

@@ -110,10 +110,20 @@ pub record Cancelled (asked : Endpoint → List SubmitHead) (unlinks : List Unli
   pub asking : Asking ask ups downs s
 
 -- An ask whose device was unplugged: it was in hand until then, and behind the answers that were on their way come those of all
--- that was pending. The log is as it was, and nothing more happens.
+-- that was pending. The instrument is as it was, and nothing more happens.
 pub record WasAsking (ask : Ask) (ups : List up.Message) (downs : List Put) (t : State) : Type 0 where
   pub before : State
   pub front : List Put
   pub asking : Asking ask ups front before
   pub behind : downs ≡ front ++ unplug_answers before
   pub log : t.log ≡ before.log
+  pub standing : t.standing ≡ before.standing
+
+-- Nothing of a ticket is on its way in either direction; submits to Interrupt-IN and their answers may be.
+pub record IsQuiet (ups : List up.Message) (downs : List Put) : Type 0 where
+  pub control : sent_to Control ups ≡ []
+  pub bulk_out : sent_to BulkOut ups ≡ []
+  pub bulk_in : sent_to BulkIn ups ≡ []
+  pub unlinks : unlinks_in ups ≡ []
+  pub outs : events_of BulkOut downs ≡ []
+  pub ins : events_of BulkIn downs ≡ []

@@ -6,3 +6,6 @@ pub mod Jobs
 pub mod Reads
 pub mod Stage
 pub mod Asking
+-- what follows from an ask, and what a host does with it
+pub mod Owned
+pub mod Hosted

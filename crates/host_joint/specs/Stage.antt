@@ -98,7 +98,7 @@ pub data Stage (last : ℕ) (message : List ℕ) (tag size : ℕ) (past todo : L
       → piece_bytes tag (length carried) (carried ++ unread s) ≡ bytes → todo ≡ [] → last_header past ≡ Some (Request tag size) → Stage last message tag size past todo sofar flow s
   -- the rest of it was dropped, since Bulk-IN halted
   Tears : (response carried bytes dropped : List ℕ) → s.waiting ≡ None → s.part ≡ [] → s.side ≡ Idle → Ran last message response s.log
-      → response ≡ sofar ++ (carried ++ unread s) → flow ≡ Torn bytes → length carried ≤ size
+      → response ≡ sofar ++ (carried ++ unread s) → flow ≡ Torn bytes → (1 ≤ length carried) × (length carried ≤ size)
       → piece_bytes tag (length carried) (carried ++ unread s) ≡ bytes ++ dropped → todo ≡ [] → last_header past ≡ Some (Request tag size) → Stage last message tag size past todo sofar flow s
   -- it will not be executed, since Bulk-OUT halted before its message was whole
   Barred : s.halted.bulk_out ≡ true → IsAnother last s.waiting → s.part ≡ [] → s.side ≡ Idle → NoExec last s.log → sofar ≡ [] → flow ≡ Still → todo ≡ [] → IsInner (last_header past) → Stage last message tag size past todo sofar flow s

@@ -1,7 +1,7 @@
 //! An ask in hand: its message, its execution and its response, wherever they are. Each function does nothing, and its
 //! contract is the law.
 
-ghost use Rattle.std.specs.Prelude.{◌≢◌, List, ◌++◌};
+ghost use Rattle.std.specs.Prelude.{◌≢◌, ◌≤◌, ℕ, false, List, [], ◌∷◌, ◌++◌, length};
 ghost use Rattle.usbip_wire.specs.declared.submit.SubmitHead.{SubmitHead};
 ghost use Rattle.usbip_wire.specs.declared.unlink.UnlinkHead.{UnlinkHead};
 ghost use Rattle.usbip_wire.specs.Up as up;
@@ -10,11 +10,23 @@ ghost use Rattle.tmc_law.specs.State.{State, start};
 ghost use Rattle.tmc_law.specs.Put.{Put};
 ghost use Rattle.tmc_law.specs.Step.{Move, Unplug, Steps};
 ghost use Rattle.tmc_law.specs.Run.{Entry, Runs, taken};
+ghost use Rattle.tmc_law.specs.BulkOut.{message_most};
+ghost use Rattle.host_joint.specs.Jobs.{Job, IsJob};
+ghost use Rattle.host_joint.specs.Stage.{Carries};
 ghost use Rattle.host_joint.specs.Lines.{AllFitting, InOrder};
-ghost use Rattle.host_joint.specs.Asking.{Ask, Asking, IsSafe, Cancelled, WasAsking};
+ghost use Rattle.host_joint.specs.Asking.{Ask, Asking, AtRest, IsQuiet, IsSafe, Cancelled, WasAsking};
 
 use tmc_law::{pending_submits_are_sound, runs_join, steps_act, the_log_grows};
 use tmc_wire::headers_are_read_again;
+
+/// An ask begins when its first transfer is written, at a device where nothing is in progress and with nothing of another
+/// ticket on its way. Endpoints may be halted, and a message of an earlier ticket may wait.
+pub fn asks_begin()
+    ensures { (last : ℕ) (message : List ℕ) (tag size : ℕ) (job : Job) (ups : List up.Message) (downs : List Put) (s : State)
+        → AtRest last s → IsQuiet ups downs → IsJob job → length message ≤ message_most → Carries last tag size message (job ∷ [])
+        → Asking (record { last = last; message = message; tag = tag; size = size; written = job ∷ []; answered = 0; sofar = []; read = []; gone = false })
+        (ups ++ up.Submit job.head job.bytes ∷ []) downs s }
+{}
 
 /// It stays one under each step of a device, with halts and unlinks, until the device is unplugged. An unlink hits the last
 /// submit of its queue.

@@ -6,7 +6,13 @@
 #![tactic(auto)]
 
 mod asks;
+mod host_moves;
 mod lines;
+mod numbers;
+mod owned;
 
-pub use asks::{asking_stays, cancelled_asks_stay, unplugged_asks_were_in_hand};
+pub use asks::{asking_stays, asks_begin, cancelled_asks_stay, unplugged_asks_were_in_hand};
+pub use host_moves::{answers_are_taken, messages_are_written};
 pub use lines::lines_stay;
+pub use numbers::{new_numbers_are_unused, what_ran_is_kept};
+pub use owned::what_is_read_is_owned;

@@ -10,4 +10,5 @@ returns c ask s t ups downs puts step asking = record {
   asking = asking;
   behind = ap (λ (p : List Put). downs ++ p) step.leads.answered;
   log = ap (λ (x : State). x.log) step.leads.is;
+  standing = ap (λ (x : State). x.standing) step.leads.is;
 }
