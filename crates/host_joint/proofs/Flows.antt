@@ -12,7 +12,7 @@ use Rattle.tmc_law.specs.Step.{Move, Comes, Steps}
 use Rattle.tmc_law.specs.Run.{Entry, Runs, taken, inputs, outputs}
 use Rattle.tmc_law.specs.Reached.{AllFit, HaltsAreEmpty}
 use Rattle.tmc_law.specs.Acts.{Acts, Done, Replies, Changes, Hit, Miss, Does, Arriving, Acting, IsArrival, unlinks_of}
-use Rattle.host_joint.specs.Lines.{sent_to, sent_heads, heads, Event, Gives, Drops, events_of, without, LeftBy, NoneNumbered, unlinks_in, unlinked_by, InOrder, Lines, Fitting, AllFitting}
+use Rattle.host_joint.specs.Lines.{sent_to, sent_heads, heads, Event, Gives, Drops, events_of, without, LeftBy, NoneNumbered, unlinks_in, unlinked_by, InOrder, Lines, EmptyLine, Fitting, AllFitting, Sent}
 use Rattle.host_joint.proofs.Queues.{Each, each-with, same_queue, queue-with, Apart, which, avoids_queue}
 
 -- ---- lists
@@ -319,3 +319,32 @@ lines_run laws before (entry ∷ run) asked unlinks s t ups downs reached h fit 
     subst (λ (l : List Put). Lines asked unlinks ups l t) (append_assoc downs entry.puts (outputs run))
     (lines_run laws (before ++ entry ∷ []) run asked unlinks h.0 t ups (downs ++ entry.puts) (laws.joins before (entry ∷ []) start s h.0 reached (h.0, h.1, refl)) h.2
     (fitting_behind (taken entry.move) (inputs run ++ ups) fitting) (order_behind (taken entry.move) (inputs run ++ ups) ordered) go)
+
+-- ---- all was answered
+
+no_event : (e : Endpoint) (downs : List Put) (left : List SubmitHead) → [] ≡ unlinked_by downs → LeftBy [] (events_of e downs) left → (events_of e downs ≡ []) × (left ≡ [])
+no_event e [] left none h = (refl, h)
+no_event e (Unlinked asked answer ∷ downs) left none h = absurd (cc)
+no_event e (Submitted asked answer transferred ∷ downs) left none h = by (eqb asked.ep (number_of e)) (no_event e downs left none) h
+  where
+    by : (b : Bool) → (LeftBy [] (events_of e downs) left → (events_of e downs ≡ []) × (left ≡ []))
+        → LeftBy [] (cond b (Gives asked answer transferred ∷ events_of e downs) (events_of e downs)) left
+        → (cond b (Gives asked answer transferred ∷ events_of e downs) (events_of e downs) ≡ []) × (left ≡ [])
+    by true go k = let clash : [] ≡ asked ∷ k.0 = k.1 in absurd (cc)
+    by false go k = go k
+
+empty_heads : (queue : List Pending) (sent : List Sent) → heads queue ++ sent_heads sent ≡ [] → (queue ≡ []) × (sent ≡ [])
+empty_heads [] [] h = (refl, refl)
+empty_heads [] (x ∷ sent) h = absurd (cc)
+empty_heads (x ∷ queue) sent h = absurd (cc)
+
+front_none : (a b : List UnlinkHead) → [] ≡ a ++ b → [] ≡ a
+front_none [] b h = refl
+front_none (x ∷ a) b h = absurd (cc)
+
+pub all_answered : (asked : Endpoint → List SubmitHead) (e : Endpoint) (ups : List up.Message) (downs : List Put) (s : State) → Lines asked [] ups downs s → asked e ≡ [] → EmptyLine e ups downs s
+all_answered asked e ups downs s lines none =
+    let over = no_event e downs (line e s (sent_heads (sent_to e ups))) (front_none (unlinked_by downs) (unlinks_in ups) lines.unlinked)
+        (subst (λ (l : List SubmitHead). LeftBy l (events_of e downs) (line e s (sent_heads (sent_to e ups)))) none (lines.submits e)) in
+    let empty = empty_heads (queue_of e s) (sent_to e ups) over.1 in
+    record { queue = empty.0; sent = empty.1; events = over.0 }

@@ -256,7 +256,7 @@ writes_line shut job coming queue transfer (Partly first here later moved left u
 writes_line shut job coming queue transfer (Cut first moved left unshut whole come bytes begun more line runs) = let e : [] ≡ first ∷ [] = whole in absurd (cc)
 writes_line shut job coming queue transfer (Shut shuts whole line free) = record { todo = []; hit = job ∷ []; wrote = Never shuts refl refl (Shut shuts refl line free) }
 
-inner_final : {B : Type 0} (o : Option OutHeader) → IsInner o → IsFinal o → B
+pub inner_final : {B : Type 0} (o : Option OutHeader) → IsInner o → IsFinal o → B
 inner_final None a b = absurd b
 inner_final (Some (Message tag size true)) a b = absurd a
 inner_final (Some (Message tag size false)) a b = absurd b
@@ -266,10 +266,10 @@ inner_final (Some (Trigger tag)) a b = absurd a
 inner_request : {B : Type 0} (tag size : ℕ) (o : Option OutHeader) → IsInner o → o ≡ Some (Request tag size) → B
 inner_request tag size o a is = absurd (subst (λ (x : Option OutHeader). IsInner x) is a)
 
-final_request : {B : Type 0} (tag size : ℕ) (o : Option OutHeader) → IsFinal o → o ≡ Some (Request tag size) → B
+pub final_request : {B : Type 0} (tag size : ℕ) (o : Option OutHeader) → IsFinal o → o ≡ Some (Request tag size) → B
 final_request tag size o a is = absurd (subst (λ (x : Option OutHeader). IsFinal x) is a)
 
-no_mix : {B : Type 0} (o : Option OutHeader) → o ≡ None → IsFinal o → B
+pub no_mix : {B : Type 0} (o : Option OutHeader) → o ≡ None → IsFinal o → B
 no_mix o is a = absurd (subst (λ (x : Option OutHeader). IsFinal x) is a)
 
 unasked : {B : Type 0} (past : List Job) (sofar : List ℕ) → IsInner (last_header past) → sofar ≡ [] → IsUnasked past sofar → B

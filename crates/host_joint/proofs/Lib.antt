@@ -13,3 +13,8 @@ mod Counting
 mod Hosting
 mod Starting
 mod Numbered
+mod Resting
+mod Requesting
+mod Letters
+mod Draining
+mod Handing

@@ -9,3 +9,7 @@ pub mod Asking
 -- what follows from an ask, and what a host does with it
 pub mod Owned
 pub mod Hosted
+-- the recovery behind a ticket
+pub mod Positions
+pub mod Requests
+pub mod Drains

@@ -98,3 +98,9 @@ InOrder [] = Unit {0}
 InOrder (up.Submit head transferred ∷ messages) = InOrder messages
 InOrder (up.Unlink head ∷ messages) =
     ((e : Endpoint) → NoneNumbered head.target (sent_heads (sent_to e messages))) × InOrder messages
+
+-- nothing of an endpoint is on its way, pending or answered on the way back
+pub record EmptyLine (e : Endpoint) (ups : List up.Message) (downs : List Put) (s : State) : Type 0 where
+  pub queue : queue_of e s ≡ []
+  pub sent : sent_to e ups ≡ []
+  pub events : events_of e downs ≡ []

@@ -1,7 +1,7 @@
 //! Messages in flight: the submits and unlinks that were not answered are on their way, pending, or answered on the way back.
-//! The function does nothing, and its contract is the law.
+//! Each function does nothing, and its contract is the law.
 
-ghost use Rattle.std.specs.Prelude.{List, ◌++◌};
+ghost use Rattle.std.specs.Prelude.{◌≡◌, List, [], ◌++◌};
 ghost use Rattle.usbip_wire.specs.declared.submit.SubmitHead.{SubmitHead};
 ghost use Rattle.usbip_wire.specs.declared.unlink.UnlinkHead.{UnlinkHead};
 ghost use Rattle.usbip_wire.specs.Up as up;
@@ -10,7 +10,7 @@ ghost use Rattle.tmc_law.specs.State.{State, start};
 ghost use Rattle.tmc_law.specs.Put.{Put};
 ghost use Rattle.tmc_law.specs.Step.{Move, Steps};
 ghost use Rattle.tmc_law.specs.Run.{Entry, Runs, taken, inputs, outputs};
-ghost use Rattle.host_joint.specs.Lines.{Lines, AllFitting, InOrder};
+ghost use Rattle.host_joint.specs.Lines.{Lines, EmptyLine, AllFitting, InOrder};
 
 use tmc_law::{pending_submits_are_sound, runs_join, steps_act};
 
@@ -28,3 +28,10 @@ pub fn lines_stay()
     steps_act();
     runs_join();
 }
+
+/// Where a host has no unanswered unlink, and no unanswered submit of an endpoint, nothing of that endpoint is on its way or
+/// pending.
+pub fn what_is_answered_is_over()
+    ensures { (asked : Endpoint → List SubmitHead) (endpoint : Endpoint) (ups : List up.Message) (downs : List Put) (s : State)
+        → Lines asked [] ups downs s → asked endpoint ≡ [] → EmptyLine endpoint ups downs s }
+{}
