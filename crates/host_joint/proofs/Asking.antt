@@ -57,7 +57,7 @@ other_ended e d st (first ∷ others) fit other =
 
 -- ---- what a transfer's effect leaves alone
 
-record Effect (s t : State) : Type 0 where
+pub record Effect (s t : State) : Type 0 where
   pub bulk_out : t.bulk_out ≡ s.bulk_out
   pub bulk_in : t.bulk_in ≡ s.bulk_in
   pub transfer : t.transfer ≡ s.transfer
@@ -88,7 +88,7 @@ effect_interrupts s t (out.Dropped part some logs) = effect_logs _ s s t (effect
 effect_interrupts s t (out.NothingUnread none is) = effect_is s s t is (effect_own s)
 effect_interrupts s t (out.LaterPart part is) = effect_is s s t is (effect_own s)
 
-effect_sides : (seq : ℕ) (transfer : Transfer) (s t : State) → TakesEffect seq transfer s t → Effect s t
+pub effect_sides : (seq : ℕ) (transfer : Transfer) (s t : State) → TakesEffect seq transfer s t → Effect s t
 effect_sides seq transfer s t (out.Part tag size message mid header text first is) =
     let h : Effect s mid = effect_interrupts s mid first in
     effect_is s _ t is (record { bulk_out = h.bulk_out; bulk_in = h.bulk_in; transfer = h.transfer; control = h.control; running = h.running; out_halted = h.out_halted; in_halted = h.in_halted })
@@ -281,7 +281,7 @@ begins last message tag size written answered sofar read gone ups downs puts s t
         effect_logs _ s _ t (record { bulk_out = refl; bulk_in = refl; transfer = refl; control = refl; running = refl; out_halted = refl; in_halted = refl }) logs
 
 -- only a piece is given, where no abort runs
-fills_side : (s t : State) (count : ℕ) (puts : List Put) → s.running ≡ Nothing → Fills s count puts t → (piece : Piece) × (s.side ≡ Sending piece)
+pub fills_side : (s t : State) (count : ℕ) (puts : List Put) → s.running ≡ Nothing → Fills s count puts t → (piece : Piece) × (s.side ≡ Sending piece)
 fills_side s t count puts rests («in».Ends submit behind n line wants one put to) = let e : Nothing ≡ AbortsIn true n = sym rests ∙ wants in absurd (cc)
 fills_side s t count puts rests («in».Inside submit behind piece line side free low within fits put to) = (piece, side)
 fills_side s t count puts rests («in».Full submit behind piece line side free low within fits put to) = (piece, side)

@@ -49,17 +49,17 @@ none_of n m (x ∷ l) h = by (eqb x.seqnum m) (none_of n m l h.1)
     by true k = k
     by false k = (h.0, k)
 
-left_all : (P : SubmitHead → Type 0) (asked left : List SubmitHead) (events : List Event) → LeftBy asked events left → AllHeads P asked → AllHeads P left
+pub left_all : (P : SubmitHead → Type 0) (asked left : List SubmitHead) (events : List Event) → LeftBy asked events left → AllHeads P asked → AllHeads P left
 left_all P asked left [] h all = subst (λ (l : List SubmitHead). AllHeads P l) (sym h) all
 left_all P asked left (Gives head answer transferred ∷ events) h all = left_all P h.0 left events h.2 (subst (λ (l : List SubmitHead). AllHeads P l) h.1 all).1
 left_all P asked left (Drops n ∷ events) h all = left_all P (without n asked) left events h (all_without P n asked all)
 
-left_rising : (asked left : List SubmitHead) (events : List Event) → LeftBy asked events left → Rising asked → Rising left
+pub left_rising : (asked left : List SubmitHead) (events : List Event) → LeftBy asked events left → Rising asked → Rising left
 left_rising asked left [] h rising = subst (λ (l : List SubmitHead). Rising l) (sym h) rising
 left_rising asked left (Gives head answer transferred ∷ events) h rising = left_rising h.0 left events h.2 (subst (λ (l : List SubmitHead). Rising l) h.1 rising).1
 left_rising asked left (Drops n ∷ events) h rising = left_rising (without n asked) left events h (rising_without n asked rising)
 
-left_none : (n : ℕ) (asked left : List SubmitHead) (events : List Event) → LeftBy asked events left → NoneNumbered n asked → NoneNumbered n left
+pub left_none : (n : ℕ) (asked left : List SubmitHead) (events : List Event) → LeftBy asked events left → NoneNumbered n asked → NoneNumbered n left
 left_none n asked left [] h none = subst (λ (l : List SubmitHead). NoneNumbered n l) (sym h) none
 left_none n asked left (Gives head answer transferred ∷ events) h none = left_none n h.0 left events h.2 (subst (λ (l : List SubmitHead). NoneNumbered n l) h.1 none).1
 left_none n asked left (Drops m ∷ events) h none = left_none n (without m asked) left events h (none_of n m asked none)

@@ -289,12 +289,12 @@ pub record Reaches : Type 0 where
   pub does : (run : List Entry) (s t : State) (move : Move) (puts : List Put) → Runs start run s → Steps s move puts t → Does s move puts t
   pub joins : (a b : List Entry) (s m t : State) → Runs s a m → Runs m b t → Runs s (a ++ b) t
 
-fitting_behind : (a b : List up.Message) → AllFitting (a ++ b) → AllFitting b
+pub fitting_behind : (a b : List up.Message) → AllFitting (a ++ b) → AllFitting b
 fitting_behind [] b h = h
 fitting_behind (up.Submit head transferred ∷ a) b h = fitting_behind a b h.1
 fitting_behind (up.Unlink head ∷ a) b h = fitting_behind a b h
 
-order_behind : (a b : List up.Message) → InOrder (a ++ b) → InOrder b
+pub order_behind : (a b : List up.Message) → InOrder (a ++ b) → InOrder b
 order_behind [] b h = h
 order_behind (up.Submit head transferred ∷ a) b h = order_behind a b h
 order_behind (up.Unlink head ∷ a) b h = order_behind a b h.1

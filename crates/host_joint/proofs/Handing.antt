@@ -168,12 +168,12 @@ hands_out last message tag size front job sofar read gone ups downs s unasked a 
 
 -- ---- a ticket that is complete
 
-none_front : (past todo hit : List Job) → [] ≡ past ++ (todo ++ hit) → (past ≡ []) × (todo ≡ [])
+pub none_front : (past todo hit : List Job) → [] ≡ past ++ (todo ++ hit) → (past ≡ []) × (todo ≡ [])
 none_front [] [] hit e = (refl, refl)
 none_front [] (x ∷ todo) hit e = absurd (cc)
 none_front (x ∷ past) todo hit e = absurd (cc)
 
-no_last : {B : Type 0} (past : List Job) (tag size : ℕ) → past ≡ [] → last_header past ≡ Some (Request tag size) → B
+pub no_last : {B : Type 0} (past : List Job) (tag size : ℕ) → past ≡ [] → last_header past ≡ Some (Request tag size) → B
 no_last past tag size none some = let e : None ≡ Some (Request tag size) = sym (ap last_header none) ∙ some in absurd (cc)
 
 record Free (s : State) : Type 0 where

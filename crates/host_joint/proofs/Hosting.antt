@@ -263,7 +263,7 @@ inner_final (Some (Message tag size false)) a b = absurd b
 inner_final (Some (Request tag size)) a b = absurd a
 inner_final (Some (Trigger tag)) a b = absurd a
 
-inner_request : {B : Type 0} (tag size : ℕ) (o : Option OutHeader) → IsInner o → o ≡ Some (Request tag size) → B
+pub inner_request : {B : Type 0} (tag size : ℕ) (o : Option OutHeader) → IsInner o → o ≡ Some (Request tag size) → B
 inner_request tag size o a is = absurd (subst (λ (x : Option OutHeader). IsInner x) is a)
 
 pub final_request : {B : Type 0} (tag size : ℕ) (o : Option OutHeader) → IsFinal o → o ≡ Some (Request tag size) → B
@@ -272,7 +272,7 @@ final_request tag size o a is = absurd (subst (λ (x : Option OutHeader). IsFina
 pub no_mix : {B : Type 0} (o : Option OutHeader) → o ≡ None → IsFinal o → B
 no_mix o is a = absurd (subst (λ (x : Option OutHeader). IsFinal x) is a)
 
-unasked : {B : Type 0} (past : List Job) (sofar : List ℕ) → IsInner (last_header past) → sofar ≡ [] → IsUnasked past sofar → B
+pub unasked : {B : Type 0} (past : List Job) (sofar : List ℕ) → IsInner (last_header past) → sofar ≡ [] → IsUnasked past sofar → B
 unasked past sofar inner none (inl final) = inner_final (last_header past) inner final
 unasked past sofar inner none (inr (empty, some)) = absurd (some none)
 

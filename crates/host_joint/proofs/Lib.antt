@@ -18,3 +18,6 @@ mod Requesting
 mod Letters
 mod Draining
 mod Handing
+mod Running
+mod Accepting
+mod Setting

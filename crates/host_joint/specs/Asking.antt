@@ -1,5 +1,5 @@
 -- an ask in hand: what a host wrote and read of it, against the device
-use Rattle.std.specs.Prelude.{◌≡◌, ◌⊎◌, ℕ, ◌+◌, ◌≤◌, Bool, true, false, List, [], ◌∷◌, ◌++◌, length, None}
+use Rattle.std.specs.Prelude.{◌≡◌, ◌≢◌, ◌⊎◌, ℕ, ◌+◌, ◌≤◌, Bool, true, false, List, [], ◌∷◌, ◌++◌, length, None}
 use Rattle.usbip_wire.specs.declared.submit.SubmitHead.{SubmitHead}
 use Rattle.usbip_wire.specs.declared.unlink.UnlinkHead.{UnlinkHead}
 use Rattle.usbip_wire.specs.Up as up
@@ -9,6 +9,7 @@ use Rattle.tmc_law.specs.Put.{Put, success, stalled}
 use Rattle.tmc_law.specs.BulkOut.{message_most}
 use Rattle.tmc_law.specs.Halts.{unplug_answers}
 use Rattle.tmc_law.specs.Step.{Move, Comes, Unplug}
+use Rattle.tmc_law.specs.Run.{Entry}
 use Rattle.host_joint.specs.Lines.{Lines, Sent, sent_to, Event, Gives, Drops, events_of, unlinks_in}
 use Rattle.host_joint.specs.Unlinking.{IsBulk, Unlinking}
 use Rattle.host_joint.specs.Jobs.{Job, AllJobs, OutLine}
@@ -102,6 +103,11 @@ abbrev pub IsSafe : Move → List up.Message → State → Type 0
 IsSafe Unplug ups s = ⊥
 IsSafe (Comes (up.Unlink head)) ups s = HitsLast head ups s
 IsSafe _ ups s = Unit {0}
+
+-- no step of a run unplugs the device
+abbrev pub StaysPlugged : List Entry → Type 0
+StaysPlugged [] = Unit {0}
+StaysPlugged (entry ∷ run) = (entry.move ≢ Unplug) × StaysPlugged run
 
 -- An ask that a cancel has reached: each of its bulk submits that was not answered has an unlink, in falling order.
 pub record Cancelled (asked : Endpoint → List SubmitHead) (unlinks : List UnlinkHead) (ask : Ask) (ups : List up.Message) (downs : List Put) (s : State) : Type 0 where

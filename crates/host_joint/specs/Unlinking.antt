@@ -1,8 +1,9 @@
 -- the unlinks of a cancel
-use Rattle.std.specs.Prelude.{◌≡◌, ◌⊎◌, ℕ, ◌<◌, List, [], ◌∷◌}
+use Rattle.std.specs.Prelude.{◌≡◌, ◌≢◌, ◌⊎◌, ℕ, ◌+◌, ◌<◌, List, [], ◌∷◌, length}
 use Rattle.usbip_wire.specs.declared.submit.SubmitHead.{SubmitHead}
 use Rattle.usbip_wire.specs.declared.unlink.UnlinkHead.{UnlinkHead}
 use Rattle.tmc_law.specs.Endpoint.{Endpoint, Control, BulkOut, BulkIn, InterruptIn}
+use Rattle.host_joint.specs.Lines.{NoneNumbered}
 
 abbrev pub AllHeads : (SubmitHead → Type 0) → List SubmitHead → Type 0
 AllHeads P [] = Unit {0}
@@ -40,3 +41,12 @@ pub record Unlinking (asked : Endpoint → List SubmitHead) (unlinks : List Unli
   pub rising : (e : Endpoint) → Rising (asked e)
   pub falling : Falling unlinks
   pub named : (e : Endpoint) → IsBulk e → AllHeads (λ head. IsNamed unlinks head.seqnum) (asked e)
+
+-- the numbers of a host's submits rise at each endpoint, and no number is at two endpoints
+pub record AreApart (asked : Endpoint → List SubmitHead) : Type 0 where
+  pub rising : (e : Endpoint) → Rising (asked e)
+  pub apart : (d e : Endpoint) → d ≢ e → AllHeads (λ head. NoneNumbered head.seqnum (asked e)) (asked d)
+
+-- how many submits were not answered
+abbrev pub total_of : (Endpoint → List SubmitHead) → ℕ
+total_of asked = length (asked Control) + (length (asked BulkOut) + (length (asked BulkIn) + length (asked InterruptIn)))

@@ -1,7 +1,7 @@
 //! An ask in hand: its message, its execution and its response, wherever they are. Each function does nothing, and its
 //! contract is the law.
 
-ghost use Rattle.std.specs.Prelude.{◌≢◌, ◌≤◌, ℕ, false, List, [], ◌∷◌, ◌++◌, length};
+ghost use Rattle.std.specs.Prelude.{◌≡◌, ◌≢◌, ◌≤◌, ℕ, false, List, [], ◌∷◌, ◌++◌, length};
 ghost use Rattle.usbip_wire.specs.declared.submit.SubmitHead.{SubmitHead};
 ghost use Rattle.usbip_wire.specs.declared.unlink.UnlinkHead.{UnlinkHead};
 ghost use Rattle.usbip_wire.specs.Up as up;
@@ -9,12 +9,12 @@ ghost use Rattle.tmc_law.specs.Endpoint.{Endpoint};
 ghost use Rattle.tmc_law.specs.State.{State, start};
 ghost use Rattle.tmc_law.specs.Put.{Put};
 ghost use Rattle.tmc_law.specs.Step.{Move, Unplug, Steps};
-ghost use Rattle.tmc_law.specs.Run.{Entry, Runs, taken};
+ghost use Rattle.tmc_law.specs.Run.{Entry, Runs, taken, inputs, outputs};
 ghost use Rattle.tmc_law.specs.BulkOut.{message_most};
 ghost use Rattle.host_joint.specs.Jobs.{Job, IsJob};
 ghost use Rattle.host_joint.specs.Stage.{Carries};
-ghost use Rattle.host_joint.specs.Lines.{AllFitting, InOrder};
-ghost use Rattle.host_joint.specs.Asking.{Ask, Asking, AtRest, IsQuiet, IsSafe, Cancelled, WasAsking};
+ghost use Rattle.host_joint.specs.Lines.{unlinks_in, AllFitting, InOrder};
+ghost use Rattle.host_joint.specs.Asking.{Ask, Asking, AtRest, IsQuiet, IsSafe, StaysPlugged, Cancelled, WasAsking};
 
 use tmc_law::{pending_submits_are_sound, runs_join, steps_act, the_log_grows};
 use tmc_wire::headers_are_read_again;
@@ -29,13 +29,18 @@ pub fn asks_begin()
 {}
 
 /// It stays one under each step of a device, with halts and unlinks, until the device is unplugged. An unlink hits the last
-/// submit of its queue.
+/// submit of its queue. So it does under each run without unlinks.
 pub fn asking_stays()
-    ensures { (run : List Entry) (ask : Ask) (s t : State) (move : Move) (ups : List up.Message) (downs puts : List Put)
+    ensures step { (run : List Entry) (ask : Ask) (s t : State) (move : Move) (ups : List up.Message) (downs puts : List Put)
         → Runs start run s → Steps s move puts t → AllFitting (taken move ++ ups) → IsSafe move ups s
         → Asking ask (taken move ++ ups) downs s → Asking ask ups (downs ++ puts) t }
+    ensures run { (before run : List Entry) (ask : Ask) (s t : State) (ups : List up.Message) (downs : List Put)
+        → Runs start before s → Runs s run t → AllFitting (inputs run ++ ups) → unlinks_in (inputs run) ≡ [] → StaysPlugged run
+        → Asking ask (inputs run ++ ups) downs s → Asking ask ups (downs ++ outputs run) t }
 {
     pending_submits_are_sound();
+    steps_act();
+    runs_join();
     the_log_grows();
     headers_are_read_again();
 }
@@ -43,9 +48,12 @@ pub fn asking_stays()
 /// A cancelled ask stays one, until the device is unplugged: its unlinks are answered, each one that hits takes the last submit
 /// of its queue, and packets that were moved may be lost.
 pub fn cancelled_asks_stay()
-    ensures { (run : List Entry) (asked : Endpoint → List SubmitHead) (unlinks : List UnlinkHead) (ask : Ask) (s t : State) (move : Move) (ups : List up.Message) (downs puts : List Put)
+    ensures step { (run : List Entry) (asked : Endpoint → List SubmitHead) (unlinks : List UnlinkHead) (ask : Ask) (s t : State) (move : Move) (ups : List up.Message) (downs puts : List Put)
         → Runs start run s → Steps s move puts t → AllFitting (taken move ++ ups) → InOrder (taken move ++ ups) → move ≢ Unplug
         → Cancelled asked unlinks ask (taken move ++ ups) downs s → Cancelled asked unlinks ask ups (downs ++ puts) t }
+    ensures run { (before run : List Entry) (asked : Endpoint → List SubmitHead) (unlinks : List UnlinkHead) (ask : Ask) (s t : State) (ups : List up.Message) (downs : List Put)
+        → Runs start before s → Runs s run t → AllFitting (inputs run ++ ups) → InOrder (inputs run ++ ups) → StaysPlugged run
+        → Cancelled asked unlinks ask (inputs run ++ ups) downs s → Cancelled asked unlinks ask ups (downs ++ outputs run) t }
 {
     pending_submits_are_sound();
     steps_act();

@@ -1,6 +1,6 @@
 //! What a host does with an ask, and what it can conclude. Each function does nothing, and its contract is the law.
 
-ghost use Rattle.std.specs.Prelude.{◌≡◌, ◌≢◌, ℕ, false, true, List, [], ◌∷◌, ◌++◌, length};
+ghost use Rattle.std.specs.Prelude.{◌≡◌, ◌≢◌, ℕ, Some, false, true, List, [], ◌∷◌, ◌++◌, length};
 ghost use Rattle.usbip_wire.specs.declared.submit.SubmitHead.{SubmitHead};
 ghost use Rattle.usbip_wire.specs.declared.unlink.UnlinkHead.{UnlinkHead};
 ghost use Rattle.usbip_wire.specs.declared.ret_submit.RetSubmitHead.{RetSubmitHead};
@@ -11,10 +11,10 @@ ghost use Rattle.tmc_law.specs.Endpoint.{BulkOut, BulkIn, InterruptIn, number_of
 ghost use Rattle.tmc_law.specs.State.{State};
 ghost use Rattle.tmc_law.specs.Logging.{unread};
 ghost use Rattle.tmc_law.specs.Put.{Put, Submitted, Unlinked};
-ghost use Rattle.host_joint.specs.Lines.{Gives};
-ghost use Rattle.host_joint.specs.Jobs.{Job, IsJob};
+ghost use Rattle.host_joint.specs.Lines.{Gives, unlinks_in};
+ghost use Rattle.host_joint.specs.Jobs.{Job, IsJob, last_header};
 ghost use Rattle.host_joint.specs.Reads.{IsRead};
-ghost use Rattle.host_joint.specs.Stage.{IsUnasked};
+ghost use Rattle.host_joint.specs.Stage.{IsUnasked, IsInner, NoExec, IsAnother};
 ghost use Rattle.host_joint.specs.Asking.{Ask, Asking};
 ghost use Rattle.host_joint.specs.Hosted.{OutAnswered, InAnswered, IsNextOf, unlinks_of};
 
@@ -49,4 +49,18 @@ pub fn messages_are_written()
         → head.ep ≡ number_of InterruptIn → Asking ask ups downs s → Asking ask (ups ++ up.Submit head [] ∷ []) downs s }
     ensures unlinks { (ask : Ask) (ups : List up.Message) (downs : List Put) (s : State) (heads : List UnlinkHead)
         → Asking ask ups downs s → Asking (record ask { gone = true }) (ups ++ unlinks_of heads) downs s }
+{}
+
+/// What a host settles in an ask before it writes it, where all that it wrote was taken: the tag and the size of a request before
+/// a request was written, and the number that ends the message before its last part was. Behind a piece, once the unlinks of
+/// reads that were left over were answered, it writes reads again.
+pub fn asks_are_settled_late()
+    ensures request { (ask : Ask) (tag size : ℕ) (ups : List up.Message) (downs : List Put) (s : State)
+        → ((other most : ℕ) → last_header ask.written ≡ Some (Request other most) → ⊥) → ask.answered ≡ length ask.written
+        → Asking ask ups downs s → Asking (record ask { tag = tag; size = size }) ups downs s }
+    ensures last { (ask : Ask) (last : ℕ) (ups : List up.Message) (downs : List Put) (s : State) → IsInner (last_header ask.written) → ask.sofar ≡ []
+        → ask.answered ≡ length ask.written → NoExec last s.log → IsAnother last s.waiting
+        → Asking ask ups downs s → Asking (record ask { last = last }) ups downs s }
+    ensures reads { (ask : Ask) (ups : List up.Message) (downs : List Put) (s : State) → ask.written ≡ [] → ask.sofar ≢ [] → unlinks_in ups ≡ []
+        → Asking ask ups downs s → Asking (record ask { gone = false }) ups downs s }
 {}

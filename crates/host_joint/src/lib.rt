@@ -5,6 +5,7 @@
 //! nothing, and its contract is the law.
 #![tactic(auto)]
 
+mod accepted;
 mod asks;
 mod host_moves;
 mod lines;
@@ -12,8 +13,9 @@ mod numbers;
 mod owned;
 mod recovery;
 
+pub use accepted::{asks_halt_nothing, no_submit_is_refused};
 pub use asks::{asking_stays, asks_begin, cancelled_asks_stay, unplugged_asks_were_in_hand};
-pub use host_moves::{answers_are_taken, messages_are_written};
+pub use host_moves::{answers_are_taken, asks_are_settled_late, messages_are_written};
 pub use lines::{lines_stay, what_is_answered_is_over};
 pub use numbers::{new_numbers_are_unused, what_ran_is_kept};
 pub use owned::what_is_read_is_owned;
