@@ -1,0 +1,39 @@
+//! A host's messages are taken: they halt no endpoint, and none is refused. Each function does nothing, and its contract is the
+//! law.
+
+ghost use Rattle.std.specs.Prelude.{◌≡◌, ◌≤◌, ℕ, true, false, List, ◌∷◌, ◌++◌};
+ghost use Rattle.tmc_base.specs.declared.field.Field.{Field};
+ghost use Rattle.usbip_wire.specs.declared.submit.SubmitHead.{SubmitHead};
+ghost use Rattle.usbip_wire.specs.declared.unlink.UnlinkHead.{UnlinkHead};
+ghost use Rattle.usbip_wire.specs.Up as up;
+ghost use Rattle.tmc_law.specs.Endpoint.{Endpoint};
+ghost use Rattle.tmc_law.specs.State.{State, is_halted};
+ghost use Rattle.tmc_law.specs.Put.{Put};
+ghost use Rattle.tmc_law.specs.Queues.{pending_most};
+ghost use Rattle.tmc_law.specs.Step.{Move, Halt, Steps, IsOver};
+ghost use Rattle.tmc_law.specs.Run.{taken};
+ghost use Rattle.host_joint.specs.Lines.{Lines, Fitting};
+ghost use Rattle.host_joint.specs.Unlinking.{IsBulk, AreApart, total_of};
+ghost use Rattle.host_joint.specs.Asking.{Ask, Asking};
+
+use tmc_law::halts_have_causes;
+use tmc_wire::headers_are_read_again;
+
+/// While an ask is in hand, a bulk endpoint halts only where the device halts it by itself: no header, no length and no size of
+/// the ask's submits is a cause.
+pub fn asks_halt_nothing()
+    ensures { (ask : Ask) (s t : State) (move : Move) (ups : List up.Message) (downs puts : List Put) (endpoint : Endpoint) → IsBulk endpoint
+        → Steps s move puts t → Asking ask (taken move ++ ups) downs s → is_halted endpoint s ≡ false → is_halted endpoint t ≡ true
+        → move ≡ Halt endpoint }
+{
+    halts_have_causes();
+    headers_are_read_again();
+}
+
+/// Where a host's unanswered submits have numbers of their own and are at most as many as a device takes, none that comes is one
+/// too many, or has the number of one that is pending.
+pub fn no_submit_is_refused()
+    ensures { (asked : Endpoint → List SubmitHead) (unlinks : List UnlinkHead) (head : SubmitHead) (transferred : List ℕ) (ups : List up.Message) (downs : List Put) (s : State) (f : Field)
+        → Fitting head → AreApart asked → total_of asked ≤ pending_most → Lines asked unlinks (up.Submit head transferred ∷ ups) downs s
+        → IsOver s head f → ⊥ }
+{}

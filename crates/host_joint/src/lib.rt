@@ -1,0 +1,22 @@
+//! What ties a host to a lawful device: the messages on their way and the device's state, against what the host wrote and
+//! what it was given.
+//!
+//! The definitions in `specs/` speak of plain lists and of the law's states, and of no host's code. Each function does
+//! nothing, and its contract is the law.
+#![tactic(auto)]
+
+mod accepted;
+mod asks;
+mod host_moves;
+mod lines;
+mod numbers;
+mod owned;
+mod recovery;
+
+pub use accepted::{asks_halt_nothing, no_submit_is_refused};
+pub use asks::{asking_stays, asks_begin, cancelled_asks_stay, unplugged_asks_were_in_hand};
+pub use host_moves::{answers_are_taken, asks_are_settled_late, messages_are_written};
+pub use lines::{lines_stay, what_is_answered_is_over};
+pub use numbers::{new_numbers_are_unused, what_ran_is_kept};
+pub use owned::what_is_read_is_owned;
+pub use recovery::{asks_hand_over, devices_rest, drains_stay, requests_stay};

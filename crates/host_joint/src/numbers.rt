@@ -1,0 +1,27 @@
+//! Numbers of submits, as a host counts them. Each function does nothing, and its contract is the law.
+
+ghost use Rattle.std.specs.Prelude.{ℕ, ◌≤◌, List};
+ghost use Rattle.usbip_wire.specs.Up as up;
+ghost use Rattle.tmc_law.specs.State.{State};
+ghost use Rattle.tmc_law.specs.Put.{Put};
+ghost use Rattle.tmc_law.specs.Step.{Move, Steps};
+ghost use Rattle.tmc_law.specs.Numbers.{AllBelow, Rises, numbers};
+ghost use Rattle.host_joint.specs.Stage.{NoExec, IsAnother, Ran};
+
+use tmc_law::a_step_logs_at_most_once;
+
+/// Where all numbers that were given are below one, no message was executed and none waits under that number or a greater one.
+/// So an ask with a new number finds the device as [`asks_begin`](crate::asks_begin) needs it.
+pub fn new_numbers_are_unused()
+    ensures { (next last : ℕ) (messages : List up.Message) (s : State) → next ≤ last → AllBelow next (numbers s messages)
+        → NoExec last s.log × IsAnother last s.waiting }
+{}
+
+/// Where the numbers rise, a message that was executed is the one of its number for good. So what a host has of its response
+/// stays owned.
+pub fn what_ran_is_kept()
+    ensures { (n : ℕ) (message response : List ℕ) (messages : List up.Message) (s t : State) (move : Move) (puts : List Put)
+        → Steps s move puts t → Rises (numbers s messages) → Ran n message response s.log → Ran n message response t.log }
+{
+    a_step_logs_at_most_once();
+}
