@@ -25,7 +25,7 @@ mod setups;
 mod steps;
 #[cfg(test)]
 mod tests;
-mod worked;
+pub mod worked;
 
 pub use answers::answers_fit;
 pub use determined::steps_are_determined;
@@ -52,20 +52,3 @@ pub use reachable::{
 };
 pub use setups::setups_have_one_meaning;
 pub use steps::{a_step_logs_at_most_once, packets_are_of_transfers, steps_act};
-pub use worked::{
-    a_bare_request_is_aborted, a_busy_device_takes_no_header, a_halt_drops_a_response,
-    a_halted_endpoint_takes_nothing, a_message_comes_in_parts, a_message_interrupts_a_response,
-    a_packet_without_room_stays, a_polled_request_is_answered, a_query_is_answered,
-    a_query_is_told, a_remote_act_is_logged, a_response_is_aborted, a_response_is_cleared,
-    a_response_overflows, a_response_requests_service, a_split_message_is_aborted,
-    a_status_comes_before_or_behind, a_trigger_is_counted, aborts_are_declined,
-    an_aborted_piece_gives_nothing, an_unlink_keeps_taken_packets, an_unlink_loses_packets,
-    bytes_are_refused_behind_messages, checks_may_be_pending, control_requests_are_answered,
-    headers_have_to_suit, near_requests_stall, no_more_come_than_may_be_pending,
-    no_number_comes_twice, no_packet_without_a_piece, no_piece_begins_in_an_abort,
-    no_piece_is_longer_than_the_response, no_request_is_polled_twice, nothing_follows_a_refusal,
-    nothing_follows_unplugging, nothing_is_pending_where_nothing_runs,
-    nothing_is_taken_while_a_message_waits, refused_bytes_close, settings_end_halts,
-    spoiled_submits_halt, standard_requests_are_answered, statuses_may_fail,
-    submits_arrive_for_any_device, unplugging_answers_all,
-};

@@ -1,3 +1,19 @@
+//! The answers to class requests, by their layouts. A count is little-endian.
+//!
+//! | Answer to | Offset | Size | Field |
+//! |---|---|---|---|
+//! | each request | 0 | 1 | USBTMC_status |
+//! | an abort | 1 | 1 | bTag of the transfer that was in progress |
+//! | a check of an abort of Bulk-OUT | 1 | 1 | reserved |
+//! | a check of an abort of Bulk-IN | 1 | 1 | bmAbortBulkIn |
+//! | a check of an abort | 2 | 2 | reserved |
+//! | a check of an abort | 4 | 4 | NBYTES_RXD of Bulk-OUT, NBYTES_TXD of Bulk-IN |
+//! | CHECK_CLEAR_STATUS | 1 | 1 | bmClear |
+//! | READ_STATUS_BYTE | 1 | 1 | the request's tag |
+//! | READ_STATUS_BYTE | 2 | 1 | the status byte |
+//! | GET_CAPABILITIES | 1 | 1 | reserved |
+//! | GET_CAPABILITIES | 2 | 22 | what the device can do |
+
 ghost use Rattle.std.specs.Prelude.{◌≡◌, ◌<◌, ◌^◌, ◌↔◌, length, Ok, Err, MatchOption};
 ghost use Rattle.tmc_base.specs.declared.field.Field.{Field};
 ghost use Rattle.tmc_wire.specs.declared.class_answer.ClassAnswer.{ClassAnswer};

@@ -1,3 +1,15 @@
+//! The header of 12 bytes with which each bulk transfer begins. Its data follows, and zeros up to a multiple of 4.
+//!
+//! | Offset | Size | Field | Value |
+//! |---|---|---|---|
+//! | 0 | 1 | MsgID | 1 DEV_DEP_MSG_OUT, or DEV_DEP_MSG_IN on Bulk-IN; 2 REQUEST_DEV_DEP_MSG_IN; 128 TRIGGER |
+//! | 1 | 1 | bTag | 1 to 255 |
+//! | 2 | 1 | bTagInverse | the one's complement of bTag |
+//! | 3 | 1 | reserved | written 0 |
+//! | 4 | 4 | TransferSize | little-endian, at least 1; of a TRIGGER not used |
+//! | 8 | 1 | bmTransferAttributes | bit 0 is EOM, of a message or a response; the other bits are not used |
+//! | 9 | 3 | reserved | written 0 |
+
 ghost use Rattle.std.specs.Prelude.{◌≡◌, ◌++◌, ◌↔◌, Ok, Err, take};
 ghost use Rattle.tmc_wire.specs.declared.header.OutHeader.{OutHeader};
 ghost use Rattle.tmc_wire.specs.declared.header.InHeader.{InHeader};

@@ -1,3 +1,10 @@
+//! The packets of two bytes on Interrupt-IN.
+//!
+//! | Offset | Size | Field | Value |
+//! |---|---|---|---|
+//! | 0 | 1 | bNotify1 | 0x80 and the tag of a READ_STATUS_BYTE request, 2 to 127; or 0x81, which requests service |
+//! | 1 | 1 | bNotify2 | the status byte |
+
 ghost use Rattle.std.specs.Prelude.{◌≡◌, ◌<◌, ◌↔◌, length, Ok, Err};
 ghost use Rattle.tmc_base.specs.declared.field.Field.{Field};
 ghost use Rattle.tmc_wire.specs.declared.notify.Notify.{Notify};

@@ -1,3 +1,22 @@
+//! The record of a device, in a device list and in the reply to an import. Numbers are big-endian, and none is judged.
+//!
+//! | Offset | Size | Field | Value |
+//! |---|---|---|---|
+//! | 0 | 256 | path | padded with zeros |
+//! | 256 | 32 | busid | padded with zeros |
+//! | 288 | 4 | busnum | |
+//! | 292 | 4 | devnum | |
+//! | 296 | 4 | speed | |
+//! | 300 | 2 | idVendor | |
+//! | 302 | 2 | idProduct | |
+//! | 304 | 2 | bcdDevice | |
+//! | 306 | 1 | bDeviceClass | |
+//! | 307 | 1 | bDeviceSubClass | |
+//! | 308 | 1 | bDeviceProtocol | |
+//! | 309 | 1 | bConfigurationValue | |
+//! | 310 | 1 | bNumConfigurations | |
+//! | 311 | 1 | bNumInterfaces | how many interfaces stand behind the record in a list |
+
 ghost use Rattle.std.specs.Prelude.{◌≡◌, ◌+◌, ◌≤◌, ◌++◌};
 ghost use Rattle.usbip_wire.specs.Device.{IsRecord, record_bytes};
 

@@ -1,3 +1,17 @@
+//! OP_REP_DEVLIST. Numbers are big-endian.
+//!
+//! | Offset | Size | Field | Value |
+//! |---|---|---|---|
+//! | 0 | 2 | version | 0x0111, judged |
+//! | 2 | 2 | code | 0x0005, judged |
+//! | 4 | 4 | status | |
+//! | 8 | 4 | number of devices | |
+//! | 12 | | for each device its record of 312 bytes, and behind it for each of its interfaces: | |
+//! | | 1 | bInterfaceClass | |
+//! | | 1 | bInterfaceSubClass | |
+//! | | 1 | bInterfaceProtocol | |
+//! | | 1 | padding | written 0 |
+
 ghost use Rattle.std.specs.Prelude.{◌≡◌, ◌+◌, ◌*◌, ◌<◌, ◌≤◌, ◌^◌, [], ◌∷◌, ◌++◌, length};
 ghost use Rattle.std.specs.Int.{w32, to_be_bytes};
 ghost use Rattle.usbip_wire.specs.declared.down.DownPhase.TheVariants.{Ops};

@@ -1,3 +1,12 @@
+//! OP_REP_IMPORT. Numbers are big-endian.
+//!
+//! | Offset | Size | Field | Value |
+//! |---|---|---|---|
+//! | 0 | 2 | version | 0x0111, judged |
+//! | 2 | 2 | code | 0x0003, judged |
+//! | 4 | 4 | status | 0 where the device is imported |
+//! | 8 | 312 | device record | where the status is 0, and else nothing |
+
 ghost use Rattle.std.specs.Prelude.{◌≡◌, ◌+◌, ◌≤◌, ◌++◌, MatchOption, option_copied};
 ghost use Rattle.usbip_wire.specs.ImportReply.{SpellsImport, import_bytes, import_size};
 

@@ -1,6 +1,19 @@
 //! USB/IP messages, version 0x0111, as the Linux kernel documents them. All fields are big-endian.
 //!
 //! Each `put_` call appends one spelling of its message, and takes no memory.
+//!
+//! A client and a server call them in this order:
+//!
+//! 1. The client asks by `put_op_request`. The server reads it by `UpReader::ops`, and answers a list by
+//!    `put_device_list` and an import by `put_import_reply`, which the client reads by `DownReader::ops`.
+//! 2. Behind an import both take new readers: the server `UpReader::urbs` for the devid of the device, and the
+//!    client `DownReader::urbs`.
+//! 3. The client writes `put_submit` and `put_unlink`, and first adds each to its `Dirs`, since an answer is read by
+//!    what is outstanding. The server answers by `put_ret_submit` and `put_ret_unlink`, in any order.
+//! 4. Each side feeds what comes in any pieces: `feed` uses bytes up to the end of one message and gives it, and is
+//!    called again with the rest until it gives `More`. `data` has the bytes of the message that was given last.
+//! 5. The client takes an answered number out of its `Dirs` by `Dirs::remove`. At `Bad` the connection is to be
+//!    closed: the reader uses nothing more.
 #![tactic(auto)]
 
 mod device;

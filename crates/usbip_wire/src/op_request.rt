@@ -1,3 +1,12 @@
+//! OP_REQ_DEVLIST and OP_REQ_IMPORT. Numbers are big-endian.
+//!
+//! | Offset | Size | Field | Value |
+//! |---|---|---|---|
+//! | 0 | 2 | version | 0x0111, judged |
+//! | 2 | 2 | code | 0x8005 for a list, 0x8003 for an import, judged |
+//! | 4 | 4 | status | not used, written 0 |
+//! | 8 | 32 | busid | of an import alone, padded with zeros |
+
 ghost use Rattle.std.specs.Prelude.{◌≡◌, ◌+◌, ◌≤◌, ◌++◌};
 ghost use Rattle.usbip_wire.specs.OpRequest.{SpellsRequest, request_bytes, request_size};
 

@@ -1,3 +1,20 @@
+//! USBIP_RET_SUBMIT. Numbers are big-endian.
+//!
+//! | Offset | Size | Field | Value |
+//! |---|---|---|---|
+//! | 0 | 4 | command | 3, judged |
+//! | 4 | 4 | seqnum | that of the submit, judged by what is outstanding |
+//! | 8 | 4 | devid | not used, written 0 |
+//! | 12 | 4 | direction | not used, written 0 |
+//! | 16 | 4 | ep | not used, written 0 |
+//! | 20 | 4 | status | 0, or a negated error number of Linux |
+//! | 24 | 4 | actual_length | at most the length of the submit, judged |
+//! | 28 | 4 | start_frame | not used, written 0 |
+//! | 32 | 4 | number_of_packets | written 0xffffffff, read also as 0, judged |
+//! | 36 | 4 | error_count | not used, written 0 |
+//! | 40 | 8 | padding | written 0 |
+//! | 48 | actual_length | data | in the answer to an IN submit alone |
+
 ghost use Rattle.std.specs.Prelude.{◌≡◌, ◌⊎◌, ℕ, ◌+◌, ◌≤◌, [], ◌++◌, length};
 ghost use Rattle.usbip_wire.specs.declared.urb.Dir.TheVariants.{Out, In};
 ghost use Rattle.usbip_wire.specs.RetSubmit.{ret_submit_bytes, unused};

@@ -1,3 +1,15 @@
+//! USBIP_RET_UNLINK. Numbers are big-endian.
+//!
+//! | Offset | Size | Field | Value |
+//! |---|---|---|---|
+//! | 0 | 4 | command | 4, judged |
+//! | 4 | 4 | seqnum | that of the unlink, judged by what is outstanding |
+//! | 8 | 4 | devid | not used, written 0 |
+//! | 12 | 4 | direction | not used, written 0 |
+//! | 16 | 4 | ep | not used, written 0 |
+//! | 20 | 4 | status | -104 where the submit was taken back, 0 where it was not pending any more |
+//! | 24 | 24 | padding | written 0 |
+
 ghost use Rattle.std.specs.Prelude.{◌≡◌, ◌+◌, ◌≤◌, ◌++◌};
 ghost use Rattle.usbip_wire.specs.RetUnlink.{SpellsRetUnlink, ret_unlink_bytes, unused};
 

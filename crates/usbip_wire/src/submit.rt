@@ -1,3 +1,20 @@
+//! USBIP_CMD_SUBMIT. Numbers are big-endian.
+//!
+//! | Offset | Size | Field | Value |
+//! |---|---|---|---|
+//! | 0 | 4 | command | 1, judged |
+//! | 4 | 4 | seqnum | the number by which it is answered |
+//! | 8 | 4 | devid | the imported device's, judged |
+//! | 12 | 4 | direction | 0 OUT, 1 IN, judged |
+//! | 16 | 4 | ep | at most 15, judged |
+//! | 20 | 4 | transfer_flags | not used, written 0 |
+//! | 24 | 4 | transfer_buffer_length | at most `SUBMIT_MAX`, judged |
+//! | 28 | 4 | start_frame | not used, written 0 |
+//! | 32 | 4 | number_of_packets | written 0xffffffff, read also as 0, judged |
+//! | 36 | 4 | interval | not used, written 0 |
+//! | 40 | 8 | setup | the setup packet on endpoint 0, and zeros elsewhere |
+//! | 48 | transfer_buffer_length | data | of an OUT submit alone |
+
 ghost use Rattle.std.specs.Prelude.{◌≡◌, ◌+◌, ◌≤◌, ◌++◌, length};
 ghost use Rattle.tmc_base.specs.declared.limits.TheConstants.{SUBMIT_MAX};
 ghost use Rattle.usbip_wire.specs.Submit.{Carries, submit_bytes, unused};

@@ -33,16 +33,72 @@ const UNLINK: UnlinkHead = UnlinkHead {
 };
 
 /// The submit 7 to the device, with its data.
-const SUBMIT_OUT: &[u8] =
-    b"\0\0\0\x01\0\0\0\x07\0\x01\0\x02\0\0\0\0\0\0\0\x01\0\0\0\0\0\0\0\x03\0\0\0\0\xff\xff\xff\xff\0\0\0\0\x01\x02\x03\x04\x05\x06\x07\x08abc";
+const SUBMIT_OUT: &[u8] = &[
+    0, 0, 0, 1, // command
+    0, 0, 0, 7, // seqnum
+    0, 1, 0, 2, // devid
+    0, 0, 0, 0, // direction
+    0, 0, 0, 1, // ep
+    0, 0, 0, 0, // transfer_flags
+    0, 0, 0, 3, // transfer_buffer_length
+    0, 0, 0, 0, // start_frame
+    0xFF, 0xFF, 0xFF, 0xFF, // number_of_packets
+    0, 0, 0, 0, // interval
+    1, 2, 3, 4, 5, 6, 7, 8, // setup
+    b'a', b'b', b'c', // data
+];
 
 /// The submit 8 from the device.
-const SUBMIT_IN: &[u8] =
-    b"\0\0\0\x01\0\0\0\x08\0\x01\0\x02\0\0\0\x01\0\0\0\x01\0\0\0\0\0\0\x10\0\0\0\0\0\xff\xff\xff\xff\0\0\0\0\x01\x02\x03\x04\x05\x06\x07\x08";
+const SUBMIT_IN: &[u8] = &[
+    0, 0, 0, 1, // command
+    0, 0, 0, 8, // seqnum
+    0, 1, 0, 2, // devid
+    0, 0, 0, 1, // direction
+    0, 0, 0, 1, // ep
+    0, 0, 0, 0, // transfer_flags
+    0, 0, 0x10, 0, // transfer_buffer_length
+    0, 0, 0, 0, // start_frame
+    0xFF, 0xFF, 0xFF, 0xFF, // number_of_packets
+    0, 0, 0, 0, // interval
+    1, 2, 3, 4, 5, 6, 7, 8, // setup
+];
 
 /// The unlink 9 of the submit 8.
-const UNLINKED: &[u8] =
-    b"\0\0\0\x02\0\0\0\x09\0\x01\0\x02\0\0\0\0\0\0\0\0\0\0\0\x08\0\0\0\0\0\0\0\0\0\0\0\0\0\0\0\0\0\0\0\0\0\0\0\0";
+const UNLINKED: &[u8] = &[
+    0, 0, 0, 2, // command
+    0, 0, 0, 9, // seqnum
+    0, 1, 0, 2, // devid
+    0, 0, 0, 0, // direction
+    0, 0, 0, 0, // ep
+    0, 0, 0, 8, // unlink_seqnum
+    0, 0, 0, 0, 0, 0, 0, 0, 0, 0, 0, 0, 0, 0, 0, 0, 0, 0, 0, 0, 0, 0, 0, 0, // padding
+];
+
+/// The submit 8 from the device, with 0 packets in place of 0xffffffff.
+const SUBMIT_IN_NO_PACKETS: &[u8] = &[
+    0, 0, 0, 1, // command
+    0, 0, 0, 8, // seqnum
+    0, 1, 0, 2, // devid
+    0, 0, 0, 1, // direction
+    0, 0, 0, 1, // ep
+    0, 0, 0, 0, // transfer_flags
+    0, 0, 0x10, 0, // transfer_buffer_length
+    0, 0, 0, 0, // start_frame
+    0, 0, 0, 0, // number_of_packets
+    0, 0, 0, 0, // interval
+    1, 2, 3, 4, 5, 6, 7, 8, // setup
+];
+
+/// The unlink 9 of the submit 8, with a direction and an endpoint of no submit.
+const UNLINKED_ELSEWHERE: &[u8] = &[
+    0, 0, 0, 2, // command
+    0, 0, 0, 9, // seqnum
+    0, 1, 0, 2, // devid
+    0, 0, 0, 7, // direction
+    0, 0, 0, 0x63, // ep
+    0, 0, 0, 8, // unlink_seqnum
+    0, 0, 0, 0, 0, 0, 0, 0, 0, 0, 0, 0, 0, 0, 0, 0, 0, 0, 0, 0, 0, 0, 0, 0, // padding
+];
 
 fn field(layer: Layer, name: Name, offset: u32) -> Field {
     Field {
@@ -184,18 +240,12 @@ fn client_messages_cut_at_every_place(rt: HostRuntime) -> Result<(), Fail> {
         (SUBMIT_OUT, Up::Submit(submit(7, Dir::Out, 3)), b"abc"),
         (SUBMIT_IN, Up::Submit(submit(8, Dir::In, 4096)), b""),
         (UNLINKED, Up::Unlink(UNLINK), b""),
-        // no packets
         (
-            b"\0\0\0\x01\0\0\0\x08\0\x01\0\x02\0\0\0\x01\0\0\0\x01\0\0\0\0\0\0\x10\0\0\0\0\0\0\0\0\0\0\0\0\0\x01\x02\x03\x04\x05\x06\x07\x08",
+            SUBMIT_IN_NO_PACKETS,
             Up::Submit(submit(8, Dir::In, 4096)),
             b"",
         ),
-        // a direction and an endpoint of no submit
-        (
-            b"\0\0\0\x02\0\0\0\x09\0\x01\0\x02\0\0\0\x07\0\0\0\x63\0\0\0\x08\0\0\0\0\0\0\0\0\0\0\0\0\0\0\0\0\0\0\0\0\0\0\0\0",
-            Up::Unlink(UNLINK),
-            b"",
-        ),
+        (UNLINKED_ELSEWHERE, Up::Unlink(UNLINK), b""),
     ];
     for (text, what, data) in cases {
         for cut in 0..text.len() {

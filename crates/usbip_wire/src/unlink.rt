@@ -1,3 +1,15 @@
+//! USBIP_CMD_UNLINK. Numbers are big-endian.
+//!
+//! | Offset | Size | Field | Value |
+//! |---|---|---|---|
+//! | 0 | 4 | command | 2, judged |
+//! | 4 | 4 | seqnum | the number by which it is answered |
+//! | 8 | 4 | devid | the imported device's, judged |
+//! | 12 | 4 | direction | not used, written 0 |
+//! | 16 | 4 | ep | not used, written 0 |
+//! | 20 | 4 | unlink_seqnum | the number of the submit that it takes back |
+//! | 24 | 24 | padding | written 0 |
+
 ghost use Rattle.std.specs.Prelude.{◌≡◌, ◌+◌, ◌≤◌, ◌++◌};
 ghost use Rattle.usbip_wire.specs.Unlink.{unlink_bytes, unused};
 ghost use Rattle.usbip_wire.specs.Up.{Spells, Unlink};
