@@ -142,8 +142,12 @@ avoids_at asked unlinks head transferred ups downs s fits apart lines e = by (wh
 many_at : (asked : Endpoint → List SubmitHead) (unlinks : List UnlinkHead) (ups : List up.Message) (downs : List Put) (s : State) → Lines asked unlinks ups downs s
     → (e : Endpoint) → length (queue_of e s) + length (sent_heads (sent_to e ups)) ≤ length (asked e)
 many_at asked unlinks ups downs s lines e =
-    omega (arith, left_long (asked e) (heads (queue_of e s) ++ sent_heads (sent_to e ups)) (events_of e downs) (lines.submits e),
-    length-append (heads (queue_of e s)) (sent_heads (sent_to e ups)), heads_long (queue_of e s))
+    omega (
+      arith,
+      left_long (asked e) (heads (queue_of e s) ++ sent_heads (sent_to e ups)) (events_of e downs) (lines.submits e),
+      length-append (heads (queue_of e s)) (sent_heads (sent_to e ups)),
+      heads_long (queue_of e s),
+    )
 
 few_pending : (asked : Endpoint → List SubmitHead) (unlinks : List UnlinkHead) (head : SubmitHead) (transferred : List ℕ) (ups : List up.Message) (downs : List Put) (s : State)
     → Fitting head → Lines asked unlinks (up.Submit head transferred ∷ ups) downs s → length (pending s) < total_of asked

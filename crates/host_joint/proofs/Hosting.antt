@@ -480,7 +480,6 @@ unlinks_written last message tag size written answered sofar read gone ups downs
     clash : {A : Type 0} → true ≡ false → A
     clash e = absurd (cc)
 
-
 -- ---- Interrupt-IN, and the answers to unlinks
 
 pub other_answered : (last : ℕ) (message : List ℕ) (tag size : ℕ) (written : List Job) (answered : ℕ) (sofar read : List ℕ) (gone : Bool) (ups : List up.Message) (head : SubmitHead) (a : RetSubmitHead) (transferred : List ℕ) (downs : List Put) (s : State)

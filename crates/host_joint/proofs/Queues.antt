@@ -96,7 +96,6 @@ avoids_queue n s h BulkOut = avoids-front n s.bulk_out (s.bulk_in ++ s.interrupt
 avoids_queue n s h BulkIn = avoids-front n s.bulk_in s.interrupt_in (avoids-behind n s.bulk_out (s.bulk_in ++ s.interrupt_in) (avoids-behind n s.control (s.bulk_out ++ (s.bulk_in ++ s.interrupt_in)) h))
 avoids_queue n s h InterruptIn = avoids-behind n s.bulk_in s.interrupt_in (avoids-behind n s.bulk_out (s.bulk_in ++ s.interrupt_in) (avoids-behind n s.control (s.bulk_out ++ (s.bulk_in ++ s.interrupt_in)) h))
 
-
 -- ---- the queues of a state that can be reached
 
 pub record IsSound (s : State) : Type 0 where
