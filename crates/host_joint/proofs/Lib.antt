@@ -21,3 +21,4 @@ mod Handing
 mod Running
 mod Accepting
 mod Setting
+mod Examples
