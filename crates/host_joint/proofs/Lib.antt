@@ -22,3 +22,4 @@ mod Running
 mod Accepting
 mod Setting
 mod Examples
+mod Booking
