@@ -9,7 +9,7 @@ use Rattle.usbip_wire.specs.Up as up
 use Rattle.tmc_law.specs.Endpoint.{Endpoint, Control, BulkOut, BulkIn, InterruptIn, number_of}
 use Rattle.tmc_law.specs.State.{State, queue_of, start}
 use Rattle.tmc_law.specs.Put.{Put, Submitted, Unlinked}
-use Rattle.host_joint.specs.Lines.{Sent, sent_to, sent_heads, heads, Event, Gives, Drops, events_of, without, LeftBy, Line, Lines, unlinks_in, unlinked_by}
+use Rattle.host_joint.specs.Lines.{Sent, sent_to, sent_heads, heads, Event, Gives, events_of, without, LeftBy, Line, Lines, unlinks_in, unlinked_by}
 use Rattle.host_joint.specs.Unlinking.{IsNamed}
 use Rattle.host_joint.proofs.Queues.{Apart, which}
 use Rattle.host_joint.proofs.Flows.{without-append, unlinks-append}

@@ -1,5 +1,5 @@
 -- what a host knows of the transfers that the device took, once all were answered
-use Rattle.std.proofs.Common.{◌≡◌, ◌≢◌, ◌∙◌, ℕ, ◌+◌, inl, inr, List, [], ◌∷◌, ◌++◌, length, Option, Some, None, refl, ap, sym, subst, append-nil, length-append, arith}
+use Rattle.std.proofs.Common.{◌≡◌, ◌∙◌, ℕ, ◌+◌, inl, inr, List, [], ◌∷◌, ◌++◌, length, Option, Some, None, refl, ap, sym, subst, append-nil, length-append, arith}
 use Rattle.tmc_wire.specs.declared.header.OutHeader.{OutHeader}
 use Rattle.tmc_wire.specs.declared.header.OutHeader.TheVariants.{Request}
 use Rattle.host_joint.specs.Jobs.{Job, last_header}
@@ -34,4 +34,3 @@ not_final tag size o is h = absurd (subst (λ (x : Option OutHeader). IsFinal x)
 pub not_unasked : {B : Type 0} (tag size : ℕ) (past : List Job) (sofar : List ℕ) → last_header past ≡ Some (Request tag size) → IsUnasked past sofar → B
 not_unasked tag size past sofar is (inl final) = not_final tag size (last_header past) is final
 not_unasked tag size past sofar is (inr (none, some)) = let e : None ≡ Some (Request tag size) = sym (ap last_header none) ∙ is in absurd (cc)
-

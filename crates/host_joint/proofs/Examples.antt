@@ -1,8 +1,6 @@
 -- example asks
-use Rattle.std.proofs.Common.{◌≡◌, ◌≢◌, ◌⊎◌, inl, inr, ℕ, ◌-◌, ◌≤◌, true, false, List, [], ◌∷◌, ◌++◌, length, codes, take, refl, ap, sym, ◌∙◌, arith, lit<, lit≤}
+use Rattle.std.proofs.Common.{◌≡◌, ◌≢◌, ◌⊎◌, inl, inr, ℕ, ◌-◌, ◌≤◌, true, false, List, [], ◌∷◌, ◌++◌, length, codes, refl, ap, sym, ◌∙◌, arith, lit<, lit≤}
 use Rattle.std.proofs.lemmas.Bool.{eqb-false}
-use Rattle.usbip_wire.specs.Up as up
-use Rattle.tmc_wire.specs.declared.header.OutHeader.TheVariants.{Message, Request}
 use Rattle.tmc_wire.specs.declared.header_fault.HeaderFault.{HeaderFault}
 use Rattle.tmc_wire.specs.declared.header_fault.HeaderFault.TheVariants.{Length, MsgId, Tag, Inverse, Size}
 use Rattle.tmc_wire.specs.Standard.{trigger}

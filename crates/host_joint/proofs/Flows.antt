@@ -315,7 +315,7 @@ lines_run laws before (entry ∷ run) asked unlinks s t ups downs reached h fit 
     let fitting : AllFitting (taken entry.move ++ (inputs run ++ ups)) = subst (λ (l : List up.Message). AllFitting l) same fit in
     let ordered : InOrder (taken entry.move ++ (inputs run ++ ups)) = subst (λ (l : List up.Message). InOrder l) same order in
     let go = lines_step laws before asked unlinks s h.0 entry.move entry.puts (inputs run ++ ups) downs reached h.1 fitting ordered
-        (subst (λ (l : List up.Message). Lines asked unlinks l downs s) same lines) in
+    (subst (λ (l : List up.Message). Lines asked unlinks l downs s) same lines) in
     subst (λ (l : List Put). Lines asked unlinks ups l t) (append_assoc downs entry.puts (outputs run))
     (lines_run laws (before ++ entry ∷ []) run asked unlinks h.0 t ups (downs ++ entry.puts) (laws.joins before (entry ∷ []) start s h.0 reached (h.0, h.1, refl)) h.2
     (fitting_behind (taken entry.move) (inputs run ++ ups) fitting) (order_behind (taken entry.move) (inputs run ++ ups) ordered) go)
@@ -345,6 +345,6 @@ front_none (x ∷ a) b h = absurd (cc)
 pub all_answered : (asked : Endpoint → List SubmitHead) (e : Endpoint) (ups : List up.Message) (downs : List Put) (s : State) → Lines asked [] ups downs s → asked e ≡ [] → EmptyLine e ups downs s
 all_answered asked e ups downs s lines none =
     let over = no_event e downs (line e s (sent_heads (sent_to e ups))) (front_none (unlinked_by downs) (unlinks_in ups) lines.unlinked)
-        (subst (λ (l : List SubmitHead). LeftBy l (events_of e downs) (line e s (sent_heads (sent_to e ups)))) none (lines.submits e)) in
+    (subst (λ (l : List SubmitHead). LeftBy l (events_of e downs) (line e s (sent_heads (sent_to e ups)))) none (lines.submits e)) in
     let empty = empty_heads (queue_of e s) (sent_to e ups) over.1 in
     record { queue = empty.0; sent = empty.1; events = over.0 }

@@ -1,10 +1,10 @@
 -- numbers that were not given yet, and those of what was executed
-use Rattle.std.proofs.Common.{◌≡◌, ◌∙◌, ℕ, ◌<◌, ◌≤◌, List, [], ◌∷◌, ◌++◌, Option, Some, None, refl, ap, sym, subst, append_assoc, arith}
+use Rattle.std.proofs.Common.{◌≡◌, ◌∙◌, ℕ, ◌≤◌, List, [], ◌∷◌, ◌++◌, Option, Some, None, refl, ap, sym, subst, append_assoc, arith}
 use Rattle.usbip_wire.specs.Up as up
 use Rattle.instr_plain.specs.declared.log.LogEntry.{LogEntry}
 use Rattle.instr_plain.specs.declared.log.LogEntry.TheVariants as entry
 use Rattle.tmc_law.specs.State.{State, Waiting}
-use Rattle.tmc_law.specs.Step.{Move, Comes, Take, Exec, Begin, Answer, Poll}
+use Rattle.tmc_law.specs.Step.{Move, Take, Exec, Begin, Answer, Poll}
 use Rattle.tmc_law.specs.LogStep.{MayLog, Adds, LogsNothing, LogsOne}
 use Rattle.tmc_law.specs.Numbers.{AllAbove, AllBelow, Rises, effect_of, effects, waits, numbers_of, coming_out, numbers}
 use Rattle.host_joint.specs.Stage.{NoExec, Ran, IsAnother}

@@ -1,5 +1,5 @@
 -- the queues of a state
-use Rattle.std.proofs.Common.{◌≡◌, ◌⊎◌, inl, inr, ℕ, Bool, true, false, eqb, List, [], ◌∷◌, ◌++◌, refl, subst}
+use Rattle.std.proofs.Common.{◌≡◌, ◌⊎◌, inl, inr, ℕ, true, false, eqb, List, [], ◌∷◌, ◌++◌, refl}
 use Rattle.tmc_law.specs.Endpoint.{Endpoint, Control, BulkOut, BulkIn, InterruptIn, number_of}
 use Rattle.tmc_law.specs.Acts.{SameQueues}
 use Rattle.tmc_law.specs.Reached.{AllFit}
@@ -95,7 +95,6 @@ avoids_queue n s h Control = avoids-front n s.control (s.bulk_out ++ (s.bulk_in 
 avoids_queue n s h BulkOut = avoids-front n s.bulk_out (s.bulk_in ++ s.interrupt_in) (avoids-behind n s.control (s.bulk_out ++ (s.bulk_in ++ s.interrupt_in)) h)
 avoids_queue n s h BulkIn = avoids-front n s.bulk_in s.interrupt_in (avoids-behind n s.bulk_out (s.bulk_in ++ s.interrupt_in) (avoids-behind n s.control (s.bulk_out ++ (s.bulk_in ++ s.interrupt_in)) h))
 avoids_queue n s h InterruptIn = avoids-behind n s.bulk_in s.interrupt_in (avoids-behind n s.bulk_out (s.bulk_in ++ s.interrupt_in) (avoids-behind n s.control (s.bulk_out ++ (s.bulk_in ++ s.interrupt_in)) h))
-
 
 -- ---- the queues of a state that can be reached
 

@@ -1,5 +1,5 @@
 -- an ask under whole runs
-use Rattle.std.proofs.Common.{◌≡◌, ◌≢◌, ◌∙◌, List, [], ◌∷◌, ◌++◌, true, refl, ap, sym, subst, append_assoc, append-nil}
+use Rattle.std.proofs.Common.{◌≡◌, ◌≢◌, ◌∙◌, List, [], ◌∷◌, ◌++◌, true, refl, sym, subst, append_assoc, append-nil}
 use Rattle.usbip_wire.specs.declared.submit.SubmitHead.{SubmitHead}
 use Rattle.usbip_wire.specs.declared.unlink.UnlinkHead.{UnlinkHead}
 use Rattle.usbip_wire.specs.Up as up
@@ -7,7 +7,7 @@ use Rattle.instr_plain.specs.Log.{Stands}
 use Rattle.tmc_law.specs.Endpoint.{Endpoint, Control}
 use Rattle.tmc_law.specs.State.{State, Pending, queue_of, start}
 use Rattle.tmc_law.specs.Put.{Put}
-use Rattle.tmc_law.specs.Step.{Move, Comes, Refuses, Unplug, Steps}
+use Rattle.tmc_law.specs.Step.{Move, Comes, Unplug, Steps}
 use Rattle.tmc_law.specs.Run.{Entry, Runs, taken, inputs, outputs}
 use Rattle.host_joint.specs.Lines.{Lines, unlinks_in, AllFitting, InOrder}
 use Rattle.host_joint.specs.Unlinking.{Unlinking}
@@ -59,7 +59,7 @@ asking_run laws before (entry ∷ run) ask s t ups downs reached h fit none plug
     let fitting : AllFitting (taken entry.move ++ (inputs run ++ ups)) = subst (λ (l : List up.Message). AllFitting l) same fit in
     let both = none_front (unlinks_in (taken entry.move)) (unlinks_in (inputs run)) (sym (unlinks-append (taken entry.move) (inputs run)) ∙ none) in
     let go = asking_step laws before ask s h.0 entry.move (inputs run ++ ups) downs entry.puts reached h.1 fitting (safe_move entry.move (inputs run ++ ups) s plugged.0 both.0)
-        (subst (λ (l : List up.Message). Asking ask l downs s) same asking) in
+    (subst (λ (l : List up.Message). Asking ask l downs s) same asking) in
     subst (λ (l : List Put). Asking ask ups l t) (append_assoc downs entry.puts (outputs run))
     (asking_run laws (before ++ entry ∷ []) run ask h.0 t ups (downs ++ entry.puts) (laws.reaches.joins before (entry ∷ []) start s h.0 reached (h.0, h.1, refl)) h.2
     (fitting_behind (taken entry.move) (inputs run ++ ups) fitting) both.1 plugged.1 go)
@@ -92,7 +92,7 @@ cancelled_run laws before (entry ∷ run) asked unlinks ask s t ups downs reache
     let fitting : AllFitting (taken entry.move ++ (inputs run ++ ups)) = subst (λ (l : List up.Message). AllFitting l) same fit in
     let ordered : InOrder (taken entry.move ++ (inputs run ++ ups)) = subst (λ (l : List up.Message). InOrder l) same inorder in
     let go = cancelled_step laws before asked unlinks ask s h.0 entry.move (inputs run ++ ups) downs entry.puts reached h.1 fitting ordered plugged.0
-        (subst (λ (l : List up.Message). Cancelled asked unlinks ask l downs s) same asking) in
+    (subst (λ (l : List up.Message). Cancelled asked unlinks ask l downs s) same asking) in
     subst (λ (l : List Put). Cancelled asked unlinks ask ups l t) (append_assoc downs entry.puts (outputs run))
     (cancelled_run laws (before ++ entry ∷ []) run asked unlinks ask h.0 t ups (downs ++ entry.puts) (laws.reaches.joins before (entry ∷ []) start s h.0 reached (h.0, h.1, refl)) h.2
     (fitting_behind (taken entry.move) (inputs run ++ ups) fitting) (order_behind (taken entry.move) (inputs run ++ ups) ordered) plugged.1 go)

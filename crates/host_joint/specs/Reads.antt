@@ -114,4 +114,3 @@ pub data InLine (shut gone : Bool) (flow : Flow) (read : List ℕ) (events : Lis
   -- Bulk-IN halted: behind what was given before come answers that tell of it
   Closed : (front rest : List Event) → shut ≡ true → events ≡ front ++ rest → InFront flow read front → IsHalted rest → queue ≡ []
       → InLine shut gone flow read events coming queue
-

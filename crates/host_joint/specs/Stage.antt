@@ -105,4 +105,3 @@ pub data Stage (last : ℕ) (message : List ℕ) (tag size : ℕ) (past todo : L
   -- its piece was requested, and the request was dropped since Bulk-IN halted
   Dropped : (response : List ℕ) → s.halted.bulk_in ≡ true → s.waiting ≡ None → s.part ≡ [] → s.side ≡ Idle → Ran last message response s.log → response ≡ sofar ++ unread s
       → flow ≡ Still → todo ≡ [] → last_header past ≡ Some (Request tag size) → Stage last message tag size past todo sofar flow s
-

@@ -1,10 +1,9 @@
-use Rattle.std.proofs.Common.{◌≢◌, List, [], ◌++◌, refl, sym, subst, append-nil}
-use Rattle.usbip_wire.specs.Up as up
+use Rattle.std.proofs.Common.{[], ◌++◌, refl}
 use Rattle.tmc_law.specs.Endpoint.{BulkIn}
 use Rattle.tmc_law.specs.State.{start}
 use Rattle.tmc_law.specs.Halts.{halt_answers}
 use Rattle.tmc_law.specs.Step.{Halt}
-use Rattle.tmc_law.specs.Run.{inputs, outputs}
+use Rattle.tmc_law.specs.Run.{outputs}
 use Rattle.tmc_law.specs.WorkedQuery.{asking, answering, query_log}
 use Rattle.tmc_law.specs.WorkedRead.{reading}
 use Rattle.host_joint.specs.WorkedAsks.{query_ask, read_ask, query_asked}
@@ -55,18 +54,24 @@ returns-clause-halts c =
       stands = c.the_log_grows.ensures.stands;
       one_header = c.headers_are_read_again.ensures.out_one;
     }) [] reading read_ask start w.0 [] [] refl w.3 read_fits refl
-        ((λ e. cc), ((λ e. cc), ((λ e. cc), ((λ e. cc), ((λ e. cc), ((λ e. cc), ((λ e. cc), ((λ e. cc), tt)))))))) read_begins in
-    (w.0, w.1, w.3, w.6, before, asking_step (record {
-      reaches = record {
-        fits = c.pending_submits_are_sound.ensures.stand;
-        empty = c.pending_submits_are_sound.ensures.halted;
-        does = c.steps_act.ensures;
-        joins = c.runs_join.ensures.together;
-      };
-      polled = λ run s e before submit behind reached line polled. let place = c.pending_submits_are_sound.ensures.polled run s e before submit behind reached line polled in (place.0, place.1);
-      stands = c.the_log_grows.ensures.stands;
-      one_header = c.headers_are_read_again.ensures.out_one;
-    }) reading read_ask w.0 w.1 (Halt BulkIn) [] (outputs reading) (halt_answers BulkIn w.0) w.3 w.6 tt tt before)
+    ((λ e. cc), ((λ e. cc), ((λ e. cc), ((λ e. cc), ((λ e. cc), ((λ e. cc), ((λ e. cc), ((λ e. cc), tt)))))))) read_begins in (
+      w.0,
+      w.1,
+      w.3,
+      w.6,
+      before,
+      asking_step (record {
+        reaches = record {
+          fits = c.pending_submits_are_sound.ensures.stand;
+          empty = c.pending_submits_are_sound.ensures.halted;
+          does = c.steps_act.ensures;
+          joins = c.runs_join.ensures.together;
+        };
+        polled = λ run s e before submit behind reached line polled. let place = c.pending_submits_are_sound.ensures.polled run s e before submit behind reached line polled in (place.0, place.1);
+        stands = c.the_log_grows.ensures.stands;
+        one_header = c.headers_are_read_again.ensures.out_one;
+      }) reading read_ask w.0 w.1 (Halt BulkIn) [] (outputs reading) (halt_answers BulkIn w.0) w.3 w.6 tt tt before,
+    )
 
 pub returns-clause-foreign : goal.returns-clause-foreign
 returns-clause-foreign c = foreign_is_not
