@@ -21,7 +21,8 @@ use Rattle.host_joint.proofs.Taking.{OneHeader, Took, GoesOn, Ends, take_goes}
 use Rattle.host_joint.proofs.Filling as filling
 use Rattle.host_joint.proofs.Filling.{Filled, fill_goes}
 use Rattle.host_joint.proofs.Staging.{may_begin, stage_sends}
-use Rattle.host_joint.proofs.Asking.{effect_sides, fills_side}
+use Rattle.host_joint.proofs.Asking.{fills_side}
+use Rattle.host_joint.proofs.Rebuilding.{effect_sides}
 use Rattle.host_joint.proofs.Falling.{left_all, left_rising, left_none}
 
 -- ---- halts

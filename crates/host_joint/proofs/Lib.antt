@@ -6,6 +6,7 @@ mod Filling
 mod Logged
 mod Listing
 mod Staging
+mod Rebuilding
 mod Asking
 mod Falling
 mod Owning
