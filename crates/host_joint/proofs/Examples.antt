@@ -1,6 +1,7 @@
 -- example asks
-use Rattle.std.proofs.Common.{◌≡◌, ◌≢◌, ◌⊎◌, inl, inr, ℕ, ◌-◌, ◌≤◌, true, false, List, [], ◌∷◌, ◌++◌, length, codes, refl, ap, sym, ◌∙◌, arith, lit<, lit≤}
+use Rattle.std.proofs.Common.{◌≡◌, ◌≢◌, ◌⊎◌, inl, inr, ℕ, ◌-◌, ◌≤◌, true, false, List, [], ◌∷◌, ◌++◌, length, codes, refl, ap, sym, ◌∙◌, arith, lit<, lit≤, ◌+◌, ◌<◌, subst}
 use Rattle.std.proofs.lemmas.Bool.{eqb-false}
+use Rattle.usbip_wire.specs.Up as up
 use Rattle.tmc_wire.specs.declared.header_fault.HeaderFault.{HeaderFault}
 use Rattle.tmc_wire.specs.declared.header_fault.HeaderFault.TheVariants.{Length, MsgId, Tag, Inverse, Size}
 use Rattle.tmc_wire.specs.Standard.{trigger}
@@ -8,15 +9,21 @@ use Rattle.tmc_wire.specs.HeaderFault as fault
 use Rattle.instr_plain.specs.declared.log.LogEntry.{LogEntry}
 use Rattle.instr_plain.specs.declared.log.LogEntry.TheVariants as entry
 use Rattle.tmc_law.specs.Endpoint.{Endpoint, Control, BulkOut, BulkIn, InterruptIn}
-use Rattle.tmc_law.specs.State.{start}
-use Rattle.tmc_law.specs.Run.{inputs}
-use Rattle.tmc_law.specs.WorkedQuery.{asking, answering, query_log}
+use Rattle.tmc_law.specs.State.{State, start}
+use Rattle.tmc_law.specs.Run.{inputs, outputs}
+use Rattle.tmc_law.specs.WorkedQuery.{query_submit, request_submit, response_submit, response_text, asking, answering, query_log}
+use Rattle.tmc_law.specs.WorkedSession.{answered}
+use Rattle.tmc_law.specs.Put.{Put, success, stalled}
+use Rattle.usbip_wire.specs.declared.submit.SubmitHead.{SubmitHead}
+use Rattle.usbip_wire.specs.declared.ret_submit.RetSubmitHead.{RetSubmitHead}
+use Rattle.host_joint.specs.Hosted.{OutAnswered, InAnswered, TookFull, TookEnd, TookHalt, PieceEnd}
+use Rattle.host_joint.proofs.Hosting.{out_answered, in_answered}
 use Rattle.tmc_law.specs.WorkedRead.{reading}
-use Rattle.host_joint.specs.Lines.{Line, AllFitting}
+use Rattle.host_joint.specs.Lines.{Line, AllFitting, Gives}
 use Rattle.host_joint.specs.Jobs.{IsJob, Unbegun}
-use Rattle.host_joint.specs.Reads.{Still, Unread}
+use Rattle.host_joint.specs.Reads.{read_size, Still, Unread}
 use Rattle.host_joint.specs.Stage.{Ran, OneComes, Final, Gathers}
-use Rattle.host_joint.specs.Asking.{Asking}
+use Rattle.host_joint.specs.Asking.{Ask, Asking}
 use Rattle.host_joint.specs.Owned.{Owned, NothingRead, PiecesRead, PieceRead}
 use Rattle.host_joint.specs.WorkedAsks.{query_job, read_job, request_job, query_ask, read_ask, query_asked, foreign_ask}
 
@@ -167,3 +174,30 @@ query_lines Control = refl
 query_lines BulkOut = refl
 query_lines BulkIn = refl
 query_lines InterruptIn = refl
+
+-- ---- the answers of the query are taken
+
+good : (ask : Ask) (ups : List up.Message) (head : SubmitHead) (a : RetSubmitHead) (downs : List Put) (s : State) → a.status ≡ success → OutAnswered ask ups head a downs s
+    → Asking (record ask { answered = ask.answered + 1 }) ups downs s
+good ask ups head a downs s ok (inl h) = h.2
+good ask ups head a downs s ok (inr e) = let f : success ≡ stalled = sym ok ∙ e in absurd (cc)
+
+piece_ends : (ask : Ask) (ups : List up.Message) (head : SubmitHead) (a : RetSubmitHead) (transferred : List ℕ) (downs : List Put) (s : State) → length transferred < read_size
+    → s.halted.bulk_in ≡ false → InAnswered ask ups (Gives head a transferred) downs s → PieceEnd ask transferred ups downs s
+piece_ends ask ups head a transferred downs s short usable (TookFull x is full next) = let e : transferred ≡ x.bytes = cc in absurd (omega (arith, short, full, ap (λ (l : List ℕ). length l) e))
+piece_ends ask ups head a transferred downs s short usable (TookEnd x is small end) = let e : x.bytes ≡ transferred = cc in subst (λ (l : List ℕ). PieceEnd ask l ups downs s) e end
+piece_ends ask ups head a transferred downs s short usable (TookHalt shuts halted) = let e : false ≡ true = sym usable ∙ shuts in absurd (cc)
+
+pub query_read : Asking query_ask [] (outputs (asking ++ answering)) (record start { log = query_log })
+    → PieceEnd (record query_ask { answered = 2 }) response_text [] [] (record start { log = query_log })
+query_read a =
+    let t : State = record start { log = query_log } in
+    let message : Put = answered query_submit success 20 [] in
+    let request : Put = answered request_submit success 12 [] in
+    let response : Put = answered response_submit success 32 response_text in
+    let first = good query_ask [] query_submit (record { seqnum = 1; status = success; actual = 20 }) (request ∷ response ∷ []) t refl
+        (out_answered 1 (codes "*IDN?") 2 4000 (query_job ∷ request_job ∷ []) 0 [] [] false [] query_submit (record { seqnum = 1; status = success; actual = 20 }) [] (request ∷ response ∷ []) t refl a) in
+    let second = good (record query_ask { answered = 1 }) [] request_submit (record { seqnum = 2; status = success; actual = 12 }) (response ∷ []) t refl
+        (out_answered 1 (codes "*IDN?") 2 4000 (query_job ∷ request_job ∷ []) 1 [] [] false [] request_submit (record { seqnum = 2; status = success; actual = 12 }) [] (response ∷ []) t refl first) in
+    piece_ends (record query_ask { answered = 2 }) [] response_submit (record { seqnum = 3; status = success; actual = 32 }) response_text [] t (lit< tt) refl
+    (in_answered 1 (codes "*IDN?") 2 4000 (query_job ∷ request_job ∷ []) 2 [] [] false [] response_submit (record { seqnum = 3; status = success; actual = 32 }) response_text [] t refl second)

@@ -9,7 +9,7 @@ use Rattle.tmc_law.specs.WorkedRead.{reading}
 use Rattle.host_joint.specs.WorkedAsks.{query_ask, read_ask, query_asked}
 use Rattle.host_joint.proofs.Flows.{lines_run}
 use Rattle.host_joint.proofs.Running.{asking_step, asking_run}
-use Rattle.host_joint.proofs.Examples.{query_lines, query_begins, read_begins, query_fits, read_fits, foreign_is_not}
+use Rattle.host_joint.proofs.Examples.{query_read, query_lines, query_begins, read_begins, query_fits, read_fits, foreign_is_not}
 use Rattle.host_joint.proofs.worked.worked_asks_are_in_hand.Goals as goal
 
 pub returns-clause-begins : goal.returns-clause-begins
@@ -29,6 +29,23 @@ returns-clause-answered c =
       one_header = c.headers_are_read_again.ensures.out_one;
     }) [] (asking ++ answering) query_ask start (record start { log = query_log }) [] [] refl c.a_query_is_answered.ensures.runs query_fits refl
     ((λ e. cc), ((λ e. cc), ((λ e. cc), ((λ e. cc), ((λ e. cc), ((λ e. cc), ((λ e. cc), ((λ e. cc), tt)))))))) query_begins
+
+pub returns-clause-read : goal.returns-clause-read
+returns-clause-read c =
+    query_read (
+    asking_run (record {
+      reaches = record {
+        fits = c.pending_submits_are_sound.ensures.stand;
+        empty = c.pending_submits_are_sound.ensures.halted;
+        does = c.steps_act.ensures;
+        joins = c.runs_join.ensures.together;
+      };
+      polled = λ run s e before submit behind reached line polled. let place = c.pending_submits_are_sound.ensures.polled run s e before submit behind reached line polled in (place.0, place.1);
+      stands = c.the_log_grows.ensures.stands;
+      one_header = c.headers_are_read_again.ensures.out_one;
+    }) [] (asking ++ answering) query_ask start (record start { log = query_log }) [] [] refl c.a_query_is_answered.ensures.runs query_fits refl
+    ((λ e. cc), ((λ e. cc), ((λ e. cc), ((λ e. cc), ((λ e. cc), ((λ e. cc), ((λ e. cc), ((λ e. cc), tt)))))))) query_begins
+    )
 
 pub returns-clause-lines : goal.returns-clause-lines
 returns-clause-lines c =
