@@ -1,5 +1,5 @@
 -- an ask in hand stays one under each move
-use Rattle.std.proofs.Common.{◌≡◌, ◌∙◌, inl, inr, ℕ, ◌+◌, ◌≤◌, Bool, true, false, eqb, ℤ, List, [], ◌∷◌, ◌++◌, length, take, map, Option, None, refl, ap, sym, subst, append_assoc, append-nil, length-append, arith}
+use Rattle.std.proofs.Common.{◌≡◌, ◌∙◌, inl, inr, ℕ, ◌+◌, Bool, true, false, eqb, ℤ, List, [], ◌∷◌, ◌++◌, length, take, map, None, refl, ap, sym, subst, append_assoc, append-nil, length-append, arith}
 use Rattle.std.proofs.lemmas.Bool.{eq-eqb}
 use Rattle.usbip_wire.specs.declared.submit.SubmitHead.{SubmitHead}
 use Rattle.usbip_wire.specs.declared.unlink.UnlinkHead.{UnlinkHead}
@@ -7,7 +7,7 @@ use Rattle.usbip_wire.specs.declared.ret_submit.RetSubmitHead.{RetSubmitHead}
 use Rattle.usbip_wire.specs.Up as up
 use Rattle.instr_plain.specs.Log.{Stands}
 use Rattle.tmc_law.specs.Endpoint.{Endpoint, Control, BulkOut, BulkIn, InterruptIn, number_of}
-use Rattle.tmc_law.specs.State.{State, Pending, Transfer, Piece, Idle, Sending, Nothing, AbortsIn, arrived, queue_of, is_halted}
+use Rattle.tmc_law.specs.State.{State, Pending, Piece, Idle, Sending, Nothing, AbortsIn, arrived, queue_of, is_halted}
 use Rattle.tmc_law.specs.Put.{Put, Submitted, answer_of, ended, success, stalled, returned, unlink_answer}
 use Rattle.tmc_law.specs.Halts.{all_ended, halts, HaltsItself, DoesHalt}
 use Rattle.tmc_law.specs.Queues.{Arrives, Queued, TurnedAway, IsTaken, Unlinks, Hits, Polled, Misses}
@@ -17,7 +17,6 @@ use Rattle.tmc_law.specs.BulkIn as «in»
 use Rattle.tmc_law.specs.BulkIn.{Fills, Begins, given}
 use Rattle.tmc_law.specs.Class as class
 use Rattle.tmc_law.specs.Status as status
-use Rattle.tmc_law.specs.Logging.{Logs}
 use Rattle.tmc_law.specs.Step.{Move, Comes, Refuses, Take, Exec, Begin, Fill, Answer, Pend, Poll, Notify, Halt, Unplug, Leads}
 use Rattle.tmc_law.specs.Run.{taken}
 use Rattle.tmc_law.specs.Acts.{FitsAt}
@@ -30,11 +29,10 @@ use Rattle.host_joint.specs.Reads as reads
 use Rattle.host_joint.specs.Reads.{IsRead, Flow, Still, Giving, Over, InLine, gives}
 use Rattle.host_joint.specs.Stage.{Stage}
 use Rattle.host_joint.specs.Asking.{SentReads, AllTaken, Calm, Asking, HitsLast, IsSafe}
-use Rattle.host_joint.proofs.Flows.{events-append}
 use Rattle.host_joint.proofs.Taking.{OneHeader, Took, GoesOn, Ends, take_goes, job_comes, job_turned, job_hit, LeftOf, Same, Shorter}
 use Rattle.host_joint.proofs.Filling as filling
 use Rattle.host_joint.proofs.Filling.{Filled, OnlyReads, fill_goes, read_comes, read_turned, torn, in_halts, read_hit}
-use Rattle.host_joint.proofs.Staging.{SameStage, stage_same, stage_executes, stage_begins, stage_sends, stage_gives, stage_ends, may_begin, stage_takes, stage_shorter, stage_shuts, stage_tears}
+use Rattle.host_joint.proofs.Staging.{stage_same, stage_executes, stage_begins, stage_sends, stage_gives, stage_ends, may_begin, stage_takes, stage_shorter, stage_shuts, stage_tears}
 use Rattle.host_joint.proofs.Rebuilding.{other_event, other_ended, Effect, effect_is, effect_logs, effect_own, effect_sides, stage_is, Parts, rebuild, is_effect, calm_of, no_ins, same_parts, alone}
 
 -- ---- packets are taken

@@ -196,8 +196,8 @@ query_read a =
     let request : Put = answered request_submit success 12 [] in
     let response : Put = answered response_submit success 32 response_text in
     let first = good query_ask [] query_submit (record { seqnum = 1; status = success; actual = 20 }) (request ∷ response ∷ []) t refl
-        (out_answered 1 (codes "*IDN?") 2 4000 (query_job ∷ request_job ∷ []) 0 [] [] false [] query_submit (record { seqnum = 1; status = success; actual = 20 }) [] (request ∷ response ∷ []) t refl a) in
+    (out_answered 1 (codes "*IDN?") 2 4000 (query_job ∷ request_job ∷ []) 0 [] [] false [] query_submit (record { seqnum = 1; status = success; actual = 20 }) [] (request ∷ response ∷ []) t refl a) in
     let second = good (record query_ask { answered = 1 }) [] request_submit (record { seqnum = 2; status = success; actual = 12 }) (response ∷ []) t refl
-        (out_answered 1 (codes "*IDN?") 2 4000 (query_job ∷ request_job ∷ []) 1 [] [] false [] request_submit (record { seqnum = 2; status = success; actual = 12 }) [] (response ∷ []) t refl first) in
+    (out_answered 1 (codes "*IDN?") 2 4000 (query_job ∷ request_job ∷ []) 1 [] [] false [] request_submit (record { seqnum = 2; status = success; actual = 12 }) [] (response ∷ []) t refl first) in
     piece_ends (record query_ask { answered = 2 }) [] response_submit (record { seqnum = 3; status = success; actual = 32 }) response_text [] t (lit< tt) refl
     (in_answered 1 (codes "*IDN?") 2 4000 (query_job ∷ request_job ∷ []) 2 [] [] false [] response_submit (record { seqnum = 3; status = success; actual = 32 }) response_text [] t refl second)

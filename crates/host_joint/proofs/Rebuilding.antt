@@ -1,40 +1,24 @@
 -- what an ask reads of a state, and an ask from its parts
-use Rattle.std.proofs.Common.{◌≡◌, ◌∙◌, inl, inr, ℕ, ◌+◌, ◌≤◌, Bool, true, false, eqb, ℤ, List, [], ◌∷◌, ◌++◌, length, take, map, Option, None, refl, ap, sym, subst, append_assoc, append-nil, length-append, arith}
-use Rattle.std.proofs.lemmas.Bool.{eq-eqb}
+use Rattle.std.proofs.Common.{◌≡◌, ◌∙◌, ℕ, ◌+◌, ◌≤◌, Bool, false, eqb, ℤ, List, [], ◌∷◌, ◌++◌, length, map, Option, refl, ap, sym, subst, append-nil}
 use Rattle.usbip_wire.specs.declared.submit.SubmitHead.{SubmitHead}
-use Rattle.usbip_wire.specs.declared.unlink.UnlinkHead.{UnlinkHead}
-use Rattle.usbip_wire.specs.declared.ret_submit.RetSubmitHead.{RetSubmitHead}
 use Rattle.usbip_wire.specs.Up as up
-use Rattle.instr_plain.specs.Log.{Stands}
-use Rattle.tmc_law.specs.Endpoint.{Endpoint, Control, BulkOut, BulkIn, InterruptIn, number_of}
-use Rattle.tmc_law.specs.State.{State, Pending, Transfer, Piece, Idle, Sending, Nothing, AbortsIn, arrived, queue_of, is_halted}
-use Rattle.tmc_law.specs.Put.{Put, Submitted, answer_of, ended, success, stalled, returned, unlink_answer}
-use Rattle.tmc_law.specs.Halts.{all_ended, halts, HaltsItself, DoesHalt}
-use Rattle.tmc_law.specs.Queues.{Arrives, Queued, TurnedAway, IsTaken, Unlinks, Hits, Polled, Misses}
+use Rattle.tmc_law.specs.Endpoint.{Endpoint, BulkOut, BulkIn, number_of}
+use Rattle.tmc_law.specs.State.{State, Pending, Transfer}
+use Rattle.tmc_law.specs.Put.{Put, Submitted, answer_of}
+use Rattle.tmc_law.specs.Halts.{all_ended}
 use Rattle.tmc_law.specs.BulkOut as out
 use Rattle.tmc_law.specs.BulkOut.{TakesEffect, Interrupts, message_most}
-use Rattle.tmc_law.specs.BulkIn as «in»
-use Rattle.tmc_law.specs.BulkIn.{Fills, Begins, given}
-use Rattle.tmc_law.specs.Class as class
-use Rattle.tmc_law.specs.Status as status
 use Rattle.tmc_law.specs.Logging.{Logs}
-use Rattle.tmc_law.specs.Step.{Move, Comes, Refuses, Take, Exec, Begin, Fill, Answer, Pend, Poll, Notify, Halt, Unplug, Leads}
 use Rattle.tmc_law.specs.Run.{taken}
-use Rattle.tmc_law.specs.Acts.{FitsAt}
 use Rattle.tmc_law.specs.Reached.{AllFit}
-use Rattle.host_joint.proofs.Queues.{IsSound}
 use Rattle.host_joint.proofs.Parts.{ask_of}
-use Rattle.host_joint.specs.Lines.{Sent, sent_to, Event, Gives, Drops, events_of, unlinks_in, Fitting, AllFitting}
-use Rattle.host_joint.specs.Jobs.{Job, IsJob, AllJobs, partly, OutLine, Shut}
-use Rattle.host_joint.specs.Reads as reads
-use Rattle.host_joint.specs.Reads.{IsRead, Flow, Still, Giving, Over, InLine, gives}
+use Rattle.host_joint.specs.Lines.{sent_to, Event, Gives, Drops, events_of}
+use Rattle.host_joint.specs.Jobs.{Job, AllJobs, OutLine}
+use Rattle.host_joint.specs.Reads.{Flow, InLine, gives}
 use Rattle.host_joint.specs.Stage.{Stage}
-use Rattle.host_joint.specs.Asking.{SentReads, AllTaken, Calm, Asking, HitsLast, IsSafe}
+use Rattle.host_joint.specs.Asking.{SentReads, AllTaken, Calm, Asking}
 use Rattle.host_joint.proofs.Flows.{events-append}
-use Rattle.host_joint.proofs.Taking.{OneHeader, Took, GoesOn, Ends, take_goes, job_comes, job_turned, job_hit, LeftOf, Same, Shorter}
-use Rattle.host_joint.proofs.Filling as filling
-use Rattle.host_joint.proofs.Filling.{Filled, OnlyReads, fill_goes, read_comes, read_turned, torn, in_halts, read_hit}
-use Rattle.host_joint.proofs.Staging.{SameStage, stage_same, stage_executes, stage_begins, stage_sends, stage_gives, stage_ends, may_begin, stage_takes, stage_shorter, stage_shuts, stage_tears}
+use Rattle.host_joint.proofs.Staging.{SameStage, stage_same}
 
 -- ---- answers of other endpoints
 
