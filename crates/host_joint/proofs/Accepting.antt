@@ -1,18 +1,18 @@
 -- a host's messages halt nothing and are not refused
-use Rattle.std.proofs.Common.{◌≡◌, ◌≢◌, ◌∙◌, ◌⊎◌, inl, inr, ℕ, ◌+◌, ◌<◌, ◌≤◌, Bool, true, false, cond, eqb, List, [], ◌∷◌, ◌++◌, length, refl, ap, sym, subst, append_assoc, length-append, arith}
+use Rattle.std.proofs.Common.{◌≡◌, ◌≢◌, ◌∙◌, ◌⊎◌, inl, inr, ℕ, ◌+◌, ◌<◌, ◌≤◌, Bool, true, false, cond, eqb, List, [], ◌∷◌, ◌++◌, length, refl, ap, sym, subst, length-append, arith}
 use Rattle.std.proofs.lemmas.Bool.{eq-eqb}
 use Rattle.usbip_wire.specs.declared.submit.SubmitHead.{SubmitHead}
 use Rattle.usbip_wire.specs.declared.unlink.UnlinkHead.{UnlinkHead}
 use Rattle.usbip_wire.specs.Up as up
 use Rattle.tmc_law.specs.Endpoint.{Endpoint, Control, BulkOut, BulkIn, InterruptIn, number_of}
-use Rattle.tmc_law.specs.State.{State, Pending, Sending, queue_of, pending, Avoids, is_halted}
+use Rattle.tmc_law.specs.State.{State, Pending, queue_of, pending, Avoids, is_halted}
 use Rattle.tmc_law.specs.Put.{Put}
 use Rattle.tmc_law.specs.Queues.{pending_most}
 use Rattle.tmc_law.specs.HaltCauses as causes
 use Rattle.tmc_law.specs.HaltCauses.{HaltedBy, IsClassFirst}
-use Rattle.tmc_law.specs.Step.{Move, Comes, Take, Fill, Halt, Steps, Leads, IsOver, TooMany, Twice}
+use Rattle.tmc_law.specs.Step.{Move, Take, Fill, Halt, Leads, IsOver, TooMany, Twice}
 use Rattle.tmc_law.specs.Run.{taken}
-use Rattle.host_joint.specs.Lines.{Lines, Sent, sent_to, sent_heads, heads, Event, Gives, Drops, events_of, LeftBy, NoneNumbered, without, Fitting}
+use Rattle.host_joint.specs.Lines.{Lines, sent_to, sent_heads, heads, Event, Gives, Drops, events_of, LeftBy, NoneNumbered, without, Fitting}
 use Rattle.host_joint.specs.Unlinking.{AllHeads, Rising, IsBulk, AreApart, total_of}
 use Rattle.host_joint.specs.Asking.{Ask, Asking}
 use Rattle.host_joint.specs.Reads.{gives, InLine, Flow}
@@ -21,7 +21,8 @@ use Rattle.host_joint.proofs.Taking.{OneHeader, Took, GoesOn, Ends, take_goes}
 use Rattle.host_joint.proofs.Filling as filling
 use Rattle.host_joint.proofs.Filling.{Filled, fill_goes}
 use Rattle.host_joint.proofs.Staging.{may_begin, stage_sends}
-use Rattle.host_joint.proofs.Asking.{Effect, effect_sides, fills_side}
+use Rattle.host_joint.proofs.Asking.{fills_side}
+use Rattle.host_joint.proofs.Rebuilding.{effect_sides}
 use Rattle.host_joint.proofs.Falling.{left_all, left_rising, left_none}
 
 -- ---- halts

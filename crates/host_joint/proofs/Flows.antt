@@ -41,7 +41,7 @@ left-append asked mid left [] b h k = subst (λ (l : List SubmitHead). LeftBy l 
 left-append asked mid left (Gives head answer transferred ∷ a) b h k = (h.0, h.1, left-append h.0 mid left a b h.2 k)
 left-append asked mid left (Drops n ∷ a) b h k = left-append (without n asked) mid left a b h k
 
-without-append : (n : ℕ) (a b : List SubmitHead) → without n (a ++ b) ≡ without n a ++ without n b
+pub without-append : (n : ℕ) (a b : List SubmitHead) → without n (a ++ b) ≡ without n a ++ without n b
 without-append n [] b = refl
 without-append n (x ∷ a) b = by (eqb x.seqnum n) (without-append n a b)
   where

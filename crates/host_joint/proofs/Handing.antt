@@ -1,5 +1,5 @@
 -- what an ask leaves to the recovery behind it, once each of its submits and unlinks was answered
-use Rattle.std.proofs.Common.{◌≡◌, ◌≢◌, ◌∙◌, ℕ, ◌+◌, Bool, inl, inr, List, [], ◌∷◌, ◌++◌, length, Option, Some, None, refl, ap, sym, subst, append-nil, length-append, arith}
+use Rattle.std.proofs.Common.{◌≡◌, ◌≢◌, ◌∙◌, ℕ, Bool, List, [], ◌∷◌, ◌++◌, length, Option, Some, None, refl, ap, sym, subst, append-nil, arith}
 use Rattle.usbip_wire.specs.Up as up
 use Rattle.tmc_wire.specs.declared.header.OutHeader.{OutHeader}
 use Rattle.tmc_wire.specs.declared.header.OutHeader.TheVariants.{Request}
@@ -11,11 +11,11 @@ use Rattle.host_joint.specs.Lines.{Sent as OnWay, sent_to, Event, events_of}
 use Rattle.host_joint.specs.Jobs.{data_in, Job, OutLine, Unbegun, Partly, Cut, Shut, sent, fresh, last_header}
 use Rattle.host_joint.specs.Reads as reads
 use Rattle.host_joint.specs.Reads.{Answered, answer, answers, Flow, Still, Giving, Over, Torn, InLine, gives}
-use Rattle.host_joint.specs.Stage.{Stage, Follows, Gathers, Waits, Rests, Owes, Sends, Sent, Tears, Barred, Dropped, IsInner, IsFinal, IsUnasked}
+use Rattle.host_joint.specs.Stage.{Stage, Follows, Gathers, Waits, Rests, Owes, Sends, Sent, Tears, Barred, Dropped, IsFinal}
 use Rattle.host_joint.specs.Asking.{Asking}
 use Rattle.host_joint.specs.Positions as position_of
 use Rattle.host_joint.specs.Positions.{IsAt, rests, in_begun, out_begun, out_first, InTag, OutTag}
-use Rattle.host_joint.proofs.Listing.{last_more, last_none}
+use Rattle.host_joint.proofs.Listing.{last_more}
 use Rattle.host_joint.proofs.Counting.{all_past, not_inner, not_final, not_unasked}
 use Rattle.host_joint.proofs.Parts.{ask_of}
 use Rattle.host_joint.proofs.Hosting.{inner_final, final_request, no_mix}

@@ -22,7 +22,7 @@ use Rattle.tmc_wire.specs.Transfer.{alignment_of}
 use Rattle.host_joint.specs.Reads.{Still, Giving, Over, Torn, Flow, IsRead, InLine, gives}
 use Rattle.host_joint.specs.Stage.{Ran, NoneComes, OneComes, Carries, Stage, Follows, Gathers, Waits, Rests, Owes, Sends, Sent, Tears, Barred, Dropped, IsInner, IsFinal, IsUnasked}
 use Rattle.host_joint.specs.Asking.{Asking, AllTaken, SentReads, Calm}
-use Rattle.host_joint.specs.Hosted.{OutAnswered, PieceEnd, InAnswered, TookFull, TookEnd, TookHalt, IsNext, unlinks_of}
+use Rattle.host_joint.specs.Hosted.{PieceEnd, InAnswered, TookFull, TookEnd, TookHalt, IsNext, unlinks_of}
 use Rattle.host_joint.proofs.Filling.{read_writes, line_goes}
 use Rattle.host_joint.proofs.Owning.{NextRead, FullCame, ShortCame, HaltCame, next_read, take_own}
 use Rattle.host_joint.proofs.Listing.{last_none}

@@ -6,6 +6,7 @@ mod Filling
 mod Logged
 mod Listing
 mod Staging
+mod Rebuilding
 mod Asking
 mod Falling
 mod Owning
@@ -21,3 +22,5 @@ mod Handing
 mod Running
 mod Accepting
 mod Setting
+mod Examples
+mod Booking

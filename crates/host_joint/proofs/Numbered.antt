@@ -1,10 +1,11 @@
 -- numbers that were not given yet, and those of what was executed
-use Rattle.std.proofs.Common.{◌≡◌, ◌∙◌, ℕ, ◌<◌, ◌≤◌, List, [], ◌∷◌, ◌++◌, Option, Some, None, refl, ap, sym, subst, append_assoc, arith}
+use Rattle.std.proofs.Common.{◌≡◌, ◌∙◌, ℕ, ◌+◌, ◌<◌, ◌≤◌, Bool, true, false, cond, eqb, List, [], ◌∷◌, ◌++◌, Option, Some, None, refl, ap, sym, subst, append_assoc, append-nil, arith}
+use Rattle.usbip_wire.specs.declared.submit.SubmitHead.{SubmitHead}
 use Rattle.usbip_wire.specs.Up as up
 use Rattle.instr_plain.specs.declared.log.LogEntry.{LogEntry}
 use Rattle.instr_plain.specs.declared.log.LogEntry.TheVariants as entry
 use Rattle.tmc_law.specs.State.{State, Waiting}
-use Rattle.tmc_law.specs.Step.{Move, Comes, Take, Exec, Begin, Answer, Poll}
+use Rattle.tmc_law.specs.Step.{Move, Take, Exec, Begin, Answer, Poll}
 use Rattle.tmc_law.specs.LogStep.{MayLog, Adds, LogsNothing, LogsOne}
 use Rattle.tmc_law.specs.Numbers.{AllAbove, AllBelow, Rises, effect_of, effects, waits, numbers_of, coming_out, numbers}
 use Rattle.host_joint.specs.Stage.{NoExec, Ran, IsAnother}
@@ -79,3 +80,58 @@ pub ran_keeps : (n : ℕ) (message response : List ℕ) (s t : State) (move : Mo
 ran_keeps n message response s t move another (LogsNothing log standing) ran = subst (λ (l : List LogEntry). Ran n message response l) (sym log) ran
 ran_keeps n message response s t move another (LogsOne e may log after) ran =
     subst (λ (l : List LogEntry). Ran n message response l) (sym log) (ran_more n message response s.log e (not_again n s move e another may) ran)
+
+-- ---- a submit with a new number is written
+
+above_more : (m n : ℕ) (l : List ℕ) → m < n → AllAbove m l → AllAbove m (l ++ n ∷ [])
+above_more m n [] less h = (less, tt)
+above_more m n (x ∷ l) less h = (h.0, above_more m n l less h.1)
+
+rises_more : (n : ℕ) (l : List ℕ) → AllBelow n l → Rises l → Rises (l ++ n ∷ [])
+rises_more n [] below h = (tt, tt)
+rises_more n (x ∷ l) below h = (above_more x n l below.0 h.0, rises_more n l below.1 h.1)
+
+below_more : (n : ℕ) (l : List ℕ) → AllBelow n l → AllBelow (n + 1) (l ++ n ∷ [])
+below_more n [] h = (omega arith, tt)
+below_more n (x ∷ l) h = (omega (arith, h.0), below_more n l h.1)
+
+below_next : (n : ℕ) (l : List ℕ) → AllBelow n l → AllBelow (n + 1) l
+below_next n [] h = tt
+below_next n (x ∷ l) h = (omega (arith, h.0), below_next n l h.1)
+
+coming_more : (head : SubmitHead) (transferred : List ℕ) (messages : List up.Message)
+    → coming_out (messages ++ up.Submit head transferred ∷ []) ≡ coming_out messages ++ cond (eqb head.ep 1) (head.seqnum ∷ []) []
+coming_more head transferred [] = refl
+coming_more head transferred (up.Unlink x ∷ messages) = coming_more head transferred messages
+coming_more head transferred (up.Submit x bytes ∷ messages) = by (eqb x.ep 1) (coming_more head transferred messages)
+  where
+    by : (b : Bool) → coming_out (messages ++ up.Submit head transferred ∷ []) ≡ coming_out messages ++ cond (eqb head.ep 1) (head.seqnum ∷ []) []
+        → cond b (x.seqnum ∷ coming_out (messages ++ up.Submit head transferred ∷ [])) (coming_out (messages ++ up.Submit head transferred ∷ []))
+        ≡ cond b (x.seqnum ∷ coming_out messages) (coming_out messages) ++ cond (eqb head.ep 1) (head.seqnum ∷ []) []
+    by true h = ap (λ (l : List ℕ). x.seqnum ∷ l) h
+    by false h = h
+
+numbers_more : (head : SubmitHead) (transferred : List ℕ) (messages : List up.Message) (s : State)
+    → numbers s (messages ++ up.Submit head transferred ∷ []) ≡ numbers s messages ++ cond (eqb head.ep 1) (head.seqnum ∷ []) []
+numbers_more head transferred messages s =
+    let last : List ℕ = cond (eqb head.ep 1) (head.seqnum ∷ []) [] in
+    ap (λ (l : List ℕ). effects s.log ++ (waits s.waiting ++ (numbers_of s.bulk_out ++ l))) (coming_more head transferred messages)
+    ∙ ap (λ (l : List ℕ). effects s.log ++ (waits s.waiting ++ l)) (sym (append_assoc (numbers_of s.bulk_out) (coming_out messages) last))
+    ∙ ap (λ (l : List ℕ). effects s.log ++ l) (sym (append_assoc (waits s.waiting) (numbers_of s.bulk_out ++ coming_out messages) last))
+    ∙ sym (append_assoc (effects s.log) (waits s.waiting ++ (numbers_of s.bulk_out ++ coming_out messages)) last)
+
+pub rises_written : (head : SubmitHead) (transferred : List ℕ) (messages : List up.Message) (s : State) → AllBelow head.seqnum (numbers s messages) → Rises (numbers s messages)
+    → Rises (numbers s (messages ++ up.Submit head transferred ∷ [])) × AllBelow (head.seqnum + 1) (numbers s (messages ++ up.Submit head transferred ∷ []))
+rises_written head transferred messages s below rises = by (eqb head.ep 1) (numbers_more head transferred messages s)
+  where
+    by : (b : Bool) → numbers s (messages ++ up.Submit head transferred ∷ []) ≡ numbers s messages ++ cond b (head.seqnum ∷ []) []
+        → Rises (numbers s (messages ++ up.Submit head transferred ∷ [])) × AllBelow (head.seqnum + 1) (numbers s (messages ++ up.Submit head transferred ∷ []))
+    by true is = (
+      subst (λ (l : List ℕ). Rises l) (sym is) (rises_more head.seqnum (numbers s messages) below rises),
+      subst (λ (l : List ℕ). AllBelow (head.seqnum + 1) l) (sym is) (below_more head.seqnum (numbers s messages) below),
+    )
+    by false is =
+        let same : numbers s (messages ++ up.Submit head transferred ∷ []) ≡ numbers s messages = is ∙ append-nil (numbers s messages) in (
+          subst (λ (l : List ℕ). Rises l) (sym same) rises,
+          subst (λ (l : List ℕ). AllBelow (head.seqnum + 1) l) (sym same) (below_next head.seqnum (numbers s messages) below),
+        )

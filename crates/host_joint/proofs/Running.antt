@@ -1,5 +1,5 @@
 -- an ask under whole runs
-use Rattle.std.proofs.Common.{◌≡◌, ◌≢◌, ◌∙◌, List, [], ◌∷◌, ◌++◌, true, refl, ap, sym, subst, append_assoc, append-nil}
+use Rattle.std.proofs.Common.{◌≡◌, ◌≢◌, ◌∙◌, List, [], ◌∷◌, ◌++◌, true, refl, sym, subst, append_assoc, append-nil}
 use Rattle.usbip_wire.specs.declared.submit.SubmitHead.{SubmitHead}
 use Rattle.usbip_wire.specs.declared.unlink.UnlinkHead.{UnlinkHead}
 use Rattle.usbip_wire.specs.Up as up
@@ -7,7 +7,7 @@ use Rattle.instr_plain.specs.Log.{Stands}
 use Rattle.tmc_law.specs.Endpoint.{Endpoint, Control}
 use Rattle.tmc_law.specs.State.{State, Pending, queue_of, start}
 use Rattle.tmc_law.specs.Put.{Put}
-use Rattle.tmc_law.specs.Step.{Move, Comes, Refuses, Unplug, Steps}
+use Rattle.tmc_law.specs.Step.{Move, Comes, Unplug, Steps}
 use Rattle.tmc_law.specs.Run.{Entry, Runs, taken, inputs, outputs}
 use Rattle.host_joint.specs.Lines.{Lines, unlinks_in, AllFitting, InOrder}
 use Rattle.host_joint.specs.Unlinking.{Unlinking}

@@ -1,8 +1,6 @@
 -- what a host settles while nothing of its ask is on its way
-use Rattle.std.proofs.Common.{◌≡◌, ◌≢◌, ◌∙◌, ℕ, ◌+◌, Bool, false, List, [], ◌∷◌, ◌++◌, length, Option, Some, refl, ap, sym, subst}
-use Rattle.usbip_wire.specs.declared.unlink.UnlinkHead.{UnlinkHead}
+use Rattle.std.proofs.Common.{◌≡◌, ◌≢◌, ◌∙◌, ℕ, ◌+◌, Bool, false, List, [], length, Option, Some, refl, ap, sym, subst}
 use Rattle.usbip_wire.specs.Up as up
-use Rattle.tmc_wire.specs.declared.header.OutHeader.{OutHeader}
 use Rattle.tmc_wire.specs.declared.header.OutHeader.TheVariants.{Request}
 use Rattle.tmc_law.specs.Endpoint.{BulkIn}
 use Rattle.tmc_law.specs.State.{State, Pending, Waiting}
@@ -11,7 +9,7 @@ use Rattle.host_joint.specs.Lines.{Sent as OnWay, sent_to, Event, events_of, unl
 use Rattle.host_joint.specs.Jobs.{Job, last_header}
 use Rattle.host_joint.specs.Reads as reads
 use Rattle.host_joint.specs.Reads.{Flow, Still, Giving, Over, InLine, gives}
-use Rattle.host_joint.specs.Stage.{NoExec, IsAnother, NoneComes, OneComes, Stage, Follows, Gathers, Waits, Rests, Owes, Sends, Sent, Tears, Barred, Dropped, IsInner}
+use Rattle.host_joint.specs.Stage.{NoExec, IsAnother, NoneComes, Stage, Follows, Gathers, Waits, Rests, Owes, Sends, Sent, Tears, Barred, Dropped, IsInner}
 use Rattle.host_joint.specs.Asking.{Ask, Asking}
 use Rattle.host_joint.proofs.Counting.{all_past}
 use Rattle.host_joint.proofs.Hosting.{inner_final, inner_request, unasked}

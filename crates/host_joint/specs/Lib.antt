@@ -13,3 +13,5 @@ pub mod Hosted
 pub mod Positions
 pub mod Requests
 pub mod Drains
+-- examples
+pub mod WorkedAsks

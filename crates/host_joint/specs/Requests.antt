@@ -11,7 +11,7 @@ use Rattle.tmc_law.specs.Endpoint.{Endpoint, Control, BulkOut, BulkIn, ends, num
 use Rattle.tmc_law.specs.State.{State, arrived, start}
 use Rattle.tmc_law.specs.Put.{Put, success}
 use Rattle.tmc_law.specs.Control.{Asks}
-use Rattle.tmc_law.specs.Standard.{Standard, IsStandard, ClearHalt}
+use Rattle.tmc_law.specs.Standard.{IsStandard, ClearHalt}
 use Rattle.tmc_law.specs.Aborts.{STATUS_SUCCESS, STATUS_PENDING, STATUS_FAILED, check_out_layout, check_in_layout}
 use Rattle.tmc_law.specs.Step.{Move, Unplug, Steps}
 use Rattle.tmc_law.specs.Run.{Entry, Runs, taken}

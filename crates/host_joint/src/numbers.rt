@@ -1,6 +1,7 @@
 //! Numbers of submits, as a host counts them. Each function does nothing, and its contract is the law.
 
-ghost use Rattle.std.specs.Prelude.{ℕ, ◌≤◌, List};
+ghost use Rattle.std.specs.Prelude.{ℕ, ◌+◌, ◌≤◌, List, [], ◌∷◌, ◌++◌};
+ghost use Rattle.usbip_wire.specs.declared.submit.SubmitHead.{SubmitHead};
 ghost use Rattle.usbip_wire.specs.Up as up;
 ghost use Rattle.tmc_law.specs.State.{State};
 ghost use Rattle.tmc_law.specs.Put.{Put};
@@ -25,3 +26,11 @@ pub fn what_ran_is_kept()
 {
     a_step_logs_at_most_once();
 }
+
+/// Where the numbers rise and a submit with a greater number is written, they rise still, and all are below the next one.
+pub fn new_numbers_rise()
+    ensures { (head : SubmitHead) (transferred : List ℕ) (messages : List up.Message) (s : State)
+        → AllBelow head.seqnum (numbers s messages) → Rises (numbers s messages)
+        → Rises (numbers s (messages ++ up.Submit head transferred ∷ []))
+        × AllBelow (head.seqnum + 1) (numbers s (messages ++ up.Submit head transferred ∷ [])) }
+{}

@@ -1,6 +1,6 @@
-use Rattle.std.proofs.Common.{ℕ, Bool, ◌≡◌, ◌++◌, ◌∷◌, [], length, sym, subst}
+use Rattle.std.proofs.Common.{ℕ, Bool, ◌++◌, ◌∷◌, [], sym, subst}
 use Rattle.usbip_wire.specs.Up as up
-use Rattle.host_joint.specs.Asking.{Ask, Asking}
+use Rattle.host_joint.specs.Asking.{Asking}
 use Rattle.host_joint.proofs.Hosting.{part_written, request_written, read_written, other_written, unlinks_written}
 use Rattle.host_joint.proofs.host_moves.messages_are_written.Goals as goal
 

@@ -1,4 +1,4 @@
-use Rattle.host_joint.proofs.Flows.{Reaches, lines_step, lines_run}
+use Rattle.host_joint.proofs.Flows.{lines_step, lines_run}
 use Rattle.host_joint.proofs.lines.lines_stay.Goals as goal
 
 pub returns-clause-step : goal.returns-clause-step

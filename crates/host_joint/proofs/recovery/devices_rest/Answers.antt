@@ -1,9 +1,4 @@
-use Rattle.std.proofs.Common.{◌≡◌, ◌≤◌, ℕ, List, [], subst, None}
-use Rattle.usbip_wire.specs.Up as up
-use Rattle.tmc_law.specs.State.{State}
-use Rattle.tmc_law.specs.Numbers.{AllBelow, numbers}
-use Rattle.host_joint.specs.Asking.{AtRest}
-use Rattle.host_joint.specs.Positions.{IsAt, rests, cleared}
+use Rattle.host_joint.specs.Positions.{rests, cleared}
 use Rattle.host_joint.proofs.Numbered.{begins_new}
 use Rattle.host_joint.proofs.Resting.{rests_closed, cleared_closed}
 use Rattle.host_joint.proofs.Requesting.{quiet_goes}
