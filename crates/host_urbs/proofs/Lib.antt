@@ -1,0 +1,5 @@
+pub mod Basics
+pub mod Lists
+pub mod Answers
+pub mod Known
+pub mod Once
