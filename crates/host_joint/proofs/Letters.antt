@@ -16,7 +16,7 @@ use Rattle.host_joint.specs.Requests.{Choice, Says, SaysOne, SaysOther, out_rest
 use Rattle.host_joint.proofs.Resting.{rests_closed, in_begun_closed, in_wants_closed, in_ended_closed, out_begun_closed, out_first_closed, out_unfinished_closed, out_aborted_closed, anything_closed, clears_closed, cleared_closed}
 use Rattle.host_joint.proofs.Requesting.{IsLetter, IsClearing}
 
--- what a letter's answer has to be
+-- what the answer to a request has to be
 abbrev Serving : ClassRequest → Choice → Choice → State → Served → Type 0
 Serving request one other s served =
     (served.behind ≡ []) × (length served.layout ≡ answer_length request) × Says one other served.layout served.state × (served.state.control ≡ s.control)

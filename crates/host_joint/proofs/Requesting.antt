@@ -168,7 +168,7 @@ came head transferred ups s t puts fits (TurnedAway none put is) = by fits.endpo
     by BulkIn h = away 2 (fits.number ∙ ap number_of h) refl
     by InterruptIn h = away 3 (fits.number ∙ ap number_of h) refl
 
--- ---- a letter: what a request finds, and what its answers leave
+-- ---- what a request finds, and what its answers leave
 
 pub record AreClosed (position : Position) (one other : Choice) : Type 0 where
   pub form_closed : IsClosed position

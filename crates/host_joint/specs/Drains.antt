@@ -12,7 +12,8 @@ use Rattle.host_joint.specs.Positions.{IsAt, in_wants, in_ended}
 abbrev pub unread_state : State → State
 unread_state s = record s { bulk_in = [] }
 
--- Where the read of a drain is: on its way, pending, answered short, or answered by a halt.
+-- Where the read of a drain is: on its way or pending, while the abort wants its packet; answered with no bytes, which is that
+-- packet; or answered by a halt of Bulk-IN, behind which the abort still wants it.
 pub data DrainAt (head : SubmitHead) (coming : List Sent) (events : List Event) (s : State) : Type 0 where
   ReadComes : coming ≡ record { head = head; transferred = [] } ∷ [] → events ≡ [] → IsAt in_wants s → DrainAt head coming events s
   ReadPends : coming ≡ [] → events ≡ [] → s.bulk_in ≡ arrived head [] ∷ [] → IsAt in_wants (unread_state s) → DrainAt head coming events s

@@ -70,38 +70,39 @@ abbrev pub Further : List Job → List ℕ → List ℕ → Type 0
 Further todo sofar response = todo ≢ [] → sofar ≢ [] → sofar ≢ response
 
 -- Where the instrument is with the ask whose message is ended by the submit `last`, and whose next request has this tag and
--- size: `past` are the transfers that it took whole, `todo` are those that it did not, `sofar` is the data of the pieces that the host has read, and
--- `flow` is how far the next piece was given.
+-- asks for at most so many bytes. `past` are the transfers that the device took whole since the last piece was read to its end,
+-- `todo` those that it will take yet; `sofar` is the data of the pieces that the host has read to their end, and `flow` is how
+-- far the next one was given. Where a piece was read and another is or will be requested, the response is longer than `sofar`.
 pub data Stage (last : ℕ) (message : List ℕ) (tag size : ℕ) (past todo : List Job) (sofar : List ℕ) (flow : Flow) (s : State) : Type 0 where
-  -- the message of an earlier ticket waits yet, and none of this one's was taken
+  -- the message of an earlier ticket, of another number, waits for execution yet; of this one nothing was taken whole
   Follows : (seq : ℕ) (earlier : List ℕ) → s.waiting ≡ Some (record { seq = seq; message = earlier }) → seq ≢ last → s.part ≡ [] → s.side ≡ Idle
       → NoExec last s.log → sofar ≡ [] → flow ≡ Still → Carries last tag size message todo → last_header past ≡ None → Stage last message tag size past todo sofar flow s
-  -- parts of the message were taken
+  -- no message waits; the parts that were taken make the first of the message, and those that come carry its rest
   Gathers : (done rest : List ℕ) → message ≡ done ++ rest → s.waiting ≡ None → s.part ≡ done → s.side ≡ Idle
       → NoExec last s.log → sofar ≡ [] → flow ≡ Still → Carries last tag size rest todo → IsInner (last_header past) → done ≡ data_in past → Stage last message tag size past todo sofar flow s
-  -- it waits for execution
+  -- the whole message waits for execution under its number; what comes yet is at most the request
   Waits : s.waiting ≡ Some (record { seq = last; message = message }) → s.part ≡ [] → s.side ≡ Idle
       → NoExec last s.log → sofar ≡ [] → flow ≡ Still → Asks tag size todo → IsFinal (last_header past) → Stage last message tag size past todo sofar flow s
-  -- it was executed, and no piece is requested
+  -- it was executed once under its number; no piece is requested, and what is unread goes on where the read pieces ended
   Rests : (response : List ℕ) → s.waiting ≡ None → s.part ≡ [] → s.side ≡ Idle → Ran last message response s.log → response ≡ sofar ++ unread s
       → flow ≡ Still → Asks tag size todo → IsUnasked past sofar → Further todo sofar response → Stage last message tag size past todo sofar flow s
-  -- a piece is requested
+  -- a piece is requested with this tag and size, and has not begun
   Owes : (response : List ℕ) → s.waiting ≡ None → s.part ≡ [] → s.side ≡ Owed tag size → Ran last message response s.log → response ≡ sofar ++ unread s
       → flow ≡ Still → todo ≡ [] → last_header past ≡ Some (Request tag size) → (sofar ≢ [] → sofar ≢ response) → Stage last message tag size past todo sofar flow s
-  -- a piece is sent
+  -- a piece is sent: it carries the next bytes of the response, of which these bytes of its transfer were given
   Sends : (response carried bytes : List ℕ) (piece : Piece) → s.waiting ≡ None → s.part ≡ [] → s.side ≡ Sending piece → Ran last message response s.log
       → response ≡ sofar ++ (carried ++ unread s) → flow ≡ Giving bytes → (1 ≤ length carried) × (length carried ≤ size)
       → piece_bytes tag (length carried) (carried ++ unread s) ≡ bytes ++ piece.left → todo ≡ [] → piece.tag ≡ tag → last_header past ≡ Some (Request tag size) → Stage last message tag size past todo sofar flow s
-  -- it was sent
+  -- all bytes of its transfer were given, and the Bulk-IN transfer is over
   Sent : (response carried bytes : List ℕ) → s.waiting ≡ None → s.part ≡ [] → s.side ≡ Idle → Ran last message response s.log
       → response ≡ sofar ++ (carried ++ unread s) → flow ≡ Over bytes → (1 ≤ length carried) × (length carried ≤ size)
       → piece_bytes tag (length carried) (carried ++ unread s) ≡ bytes → todo ≡ [] → last_header past ≡ Some (Request tag size) → Stage last message tag size past todo sofar flow s
-  -- the rest of it was dropped, since Bulk-IN halted
+  -- the first bytes of its transfer were given, and Bulk-IN halted, which dropped the others
   Tears : (response carried bytes dropped : List ℕ) → s.waiting ≡ None → s.part ≡ [] → s.side ≡ Idle → Ran last message response s.log
       → response ≡ sofar ++ (carried ++ unread s) → flow ≡ Torn bytes → (1 ≤ length carried) × (length carried ≤ size)
       → piece_bytes tag (length carried) (carried ++ unread s) ≡ bytes ++ dropped → todo ≡ [] → last_header past ≡ Some (Request tag size) → Stage last message tag size past todo sofar flow s
-  -- it will not be executed, since Bulk-OUT halted before its message was whole
+  -- Bulk-OUT halted before the message was whole: it is executed never
   Barred : s.halted.bulk_out ≡ true → IsAnother last s.waiting → s.part ≡ [] → s.side ≡ Idle → NoExec last s.log → sofar ≡ [] → flow ≡ Still → todo ≡ [] → IsInner (last_header past) → Stage last message tag size past todo sofar flow s
-  -- its piece was requested, and the request was dropped since Bulk-IN halted
+  -- a piece was requested, and Bulk-IN halted before it began, which dropped the request
   Dropped : (response : List ℕ) → s.halted.bulk_in ≡ true → s.waiting ≡ None → s.part ≡ [] → s.side ≡ Idle → Ran last message response s.log → response ≡ sofar ++ unread s
       → flow ≡ Still → todo ≡ [] → last_header past ≡ Some (Request tag size) → Stage last message tag size past todo sofar flow s
