@@ -6,3 +6,4 @@ pub mod Placing
 pub mod Removing
 pub mod Adding
 pub mod Setting
+pub mod Holding

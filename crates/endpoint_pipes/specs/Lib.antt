@@ -2,3 +2,4 @@ pub mod Held
 pub mod Kept
 pub mod Keys
 pub mod Outcome
+pub mod Part

@@ -6,10 +6,12 @@
 
 mod entry;
 mod outcome;
+mod part;
 mod pipes;
 mod queues;
 #[cfg(test)]
 mod tests;
 
 pub use outcome::{Over, Pending, PipeFault, Unlinked};
+pub use part::pipes_are_a_part;
 pub use pipes::Pipes;
