@@ -14,15 +14,15 @@ ghost use Rattle.host_joint.specs.Hosted.{PieceEnd};
 ghost use Rattle.host_joint.specs.Owned.{Owned};
 ghost use Rattle.host_joint.specs.WorkedAsks.{query_ask, read_ask, query_asked, foreign_ask};
 
+use tmc_law::worked::a_query_is_answered;
 use tmc_law::{
-    a_query_is_answered, pending_submits_are_sound, runs_join, steps_act, the_log_grows,
-    worked_runs_meet_the_laws,
+    pending_submits_are_sound, runs_join, steps_act, the_log_grows, worked_runs_meet_the_laws,
 };
 use tmc_wire::headers_are_read_again;
 
-/// A query is in hand before its messages arrive and when all its answers are on their way back, with its submits in the line of
-/// each endpoint. When these were taken, its piece was read to its end. A query whose response takes two packets is in hand when the first was given, and when Bulk-IN halts then.
-/// A host that takes the bytes of an earlier response for its own does not own them.
+/// A query is in hand before its messages arrive and when all its answers are on their way back, with its submits in the
+/// line of each endpoint. When these were taken, its piece was read to its end. A query whose response takes two packets
+/// is in hand when the first was given, and when Bulk-IN halts then. A host that takes the bytes of an earlier response for its own does not own them.
 pub fn worked_asks_are_in_hand()
     ensures begins { Asking query_ask (inputs (asking ++ answering)) [] start }
     ensures answered { Asking query_ask [] (outputs (asking ++ answering)) (record start { log = query_log }) }
