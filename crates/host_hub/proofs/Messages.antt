@@ -1,9 +1,9 @@
 -- the messages of a record
-use Rattle.std.proofs.Common.{◌≡◌, ℕ, ◌+◌, List, [], ◌∷◌, ◌++◌, length, refl, sym, ◌∙◌, ap, arith, length-append}
+use Rattle.std.proofs.Common.{◌≡◌, List, [], ◌∷◌, ◌++◌, refl, ap, arith, length-append}
 use Rattle.usbip_wire.specs.Down as down
 use Rattle.usbip_wire.specs.Up as up
 use Rattle.host_hub.specs.Order.{Setting, message_of}
-use Rattle.host_hub.specs.Record.{Happening, Past, Wrote, Took, Fell, Stopped, Recovers, Asked, Cancelled, Cleared, GaveUp, Settled, written, taken, next}
+use Rattle.host_hub.specs.Record.{Past, Wrote, Took, Fell, written, taken, next}
 use Rattle.host_hub.specs.Crossings.{crossings}
 use Rattle.host_urbs.specs.Record as urbs
 

@@ -2,7 +2,7 @@
 use Rattle.std.specs.Prelude.{◌≡◌, ℕ, ◌+◌, ◌==◌, Bool, true, false, ◌||◌, Option, Some, None, List, [], ◌∷◌, ◌++◌, if◌then◌else◌}
 use Rattle.host_hub.specs.declared.outcome.Outcome.{Outcome}
 use Rattle.host_hub.specs.declared.outcome.Outcome.TheVariants.{Live}
-use Rattle.host_hub.specs.Record.{Happening, Past, Wrote, Asked, Cancelled, GaveUp, Settled, Asking}
+use Rattle.host_hub.specs.Record.{Happening, Past, Asked, Cancelled, GaveUp, Settled, Asking}
 
 abbrev pub first_of : {A : Type 0} → List A → Option A
 first_of [] = None

@@ -1,5 +1,5 @@
 -- the messages of a record, without the rest that happened
-use Rattle.std.specs.Prelude.{List, [], ◌∷◌}
+use Rattle.std.specs.Prelude.{[], ◌∷◌}
 use Rattle.host_hub.specs.Order.{Setting, message_of}
 use Rattle.host_hub.specs.Record.{Happening, Past, Wrote, Took, Fell}
 use Rattle.host_urbs.specs.Record as urbs

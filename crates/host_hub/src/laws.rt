@@ -2,11 +2,14 @@
 
 ghost use Rattle.std.specs.Prelude.{◌≡◌, ℕ, ◌+◌, ◌≤◌, true, false, Option, Some, None, List, ◌++◌, length};
 ghost use Rattle.host_hub.specs.declared.outcome.Outcome.{Outcome};
-ghost use Rattle.host_hub.specs.Book.{has, live, tickets, settled, asking_of, KeepsBook};
+ghost use Rattle.host_hub.specs.Book.{has, live, tickets, settled, KeepsBook};
 ghost use Rattle.host_hub.specs.Crossings.{crossings};
-ghost use Rattle.host_hub.specs.Order.{Setting};
-ghost use Rattle.host_hub.specs.Record.{Past, Asking, written, taken, next};
+ghost use Rattle.host_hub.specs.Order.{Order, Setting, message_of};
+ghost use Rattle.host_hub.specs.Record.{Past, Marked, written, taken, book, next};
 ghost use Rattle.host_urbs.specs.Record as urbs;
+ghost use Rattle.host_urbs.specs.Unanswered.{seqnum_of};
+ghost use Rattle.usbip_wire.specs.Down as down;
+ghost use Rattle.usbip_wire.specs.Up as up;
 
 /// The messages written and the answers taken are those of the record of messages, for which `host_urbs` says what is
 /// outstanding, and so is the next number.
@@ -27,4 +30,16 @@ pub fn a_settled_outcome_stays()
     ensures dead { (past : Past) (ticket : ℕ) (outcome : Outcome) → KeepsBook past → settled ticket past ≡ Some outcome → has ticket (live past) ≡ false }
     ensures stays { (past more : Past) (ticket : ℕ) (outcome : Outcome) → KeepsBook (more ++ past) → settled ticket past ≡ Some outcome
         → settled ticket (more ++ past) ≡ Some outcome }
+{}
+
+/// What was written, taken and entered into the book, with its marks, stays as the record goes on.
+pub fn what_happened_stays()
+    ensures written { (setting : Setting) (past more : Past) → (added : List up.Message) × (written setting (more ++ past) ≡ written setting past ++ added) }
+    ensures taken { (past more : Past) → (added : List down.Message) × (taken (more ++ past) ≡ taken past ++ added) }
+    ensures book { (setting : Setting) (past more : Past) → (added : List Marked) × (book setting (more ++ past) ≡ book setting past ++ added) }
+{}
+
+/// The message of an order has the order's number.
+pub fn orders_have_their_numbers()
+    ensures { (setting : Setting) (number : ℕ) (order : Order) → seqnum_of (message_of setting number order) ≡ number }
 {}

@@ -10,5 +10,8 @@ mod outcome;
 
 pub use book::BookEntry;
 pub use kind::Kind;
-pub use laws::{a_settled_outcome_stays, messages_are_crossings, tickets_are_numbered};
+pub use laws::{
+    a_settled_outcome_stays, messages_are_crossings, orders_have_their_numbers,
+    tickets_are_numbered, what_happened_stays,
+};
 pub use outcome::{End, Outcome};
