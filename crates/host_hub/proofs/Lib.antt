@@ -1,0 +1,4 @@
+pub mod Messages
+pub mod Tickets
+pub mod Grows
+pub mod Orders

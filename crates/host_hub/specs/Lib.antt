@@ -1,0 +1,4 @@
+pub mod Order
+pub mod Record
+pub mod Book
+pub mod Crossings

@@ -1,0 +1,45 @@
+//! What holds of each record. Each function does nothing, and its contract is the law.
+
+ghost use Rattle.std.specs.Prelude.{◌≡◌, ℕ, ◌+◌, ◌≤◌, true, false, Option, Some, None, List, ◌++◌, length};
+ghost use Rattle.host_hub.specs.declared.outcome.Outcome.{Outcome};
+ghost use Rattle.host_hub.specs.Book.{has, live, tickets, settled, KeepsBook};
+ghost use Rattle.host_hub.specs.Crossings.{crossings};
+ghost use Rattle.host_hub.specs.Order.{Order, Setting, message_of};
+ghost use Rattle.host_hub.specs.Record.{Past, Marked, written, taken, book, next};
+ghost use Rattle.host_urbs.specs.Record as urbs;
+ghost use Rattle.host_urbs.specs.Unanswered.{seqnum_of};
+ghost use Rattle.usbip_wire.specs.Down as down;
+ghost use Rattle.usbip_wire.specs.Up as up;
+
+/// The messages written and the answers taken are those of the record of messages, for which `host_urbs` says what is
+/// outstanding, and so is the next number.
+pub fn messages_are_crossings()
+    ensures written { (setting : Setting) (past : Past) → written setting past ≡ urbs.written (crossings setting past) }
+    ensures taken { (setting : Setting) (past : Past) → taken past ≡ urbs.taken (crossings setting past) }
+    ensures next { (setting : Setting) (past : Past) → next setting.first past ≡ urbs.next setting.first (crossings setting past) }
+{}
+
+/// Tickets are numbered from 1 in the order of asking: those that are live or settled, and no others, are among these.
+pub fn tickets_are_numbered()
+    ensures live { (past : Past) (ticket : ℕ) → KeepsBook past → has ticket (live past) ≡ true → (1 ≤ ticket) × (ticket ≤ tickets past) }
+    ensures settled { (past : Past) (ticket : ℕ) (outcome : Outcome) → KeepsBook past → settled ticket past ≡ Some outcome → (1 ≤ ticket) × (ticket ≤ tickets past) }
+{}
+
+/// A ticket is not live and settled, and what it was settled with stays, whatever happens behind it.
+pub fn a_settled_outcome_stays()
+    ensures dead { (past : Past) (ticket : ℕ) (outcome : Outcome) → KeepsBook past → settled ticket past ≡ Some outcome → has ticket (live past) ≡ false }
+    ensures stays { (past more : Past) (ticket : ℕ) (outcome : Outcome) → KeepsBook (more ++ past) → settled ticket past ≡ Some outcome
+        → settled ticket (more ++ past) ≡ Some outcome }
+{}
+
+/// What was written, taken and entered into the book, with its marks, stays as the record goes on.
+pub fn what_happened_stays()
+    ensures written { (setting : Setting) (past more : Past) → (added : List up.Message) × (written setting (more ++ past) ≡ written setting past ++ added) }
+    ensures taken { (past more : Past) → (added : List down.Message) × (taken (more ++ past) ≡ taken past ++ added) }
+    ensures book { (setting : Setting) (past more : Past) → (added : List Marked) × (book setting (more ++ past) ≡ book setting past ++ added) }
+{}
+
+/// The message of an order has the order's number.
+pub fn orders_have_their_numbers()
+    ensures { (setting : Setting) (number : ℕ) (order : Order) → seqnum_of (message_of setting number order) ≡ number }
+{}

@@ -1,0 +1,4 @@
+pub mod Phases
+pub mod Leads
+pub mod Lefts
+pub mod Words

@@ -1,0 +1,3 @@
+pub mod Letter
+pub mod Words
+pub mod Goes

@@ -1,0 +1,13 @@
+//! Recovery of an instrument's bulk endpoints: aborts, drains and the full clear (USBTMC 1.0, sections 4.2.1.2 to 4.2.1.7).
+//!
+//! The definitions in `specs/` say which submits a recovery makes, and with which answers it goes on. The functions of
+//! `laws` do nothing: their contracts say what holds of these words.
+#![tactic(auto)]
+
+mod laws;
+mod need;
+
+pub use laws::{
+    a_whole_word_ends, each_answer_goes_on, the_next_submit_is_determined, worked_words,
+};
+pub use need::Need;
