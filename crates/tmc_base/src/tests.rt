@@ -138,3 +138,25 @@ fn octets_keep_their_bytes(rt: HostRuntime) -> Result<(), Fail> {
     assert!(rt; Octets::new(rt.alloc()).is_empty());
     Ok(())
 }
+
+#[test]
+fn link_gives_and_takes_pieces(rt: HostRuntime) -> Result<(), Fail> {
+    let gives = b"abc".to_vec(rt.alloc())?;
+    let fail_sends = [2].to_vec(rt.alloc())?;
+    let fail_polls = [1].to_vec(rt.alloc())?;
+    let mut link = MemLink::new(rt.alloc(), gives, 3, 2, 2, fail_sends, fail_polls)?;
+    let mut buf = [0; 4];
+    assert_eq!(rt; link.poll(&mut buf), PollStep::Failed, "the first poll");
+    assert_eq!(rt; link.poll(&mut buf), PollStep::Got(2));
+    assert_eq!(rt; &buf[..2], b"ab".as_slice());
+    assert_eq!(rt; link.poll(&mut buf), PollStep::Got(1));
+    assert_eq!(rt; buf[0], b'c');
+    assert_eq!(rt; link.poll(&mut buf), PollStep::Closed);
+    assert_eq!(rt; link.send(b"xyz"), SendStep::Took(2));
+    assert_eq!(rt; link.send(b"z"), SendStep::Failed, "the second send");
+    assert_eq!(rt; link.send(b"z"), SendStep::Took(1));
+    assert_eq!(rt; link.send(b"z"), SendStep::Failed, "no room");
+    assert_eq!(rt; link.tend(()), TendStep::NotNow);
+    assert_eq!(rt; link.sent(), b"xyz".as_slice());
+    Ok(())
+}
