@@ -4,11 +4,11 @@
 //! exactly where that count rises. Each call goes by a relation of the object's own, so that a contract
 //! can say by which reads and writes a function went. A [`Link`] is bytes to another end and from it, and tells what it
 //! can: nothing, the bytes, or the bytes with the run of its peer. Implementations in memory tell what they hold; the
-//! adapters of standard input and output tell nothing of content.
+//! adapters of standard input, standard output and TCP streams tell nothing of content.
 #![tactic(auto)]
 
+mod count;
 mod fail_plan;
-mod faults;
 mod field;
 mod limits;
 mod link;
@@ -23,6 +23,7 @@ mod sink;
 mod source;
 mod std_sink;
 mod std_source;
+mod tcp_link;
 #[cfg(test)]
 mod tests;
 mod writing;
@@ -41,4 +42,5 @@ pub use sink::{Sink, WriteStep};
 pub use source::{ReadStep, Source};
 pub use std_sink::StdSink;
 pub use std_source::StdSource;
+pub use tcp_link::TcpLink;
 pub use writing::write_all;

@@ -1,7 +1,7 @@
 ghost use Rattle.std.specs.Prelude.{◌≡◌, ◌<◌, [], IfOk};
 
+use crate::count::Count;
 use crate::fail_plan::FailPlan;
-use crate::faults::FaultCount;
 use crate::{Link, Memory, PollStep, SendStep, TendStep};
 use std::alloc::Global;
 use std::marker::Model;
@@ -18,8 +18,8 @@ pub struct MemLink {
     most_poll: usize,
     send_plan: FailPlan,
     poll_plan: FailPlan,
-    faults: FaultCount,
-    closings: FaultCount,
+    faults: Count,
+    closings: Count,
 }
 
 impl Model for MemLink {
@@ -80,8 +80,8 @@ impl MemLink {
             most_poll,
             send_plan: FailPlan::new(fail_sends),
             poll_plan: FailPlan::new(fail_polls),
-            faults: FaultCount::new(),
-            closings: FaultCount::new(),
+            faults: Count::new(),
+            closings: Count::new(),
         })
     }
 
