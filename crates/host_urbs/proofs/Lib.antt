@@ -3,3 +3,8 @@ pub mod Lists
 pub mod Answers
 pub mod Known
 pub mod Once
+pub mod Sizes
+pub mod Sending
+pub mod Numbers
+pub mod Following
+pub mod Keeping
