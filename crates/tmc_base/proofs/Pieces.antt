@@ -30,3 +30,7 @@ front_put old new bytes at e = record {
   cut = sym (take-append-drop at bytes);
   put = e;
 }
+
+-- the front of a buffer into which the first n bytes of what is left were copied
+pub front-copied : (left buf copied : List ℕ) (n : ℕ) → copied ≡ take n left → n ≤ length left → take n (copied ++ buf) ≡ take n left
+front-copied left buf copied n copy fits = take_at copied buf n (ap length copy ∙ length-take-le n left fits) ∙ copy

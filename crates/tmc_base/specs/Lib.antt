@@ -8,3 +8,5 @@ pub mod FailPlan
 pub mod MemSource
 pub mod MemSink
 pub mod Told
+pub mod Link
+pub mod MemLink

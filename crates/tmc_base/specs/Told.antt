@@ -25,3 +25,23 @@ IsFront front all = (rest : List ℕ) × (all ≡ front ++ rest)
 pub record Fits (sent taken : List ℕ) (run : List RunStep) : Type 0 where
   pub inputs : IsFront (in_bytes run) sent
   pub outputs : IsFront taken (out_bytes run)
+
+-- these bytes went out, and the peer may have gone on: what was taken stays, and its run, where it is told, is only made longer
+abbrev pub WentOut : List ℕ → Told → Told → Type 0
+WentOut bytes Silent new = new ≡ Silent
+WentOut bytes (Bytes sent taken) new = new ≡ Bytes (sent ++ bytes) taken
+WentOut bytes (Peer sent taken run) new =
+    (more : List RunStep) × (new ≡ Peer (sent ++ bytes) taken (run ++ more)) × Fits (sent ++ bytes) taken (run ++ more)
+
+-- these bytes came in, and the peer may have gone on: what was sent stays, and its run, where it is told, is only made longer
+abbrev pub CameIn : List ℕ → Told → Told → Type 0
+CameIn bytes Silent new = new ≡ Silent
+CameIn bytes (Bytes sent taken) new = new ≡ Bytes sent (taken ++ bytes)
+CameIn bytes (Peer sent taken run) new =
+    (more : List RunStep) × (new ≡ Peer sent (taken ++ bytes) (run ++ more)) × Fits sent (taken ++ bytes) (run ++ more)
+
+-- by calls one behind the other these bytes went out and these came in
+abbrev pub Exchanged : (out into : List ℕ) → Told → Told → Type 0
+Exchanged out into Silent new = new ≡ Silent
+Exchanged out into (Bytes sent taken) new = new ≡ Bytes (sent ++ out) (taken ++ into)
+Exchanged out into (Peer sent taken run) new = (more : List RunStep) × (new ≡ Peer (sent ++ out) (taken ++ into) (run ++ more))

@@ -1,7 +1,7 @@
 ghost use Rattle.std.specs.Prelude.{◌≡◌, ◌<◌, [], IfOk};
 
+use crate::count::Count;
 use crate::fail_plan::FailPlan;
-use crate::faults::FaultCount;
 use crate::{Memory, Sink, WriteStep};
 use std::alloc::Global;
 use std::marker::Model;
@@ -14,7 +14,7 @@ pub struct MemSink {
     room: usize,
     most: usize,
     plan: FailPlan,
-    faults: FaultCount,
+    faults: Count,
 }
 
 impl Model for MemSink {
@@ -42,7 +42,7 @@ impl MemSink {
             room,
             most,
             plan: FailPlan::new(fails),
-            faults: FaultCount::new(),
+            faults: Count::new(),
         })
     }
 

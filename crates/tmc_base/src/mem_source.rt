@@ -1,7 +1,7 @@
 ghost use Rattle.std.specs.Prelude.{◌≡◌, ◌<◌, []};
 
+use crate::count::Count;
 use crate::fail_plan::FailPlan;
-use crate::faults::FaultCount;
 use crate::{ReadStep, Source};
 use std::marker::Model;
 
@@ -12,7 +12,7 @@ pub struct MemSource {
     at: usize,
     most: usize,
     plan: FailPlan,
-    faults: FaultCount,
+    faults: Count,
 }
 
 impl Model for MemSource {
@@ -40,7 +40,7 @@ impl MemSource {
             at: 0,
             most,
             plan: FailPlan::new(fails),
-            faults: FaultCount::new(),
+            faults: Count::new(),
         }
     }
 }

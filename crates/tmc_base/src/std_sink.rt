@@ -2,7 +2,7 @@ ghost use Rattle.std.specs.Prelude.{◌≡◌, ◌<◌, length};
 ghost use Rattle.tmc_base.specs.Adapters.{WriterTook};
 ghost use Rattle.tmc_base.specs.Sink.{IsWithin, WriteCounts};
 
-use crate::faults::FaultCount;
+use crate::count::Count;
 use crate::{Sink, WriteStep};
 use std::io::{Stdout, Write};
 use std::marker::Model;
@@ -13,7 +13,7 @@ use std::marker::Model;
 #[derive(Drop)]
 pub struct StdSink {
     output: Stdout,
-    faults: FaultCount,
+    faults: Count,
 }
 
 impl Model for StdSink {
@@ -30,7 +30,7 @@ impl StdSink {
     {
         StdSink {
             output,
-            faults: FaultCount::new(),
+            faults: Count::new(),
         }
     }
 }
@@ -50,7 +50,7 @@ impl Sink for StdSink {
 }
 
 /// One write to a writer of std.
-pub(crate) fn write_to<W: Write>(output: &mut W, faults: &mut FaultCount, piece: &[u8]) -> WriteStep
+pub(crate) fn write_to<W: Write>(output: &mut W, faults: &mut Count, piece: &[u8]) -> WriteStep
     requires { 0 < length piece.now }
     ensures within { IsWithin result (length piece.now) }
     ensures took { WriterTook result piece.now (W.contents output.old) (W.contents output.new) }

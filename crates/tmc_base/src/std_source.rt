@@ -2,7 +2,7 @@ ghost use Rattle.std.specs.Prelude.{◌≡◌, ◌<◌, length};
 ghost use Rattle.tmc_base.specs.Adapters.{ReaderGave};
 ghost use Rattle.tmc_base.specs.Source.{IsWithin, ReadCounts};
 
-use crate::faults::FaultCount;
+use crate::count::Count;
 use crate::{ReadStep, Source};
 use std::io::{Read, Stdin};
 use std::marker::Model;
@@ -11,7 +11,7 @@ use std::marker::Model;
 #[derive(Drop)]
 pub struct StdSource {
     input: Stdin,
-    faults: FaultCount,
+    faults: Count,
 }
 
 impl Model for StdSource {
@@ -28,7 +28,7 @@ impl StdSource {
     {
         StdSource {
             input,
-            faults: FaultCount::new(),
+            faults: Count::new(),
         }
     }
 }
@@ -48,7 +48,7 @@ impl Source for StdSource {
 }
 
 /// One read of a reader of std.
-pub(crate) fn read_from<R: Read>(input: &mut R, faults: &mut FaultCount, buf: &mut [u8]) -> ReadStep
+pub(crate) fn read_from<R: Read>(input: &mut R, faults: &mut Count, buf: &mut [u8]) -> ReadStep
     requires { 0 < length buf.old }
     ensures within { IsWithin result (length buf.old) }
     ensures gave { ReaderGave result buf.new (R.remaining input.old) (R.remaining input.new) }

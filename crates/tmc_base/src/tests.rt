@@ -1,7 +1,11 @@
-use crate::faults::FaultCount;
+ghost use Rattle.std.specs.Prelude.{◌<◌, length};
+
+use crate::count::Count;
 use crate::std_sink::write_to;
 use crate::std_source::read_from;
 use crate::*;
+use std::io::Write;
+use std::net::{Ipv4Addr, SocketAddr, TcpListener, TcpStream};
 use std::test::Fail;
 
 #[test]
@@ -97,7 +101,7 @@ fn writes_no_more_behind_a_fault(rt: HostRuntime) -> Result<(), Fail> {
 #[test]
 fn reader_gives_pieces_and_its_end(rt: HostRuntime) -> Result<(), Fail> {
     let mut input = b"abc".as_slice();
-    let mut faults = FaultCount::new();
+    let mut faults = Count::new();
     let mut buf = [0; 2];
     assert_eq!(rt;
         read_from(&mut input, &mut faults, &mut buf),
@@ -117,7 +121,7 @@ fn reader_gives_pieces_and_its_end(rt: HostRuntime) -> Result<(), Fail> {
 fn writer_takes_a_piece_or_fails_where_it_is_full(rt: HostRuntime) -> Result<(), Fail> {
     let mut room = [0; 2];
     let mut output = room.as_mut_slice();
-    let mut faults = FaultCount::new();
+    let mut faults = Count::new();
     assert_eq!(rt;
         write_to(&mut output, &mut faults, b"abc"),
         WriteStep::Took(2)
@@ -136,5 +140,58 @@ fn octets_keep_their_bytes(rt: HostRuntime) -> Result<(), Fail> {
     let again = Octets::from(octets.into_vec());
     assert!(rt; !again.is_empty());
     assert!(rt; Octets::new(rt.alloc()).is_empty());
+    Ok(())
+}
+
+#[test]
+fn link_gives_and_takes_pieces(rt: HostRuntime) -> Result<(), Fail> {
+    let gives = b"abc".to_vec(rt.alloc())?;
+    let fail_sends = [2].to_vec(rt.alloc())?;
+    let fail_polls = [1].to_vec(rt.alloc())?;
+    let mut link = MemLink::new(rt.alloc(), gives, 3, 2, 2, fail_sends, fail_polls)?;
+    let mut buf = [0; 4];
+    assert_eq!(rt; link.poll(&mut buf), PollStep::Failed, "the first poll");
+    assert_eq!(rt; link.poll(&mut buf), PollStep::Got(2));
+    assert_eq!(rt; &buf[..2], b"ab".as_slice());
+    assert_eq!(rt; link.poll(&mut buf), PollStep::Got(1));
+    assert_eq!(rt; buf[0], b'c');
+    assert_eq!(rt; link.poll(&mut buf), PollStep::Closed);
+    assert_eq!(rt; link.send(b"xyz"), SendStep::Took(2));
+    assert_eq!(rt; link.send(b"z"), SendStep::Failed, "the second send");
+    assert_eq!(rt; link.send(b"z"), SendStep::Took(1));
+    assert_eq!(rt; link.send(b"z"), SendStep::Failed, "no room");
+    assert_eq!(rt; link.tend(()), TendStep::NotNow);
+    assert_eq!(rt; link.sent(), b"xyz".as_slice());
+    Ok(())
+}
+
+/// Polls until something else than idleness comes, some seconds long.
+fn poll_on(link: &mut TcpLink, buf: &mut [u8]) -> PollStep
+    requires { 0 < length buf.old }
+{
+    for _ in 0..1_000 {
+        let step = link.poll(buf);
+        if step != PollStep::Idle {
+            return step;
+        }
+    }
+    PollStep::Idle
+}
+
+#[test]
+fn tcp_link_is_idle_until_bytes_come_and_closes(rt: HostRuntime) -> Result<(), Fail> {
+    let listener = TcpListener::bind(&rt, SocketAddr::from((Ipv4Addr::LOCALHOST, 0)))?;
+    let mut far = TcpStream::connect(&rt, listener.local_addr()?)?;
+    let mut link = TcpLink::new(listener.accept()?.0)?;
+    let mut buf = [0; 8];
+    assert_eq!(rt; link.poll(&mut buf), PollStep::Idle);
+    assert_eq!(rt; far.write(b"abc")?, 3);
+    assert_eq!(rt; poll_on(&mut link, &mut buf), PollStep::Got(3));
+    assert_eq!(rt; &buf[..3], b"abc".as_slice());
+    assert_eq!(rt; link.send(b"xyz"), SendStep::Took(3));
+    assert_eq!(rt; link.tend(()), TendStep::NotNow);
+    drop(far);
+    let step = poll_on(&mut link, &mut buf);
+    assert!(rt; step == PollStep::Closed || step == PollStep::Failed);
     Ok(())
 }

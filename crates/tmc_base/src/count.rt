@@ -3,13 +3,13 @@ ghost use Rattle.tmc_base.specs.Faults.{raised};
 
 use std::marker::Model;
 
-/// A count of faults, which stops at the greatest `u64`.
+/// A count of the answers of one kind, as of faults. It stops at the greatest `u64`.
 #[derive(Drop)]
-pub(crate) struct FaultCount {
+pub(crate) struct Count {
     count: u64,
 }
 
-impl Model for FaultCount {
+impl Model for Count {
     ghost use Rattle.std.specs.Prelude.{ℕ};
 
     ghost Value = { ℕ };
@@ -17,11 +17,11 @@ impl Model for FaultCount {
     ghost view = { λ a. a.count };
 }
 
-impl FaultCount {
-    pub(crate) fn new() -> FaultCount
+impl Count {
+    pub(crate) fn new() -> Count
         ensures { result ≡ 0 }
     {
-        FaultCount { count: 0 }
+        Count { count: 0 }
     }
 
     pub(crate) fn raise(&mut self)
