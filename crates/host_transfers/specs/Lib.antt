@@ -1,2 +1,5 @@
 pub mod Cut
 pub mod Piece
+pub mod Answer
+pub mod Assembly
+pub mod Judged

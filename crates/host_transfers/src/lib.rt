@@ -3,11 +3,17 @@
 //! The functions of `laws` do nothing: their contracts say what holds of the definitions in `specs/`.
 #![tactic(auto)]
 
+mod assembly;
+mod head;
+mod judged;
 mod laws;
 mod limits;
+mod piece;
 
+pub use assembly::Assembly;
 pub use laws::{
     a_piece_grows, a_piece_is_its_transfer, limits_are_the_products, messages_are_cut_once,
-    transfers_are_read_to_their_end,
+    reads_give_the_data, refusals_are_exact, transfers_are_read_to_their_end,
 };
 pub use limits::{PART_MAX, REQUEST_MAX};
+pub use piece::Piece;
