@@ -4,3 +4,4 @@ pub mod Grows
 pub mod Reading
 pub mod Refusals
 pub mod Given
+pub mod Parting

@@ -28,7 +28,7 @@ drop_over n xs ys h =
     subst (λ (m : ℕ). drop m (xs ++ ys) ≡ drop (n - length xs) ys) e (drop-append-add xs ys (n - length xs))
 
 -- both take all, or as many
-take_same : (n m : ℕ) (xs : List ℕ) → min n (length xs) ≡ min m (length xs) → take n xs ≡ take m xs
+pub take_same : (n m : ℕ) (xs : List ℕ) → min n (length xs) ≡ min m (length xs) → take n xs ≡ take m xs
 take_same n m xs e = sym (take_min n xs) ∙ (ap (λ (k : ℕ). take k xs) e ∙ take_min m xs)
 
 take_none : (n : ℕ) → take {A = ℕ} n [] ≡ []

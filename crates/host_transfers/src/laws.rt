@@ -6,6 +6,7 @@ ghost use Rattle.host_transfers.specs.Answer.{Answers, GoesOn, Refuses};
 ghost use Rattle.host_transfers.specs.Assembly.{Read, AreSaid, AreGood, bytes_of, given};
 ghost use Rattle.host_transfers.specs.Cut.{AreParts, AreReads};
 ghost use Rattle.host_transfers.specs.Piece.{data_of, eom_of};
+ghost use Rattle.host_transfers.specs.Tags.{tag_behind, tag_of};
 ghost use Rattle.tmc_base.specs.declared.field.Field.{Field};
 ghost use Rattle.tmc_base.specs.declared.limits.TheConstants.{BULK_IN_SUBMIT};
 ghost use Rattle.tmc_wire.specs.declared.header.InHeader.{InHeader};
@@ -57,4 +58,12 @@ pub fn refusals_are_exact()
 /// The data given of all reads of a transfer, however it was cut, is what its bytes hold.
 pub fn reads_give_the_data()
     ensures { (tag size : ℕ) (reads : List Read) → AreSaid tag size [] reads → AreGood reads → given reads ≡ data_of (bytes_of reads) }
+{}
+
+/// Tags run 1 to 255 and then again, and none is 0.
+pub fn tags_run_round()
+    ensures first { tag_behind 0 ≡ tag_of 0 }
+    ensures next { (count : ℕ) → tag_behind (tag_of count) ≡ tag_of (count + 1) }
+    ensures some { (count : ℕ) → 1 ≤ tag_of count }
+    ensures most { (count : ℕ) → tag_of count ≤ 255 }
 {}

@@ -8,3 +8,4 @@ pub mod Sending
 pub mod Numbers
 pub mod Following
 pub mod Keeping
+pub mod Patched

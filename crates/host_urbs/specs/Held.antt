@@ -1,5 +1,5 @@
 -- what a client holds, and the record of messages that leads there
-use Rattle.std.specs.Prelude.{◌≡◌, ℕ, ◌+◌, ◌-◌, ◌<◌, ◌≤◌, List, [], ◌∷◌, ◌++◌, length, leb, if◌then◌else◌}
+use Rattle.std.specs.Prelude.{◌≡◌, ℕ, ◌+◌, ◌-◌, ◌<◌, ◌≤◌, List, [], ◌∷◌, ◌++◌, length, replicate, leb, if◌then◌else◌}
 use Rattle.host_urbs.specs.declared.entry.Entry.{Entry}
 use Rattle.host_urbs.specs.declared.limits.TheConstants.{OUTBOX_MAX}
 use Rattle.host_urbs.specs.Entries.{awaited, number_of, unanswered_of}
@@ -8,6 +8,7 @@ use Rattle.host_urbs.specs.Record.{Past, written, next, outstanding}
 use Rattle.host_urbs.specs.Unanswered.{seqnum_of}
 use Rattle.usbip_wire.specs.declared.dirs.TheConstants.{DIRS_MAX}
 use Rattle.usbip_wire.specs.declared.urb.Dir.{Dir}
+use Rattle.usbip_wire.specs.declared.urb.Dir.TheVariants.{Out}
 use Rattle.usbip_wire.specs.declared.urb.TheConstants.{URB_HEADER}
 use Rattle.usbip_wire.specs.Submit as submit
 use Rattle.usbip_wire.specs.Submit.{submit_bytes}
@@ -38,6 +39,14 @@ HasRoom held transferred = length held.outbox + (URB_HEADER + length transferred
 abbrev pub submit_by : Held → Dir → (ep size : ℕ) → (setup transferred : List ℕ) → up.Message
 submit_by held dir ep size setup transferred =
     up.Submit (record { seqnum = held.next; devid = held.devid; dir = dir; ep = ep; length = size; setup = setup }) transferred
+
+-- on an endpoint other than 0: the setup packet is zeros
+abbrev pub submit_out : Held → (ep : ℕ) → (transferred : List ℕ) → up.Message
+submit_out held ep transferred = submit_by held Out ep (length transferred) (replicate 8 0) transferred
+
+-- three pieces, one behind the other
+abbrev pub joined : (front text behind : List ℕ) → List ℕ
+joined front text behind = front ++ (text ++ behind)
 
 abbrev pub unlink_by : Held → (target : ℕ) → up.Message
 unlink_by held target = up.Unlink (record { seqnum = held.next; devid = held.devid; target = target })

@@ -1,12 +1,14 @@
 ghost use Rattle.std.specs.Prelude.{◌≡◌, ◌+◌, ◌-◌, ◌*◌, ◌≤◌, ◌++◌, [], length, take, drop, IfOk};
 ghost use Rattle.host_urbs.specs.declared.limits.TheConstants.{OUTBOX_MAX};
 ghost use Rattle.tmc_base.specs.declared.limits.TheConstants.{SUBMIT_MAX};
+ghost use Rattle.usbip_wire.specs.declared.urb.Dir.TheVariants.{Out};
 ghost use Rattle.usbip_wire.specs.declared.urb.TheConstants.{ENDPOINT_MAX, URB_HEADER};
 ghost use Rattle.usbip_wire.specs.Submit as submit;
-ghost use Rattle.usbip_wire.specs.Submit.{Carries, submit_bytes};
+ghost use Rattle.usbip_wire.specs.Submit.{Carries, submit_bytes, submit_words};
 ghost use Rattle.usbip_wire.specs.Unlink as unlink;
 ghost use Rattle.usbip_wire.specs.Unlink.{unlink_bytes};
 ghost use Rattle.usbip_wire.specs.Up.{Spells, Submit, Unlink};
+ghost use Rattle.usbip_wire.specs.Urb.{AreWide};
 
 use crate::limits::OUTBOX_MAX;
 use bytes::BytesMut;
@@ -67,6 +69,28 @@ impl Outbox {
         put_submit(head, data, &mut self.bytes);
     }
 
+    /// Appends a CMD_SUBMIT of an OUT submit, whose data is these pieces, one behind the other.
+    pub(crate) fn put_pieces(&mut self, head: SubmitHead, front: &[u8], text: &[u8], behind: &[u8])
+        requires out { head.dir ≡ Out }
+        requires endpoint { head.ep ≤ ENDPOINT_MAX }
+        requires short { head.length ≤ SUBMIT_MAX }
+        requires carried { length (front.now ++ (text.now ++ behind.now)) ≡ head.length }
+        requires room { length self.old + (URB_HEADER + length (front.now ++ (text.now ++ behind.now))) ≤ OUTBOX_MAX }
+        ensures written { self.new ≡ self.old ++ submit_bytes head submit.unused (front.now ++ (text.now ++ behind.now)) }
+        ensures spelled { Spells head.devid (Submit head (front.now ++ (text.now ++ behind.now)))
+            (submit_bytes head submit.unused (front.now ++ (text.now ++ behind.now))) }
+    {
+        make_room(
+            &mut self.bytes,
+            &mut self.start,
+            URB_HEADER + head.length as usize,
+        );
+        put_head(head, &mut self.bytes);
+        self.bytes.extend_reserved(front);
+        self.bytes.extend_reserved(text);
+        self.bytes.extend_reserved(behind);
+    }
+
     /// Appends a CMD_UNLINK.
     pub(crate) fn put_unlink(&mut self, head: UnlinkHead)
         requires { length self.old + URB_HEADER ≤ OUTBOX_MAX }
@@ -89,6 +113,26 @@ impl Outbox {
             self.start = 0;
         }
     }
+}
+
+/// Where the length of the data stands in a CMD_SUBMIT.
+const LENGTH_AT: usize = 24;
+
+/// Appends the header of an OUT submit, without its data: that of one without any, and then its length is set.
+fn put_head(head: SubmitHead, out: &mut BytesMut)
+    requires out { head.dir ≡ Out }
+    requires endpoint { head.ep ≤ ENDPOINT_MAX }
+    requires short { head.length ≤ SUBMIT_MAX }
+    requires room { URB_HEADER ≤ out.old.spare }
+    ensures written { out.new.items ≡ out.old.items ++ submit_bytes head submit.unused [] }
+    ensures spare { out.new.spare + URB_HEADER ≡ out.old.spare }
+    ensures setup { length head.setup ≡ 8 }
+    ensures wide { AreWide (submit_words head submit.unused) }
+{
+    let at = out.len() + LENGTH_AT;
+    let size = head.length.to_be_bytes();
+    put_submit(SubmitHead { length: 0, ..head }, &[], out);
+    out.as_mut_slice()[at..at + 4].copy_from_slice(&size);
 }
 
 /// Makes room for `more` bytes.

@@ -1,7 +1,7 @@
 ghost use Rattle.std.specs.Prelude.{◌≡◌, ℕ, ◌≤◌, ◌++◌, ◌∷◌, [], List, length, take, drop, true, false, is_some, IfOk};
 ghost use Rattle.host_urbs.specs.declared.limits.TheConstants.{LAST_SUBMIT};
 ghost use Rattle.host_urbs.specs.Entries.{awaited, sent, moved, others, unlinked};
-ghost use Rattle.host_urbs.specs.Held.{HasPlace, HasRoom, Follows, submit_by, unlink_by, bytes_of, wrote};
+ghost use Rattle.host_urbs.specs.Held.{HasPlace, HasRoom, Follows, joined, submit_by, submit_out, unlink_by, bytes_of, wrote};
 ghost use Rattle.host_urbs.specs.Law.{is_named};
 ghost use Rattle.host_urbs.specs.Record.{Past, Wrote, Took};
 ghost use Rattle.tmc_base.specs.declared.limits.TheConstants.{SUBMIT_MAX};
@@ -91,6 +91,42 @@ impl Urbs {
             message: Unanswered::Submit {
                 seqnum,
                 dir,
+                length,
+            },
+            unsent: self.outbox.as_slice().len(),
+        });
+        self.next += 1;
+        seqnum
+    }
+
+    /// Writes an OUT submit on the endpoint `ep`, whose data is these pieces, one behind the other, and whose setup packet is
+    /// zeros. Each piece is copied once. Gives its number.
+    pub fn submit_pieces(&mut self, ep: u32, front: &[u8], text: &[u8], behind: &[u8]) -> u32
+        requires last { self.old.next ≤ LAST_SUBMIT }
+        requires place { HasPlace self.old }
+        requires endpoint { ep ≤ ENDPOINT_MAX }
+        requires room { HasRoom self.old (joined front.now text.now behind.now) }
+        ensures number { result ≡ self.old.next }
+        ensures written { self.new ≡ wrote (submit_out self.old ep (joined front.now text.now behind.now)) self.old }
+        ensures spelled { let message = submit_out self.old ep (joined front.now text.now behind.now) in Spells self.old.devid message (bytes_of message) }
+        ensures recorded { (first : ℕ) (past : Past) (sent : List ℕ) → Follows first past sent self.old
+            → Follows first (Wrote (submit_out self.old ep (joined front.now text.now behind.now)) ∷ past) sent self.new }
+    {
+        let seqnum = self.next;
+        let length = (front.len() + text.len() + behind.len()) as u32;
+        let head = SubmitHead {
+            seqnum,
+            devid: self.devid,
+            dir: Dir::Out,
+            ep,
+            length,
+            setup: [0; 8],
+        };
+        self.outbox.put_pieces(head, front, text, behind);
+        self.entries.push(Entry {
+            message: Unanswered::Submit {
+                seqnum,
+                dir: Dir::Out,
                 length,
             },
             unsent: self.outbox.as_slice().len(),
