@@ -11,7 +11,7 @@ use Rattle.tmc_wire.specs.Transfer.{InText}
 use Rattle.host_transfers.specs.Piece.{data_of, eom_of}
 
 -- a transfer, written out
-size_there : (m t r s a x y z : ℕ) (rest : List ℕ) → s < 2 ^ 32 → TransferSize ((prefix m t r ++ sized s a x y z) ++ rest) ≡ s
+pub size_there : (m t r s a x y z : ℕ) (rest : List ℕ) → s < 2 ^ 32 → TransferSize ((prefix m t r ++ sized s a x y z) ++ rest) ≡ s
 size_there m t r s a x y z rest few = from_le_bytes-to_le_bytes_4 s few
 
 behind : (m t r s a x y z : ℕ) (rest : List ℕ) → drop 12 ((prefix m t r ++ sized s a x y z) ++ rest) ≡ rest
@@ -20,7 +20,7 @@ behind m t r s a x y z rest = refl
 attributes_there : (m t r s a x y z : ℕ) (rest : List ℕ) → slice_index ((prefix m t r ++ sized s a x y z) ++ rest) 8 ≡ a
 attributes_there m t r s a x y z rest = refl
 
-front : (n : ℕ) (xs ys : List ℕ) → length xs ≡ n → take n (xs ++ ys) ≡ xs
+pub front : (n : ℕ) (xs ys : List ℕ) → length xs ≡ n → take n (xs ++ ys) ≡ xs
 front n xs ys e = subst (λ (m : ℕ). take m (xs ++ ys) ≡ xs) e (take-append_seam xs ys)
 
 pub data_is : (header : InHeader) (message bytes : List ℕ) → InText header message bytes → data_of bytes ≡ message

@@ -1,9 +1,13 @@
 //! What holds of parts and pieces. Each function does nothing, and its contract is the law.
 
-ghost use Rattle.std.specs.Prelude.{◌≡◌, ℕ, ◌+◌, ◌*◌, ◌<◌, ◌≤◌, List, [], ◌∷◌, ◌++◌, length};
+ghost use Rattle.std.specs.Prelude.{◌≡◌, ℕ, ◌+◌, ◌*◌, ◌<◌, ◌≤◌, Bool, true, false, List, [], ◌∷◌, ◌++◌, length};
 ghost use Rattle.host_transfers.specs.declared.limits.TheConstants.{PART_MAX, REQUEST_MAX};
+ghost use Rattle.host_transfers.specs.Answer.{Answers, GoesOn, Refuses};
+ghost use Rattle.host_transfers.specs.Assembly.{Read, AreSaid, AreGood, bytes_of, given};
 ghost use Rattle.host_transfers.specs.Cut.{AreParts, AreReads};
 ghost use Rattle.host_transfers.specs.Piece.{data_of, eom_of};
+ghost use Rattle.host_transfers.specs.Tags.{tag_behind, tag_of};
+ghost use Rattle.tmc_base.specs.declared.field.Field.{Field};
 ghost use Rattle.tmc_base.specs.declared.limits.TheConstants.{BULK_IN_SUBMIT};
 ghost use Rattle.tmc_wire.specs.declared.header.InHeader.{InHeader};
 ghost use Rattle.tmc_wire.specs.Transfer.{InText};
@@ -40,4 +44,26 @@ pub fn a_piece_is_its_transfer()
 /// Bytes that come later add data behind that which was there, and change none of it.
 pub fn a_piece_grows()
     ensures { (bytes more : List ℕ) → (added : List ℕ) × (data_of (bytes ++ more) ≡ data_of bytes ++ added) }
+{}
+
+/// Where reads are refused, no transfer that answers the request goes on with their bytes, nor is one that has ended. They
+/// are refused at one field.
+pub fn refusals_are_exact()
+    ensures goes_on { (tag size : ℕ) (bytes : List ℕ) (field : Field) → Refuses tag size bytes false field → GoesOn tag size bytes → ⊥ }
+    ensures ended { (tag size : ℕ) (bytes : List ℕ) (field : Field) (header : InHeader) (message : List ℕ) → Refuses tag size bytes true field
+        → Answers tag size header message bytes → ⊥ }
+    ensures one { (tag size : ℕ) (bytes : List ℕ) (ended : Bool) (a b : Field) → Refuses tag size bytes ended a → Refuses tag size bytes ended b → a ≡ b }
+{}
+
+/// The data given of all reads of a transfer, however it was cut, is what its bytes hold.
+pub fn reads_give_the_data()
+    ensures { (tag size : ℕ) (reads : List Read) → AreSaid tag size [] reads → AreGood reads → given reads ≡ data_of (bytes_of reads) }
+{}
+
+/// Tags run 1 to 255 and then again, and none is 0.
+pub fn tags_run_round()
+    ensures first { tag_behind 0 ≡ tag_of 0 }
+    ensures next { (count : ℕ) → tag_behind (tag_of count) ≡ tag_of (count + 1) }
+    ensures some { (count : ℕ) → 1 ≤ tag_of count }
+    ensures most { (count : ℕ) → tag_of count ≤ 255 }
 {}

@@ -3,3 +3,9 @@ pub mod Lists
 pub mod Answers
 pub mod Known
 pub mod Once
+pub mod Sizes
+pub mod Sending
+pub mod Numbers
+pub mod Following
+pub mod Keeping
+pub mod Patched

@@ -293,7 +293,7 @@ few first (Took (down.RetUnlink head) ∷ past) h =
     subst (λ (l : List Awaited). length l ≤ DIRS_MAX) (sym u.1)
     (omega (arith, few first past h.0, length_without head.seqnum (outstanding past), length_without u.0 (without head.seqnum (outstanding past))))
 
-rising_up : (a b below : ℕ) (xs : List Awaited) → b ≤ a → AreRising a below xs → AreRising b below xs
+pub rising_up : (a b below : ℕ) (xs : List Awaited) → b ≤ a → AreRising a below xs → AreRising b below xs
 rising_up a b below [] h r = tt
 rising_up a b below (x ∷ xs) h r = (omega (arith, h, r.0), r.1, r.2)
 

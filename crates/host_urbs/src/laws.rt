@@ -1,7 +1,7 @@
 //! What holds of each lawful record. Each function does nothing, and its contract is the law.
 
 ghost use Rattle.std.specs.Prelude.{◌≡◌, ℕ, ◌≤◌, Bool, true, false, is_some, Option, Some, List, [], ◌∷◌, ◌++◌, length};
-ghost use Rattle.host_urbs.specs.declared.limits.TheConstants.{LAST_SUBMIT};
+ghost use Rattle.host_urbs.specs.declared.limits.TheConstants.{LAST_SUBMIT, OUTBOX_MAX};
 ghost use Rattle.host_urbs.specs.Law.{is_named, Lawful, MayTake};
 ghost use Rattle.host_urbs.specs.Record.{Past, Wrote, written, taken, next, outstanding};
 ghost use Rattle.host_urbs.specs.Unanswered.{AreInARow, AreRising, unanswered};
@@ -12,9 +12,10 @@ ghost use Rattle.usbip_wire.specs.Awaited.{Awaited, Unlink, entries_of};
 ghost use Rattle.usbip_wire.specs.Dirs.{find, submit_of};
 ghost use Rattle.usbip_wire.specs.Down.{Message, SpellsAnswer};
 
-/// The greatest number of a submit is the product's.
+/// The limits are the product's.
 pub fn limits_are_the_products()
-    ensures { LAST_SUBMIT ≡ 0xFFFFFF00 }
+    ensures submit { LAST_SUBMIT ≡ 0xFFFFFF00 }
+    ensures outbox { OUTBOX_MAX ≡ 4096 }
 {}
 
 /// The messages written have the numbers from the first one on, in a row.

@@ -1,0 +1,88 @@
+ghost use Rattle.std.specs.Prelude.{◌≡◌, ◌≤◌, [], vec_capacity};
+ghost use Rattle.tmc_wire.specs.declared.class_request.ClassRequest.TheVariants as request;
+ghost use Rattle.tmc_law.specs.Aborts.{check_out_layout, check_in_layout};
+
+use crate::answer::Asked;
+use crate::body::Body;
+use crate::running::Running;
+use crate::status::{TMC_PENDING, TMC_SPLIT_NOT_IN_PROGRESS, TMC_SUCCESS};
+
+/// The answer to CHECK_ABORT_BULK_OUT_STATUS: NBYTES_RXD is 0, since the transfer is dropped whole.
+pub(crate) fn out_layout(status: u8) -> [u8; 8]
+    ensures { result ≡ check_out_layout status }
+{
+    [status, 0, 0, 0, 0, 0, 0, 0]
+}
+
+/// The answer to CHECK_ABORT_BULK_IN_STATUS: bmAbortBulkIn, whose bit 0 says that a packet is still to be read, and
+/// NBYTES_TXD.
+pub(crate) fn in_layout(status: u8, abort_bulk_in: u8, given: u32) -> [u8; 8]
+    ensures { result ≡ check_in_layout status abort_bulk_in given }
+{
+    let [first, second, third, fourth] = given.to_le_bytes();
+    [status, abort_bulk_in, 0, 0, first, second, third, fourth]
+}
+
+impl Body {
+    ghost use Rattle.tmc_device.specs.Body.{state_of, IsReady};
+    ghost use Rattle.tmc_device.specs.Control.{IsAsked, ServesFirst};
+    ghost use Rattle.tmc_device.specs.declared.answer.TheConstants.{LAYOUT_MAX};
+
+    /// CHECK_ABORT_BULK_OUT_STATUS (USBTMC 1.0, section 4.2.1.3).
+    pub(crate) fn check_out(&mut self, asked: &Asked, data: Vec<u8>)
+        requires ready { IsReady self.old }
+        requires asked { IsAsked (state_of self.old) asked.now }
+        requires empty { data.items ≡ [] }
+        requires capacity { LAYOUT_MAX ≤ vec_capacity data }
+        ensures { ServesFirst request.CheckOut asked.now self.old self.new }
+    {
+        match self.running {
+            Running::AbortsOut => {
+                self.reply(asked, &out_layout(TMC_SUCCESS), data);
+                self.running = Running::Nothing;
+            }
+            _ => self.reply(asked, &out_layout(TMC_SPLIT_NOT_IN_PROGRESS), data),
+        }
+    }
+
+    /// CHECK_ABORT_BULK_IN_STATUS (USBTMC 1.0, section 4.2.1.5).
+    pub(crate) fn check_in(&mut self, asked: &Asked, data: Vec<u8>)
+        requires ready { IsReady self.old }
+        requires asked { IsAsked (state_of self.old) asked.now }
+        requires empty { data.items ≡ [] }
+        requires capacity { LAYOUT_MAX ≤ vec_capacity data }
+        ensures { ServesFirst request.CheckIn asked.now self.old self.new }
+    {
+        match self.running {
+            Running::AbortsIn {
+                wanting: true,
+                given,
+            } => self.reply(asked, &in_layout(TMC_PENDING, 1, given), data),
+            Running::AbortsIn {
+                wanting: false,
+                given,
+            } => {
+                self.reply(asked, &in_layout(TMC_SUCCESS, 0, given), data);
+                self.running = Running::Nothing;
+            }
+            _ => self.reply(asked, &in_layout(TMC_SPLIT_NOT_IN_PROGRESS, 0, 0), data),
+        }
+    }
+
+    /// CHECK_CLEAR_STATUS (USBTMC 1.0, section 4.2.1.7). bmClear is 0, since no packet is to be read.
+    pub(crate) fn check_clear(&mut self, asked: &Asked, data: Vec<u8>)
+        requires ready { IsReady self.old }
+        requires asked { IsAsked (state_of self.old) asked.now }
+        requires empty { data.items ≡ [] }
+        requires capacity { LAYOUT_MAX ≤ vec_capacity data }
+        ensures { ServesFirst request.CheckClear asked.now self.old self.new }
+    {
+        match self.running {
+            Running::Clears => {
+                self.reply(asked, &[TMC_SUCCESS, 0], data);
+                self.running = Running::Nothing;
+            }
+            _ => self.reply(asked, &[TMC_SPLIT_NOT_IN_PROGRESS, 0], data),
+        }
+    }
+}

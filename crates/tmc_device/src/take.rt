@@ -1,0 +1,170 @@
+ghost use Rattle.std.specs.Prelude.{◌≡◌, ◌^◌, ◌<◌, ◌∷◌, List, length, min, false, None, Some, IsSome};
+ghost use Rattle.tmc_law.specs.declared.dev_event.DevEvent.TheVariants as event;
+ghost use Rattle.tmc_law.specs.State.{Pending as Submit, Transfer};
+ghost use Rattle.tmc_law.specs.BulkOut.{packets_of as law_packets, TakesEffect};
+ghost use Rattle.tmc_law.specs.Step.{Take};
+ghost use Rattle.endpoint_pipes.specs.Outcome.{first_of, left_of};
+ghost use Rattle.tmc_law.specs.Reached.{AreFew};
+ghost use Rattle.tmc_device.specs.Sound.{IsSound};
+ghost use Rattle.tmc_device.specs.Seen.{Makes};
+ghost use Rattle.tmc_device.specs.Events.{Does, packets_there};
+
+use crate::Drove;
+use crate::body::Body;
+use crate::endings::end_first;
+use crate::endpoints::{BULK_OUT, PACKET_SIZE, SUCCESS};
+use crate::transfer::out_len;
+use endpoint_pipes::Pending;
+use tmc_wire::{BULK_HEADER, OutHeader};
+
+/// The packets in which so many bytes go, the last one shorter; no bytes are one packet.
+pub(crate) fn packets_of(size: usize) -> usize
+    requires { size < 2 ^ 63 }
+    ensures { result ≡ law_packets size }
+{
+    ((size + (PACKET_SIZE - 1)) / PACKET_SIZE).max(1)
+}
+
+impl Body {
+    ghost use Rattle.tmc_device.specs.Body.{state_of, seen_of, IsReady, IsJudged};
+
+    /// Takes so many packets of the first Bulk-OUT submit.
+    pub(crate) fn take(&mut self, packets: u32) -> Drove
+        requires sound { IsSound (state_of self.old) }
+        requires plugged { self.old.unplugged ≡ false }
+        ensures { Does (event.Take packets) (seen_of self.old) result (seen_of self.new) }
+    {
+        if packets == 0 || self.exchange.waits() {
+            return Drove::NotEnabled;
+        }
+        let Some(first) = self.pipes.first(BULK_OUT) else {
+            return Drove::NotEnabled;
+        };
+        if self.prepare().is_err() {
+            return Drove::Memory;
+        }
+        self.take_first(&first, packets);
+        Drove::Applied
+    }
+
+    /// The packets are taken, or Bulk-OUT halts in place of the first.
+    fn take_first(&mut self, first: &Pending, packets: u32)
+        requires ready { IsReady self.old }
+        requires some { 0 < packets }
+        requires none_waits { self.old.exchange.held.waiting ≡ None }
+        requires first { first_of self.old.pipes.bulk_out ≡ Some first.now }
+        ensures { Makes (Take (min packets (packets_there (state_of self.old)))) (seen_of self.old) (seen_of self.new) }
+    {
+        if first.head.length == 0 {
+            end_first(&mut self.pipes, &mut self.outputs, BULK_OUT, SUCCESS);
+            return;
+        }
+        match self.judge(first) {
+            Some(header) => self.take_packets(header, first, packets),
+            None => self.halts(BULK_OUT),
+        }
+    }
+
+    /// The packets are taken: the submit has more, or it ends.
+    fn take_packets(&mut self, header: OutHeader, first: &Pending, packets: u32)
+        requires ready { IsReady self.old }
+        requires some { 0 < packets }
+        requires none_waits { self.old.exchange.held.waiting ≡ None }
+        requires first { first_of self.old.pipes.bulk_out ≡ Some first.now }
+        requires length { 0 < first.now.head.length }
+        requires judged { (submit : Submit) (behind : List Submit) → self.old.pipes.bulk_out ≡ submit ∷ behind → IsJudged self.old submit (Some header) }
+        ensures { Makes (Take (min packets (packets_there (state_of self.old)))) (seen_of self.old) (seen_of self.new) }
+    {
+        let there = packets_of(self.pipes.rest_out().len()) as u32;
+        if packets < there {
+            self.take_some(header, packets);
+        } else {
+            self.take_rest(header, first.head.seqnum, there);
+        }
+    }
+
+    /// Packets are taken behind which the submit has more.
+    fn take_some(&mut self, header: OutHeader, packets: u32)
+        requires ready { IsReady self.old }
+        requires some { 0 < packets }
+        requires none_waits { self.old.exchange.held.waiting ≡ None }
+        requires more { packets < law_packets (length (left_of self.old.pipes.bulk_out)) }
+        requires length { (submit : Submit) (behind : List Submit) → self.old.pipes.bulk_out ≡ submit ∷ behind → 0 < submit.head.length }
+        requires judged { (submit : Submit) (behind : List Submit) → self.old.pipes.bulk_out ≡ submit ∷ behind → IsJudged self.old submit (Some header) }
+        ensures { Makes (Take packets) (seen_of self.old) (seen_of self.new) }
+    {
+        let size = packets as usize * PACKET_SIZE;
+        self.transfer.extend(header, &self.pipes.rest_out()[..size]);
+        self.pipes.take_out(packets);
+    }
+
+    /// The rest of the submit is taken, and it is answered; where the transfer is whole, it takes effect.
+    fn take_rest(&mut self, header: OutHeader, seqnum: u32, packets: u32)
+        requires ready { IsReady self.old }
+        requires none_waits { self.old.exchange.held.waiting ≡ None }
+        requires all { packets ≡ law_packets (length (left_of self.old.pipes.bulk_out)) }
+        requires there { IsSome (first_of self.old.pipes.bulk_out) }
+        requires length { (submit : Submit) (behind : List Submit) → self.old.pipes.bulk_out ≡ submit ∷ behind →
+            (0 < submit.head.length) × (submit.head.seqnum ≡ seqnum) }
+        requires judged { (submit : Submit) (behind : List Submit) → self.old.pipes.bulk_out ≡ submit ∷ behind → IsJudged self.old submit (Some header) }
+        ensures { Makes (Take packets) (seen_of self.old) (seen_of self.new) }
+    {
+        self.transfer.extend(header, self.pipes.rest_out());
+        self.pipes.take_out(packets);
+        end_first(&mut self.pipes, &mut self.outputs, BULK_OUT, SUCCESS);
+        if self.transfer.taken().len() == out_len(header) {
+            self.take_effect(header, seqnum);
+        }
+    }
+
+    /// The transfer in progress is whole, and takes effect under the number of its submit.
+    fn take_effect(&mut self, header: OutHeader, seqnum: u32)
+        requires whole { IsWhole header (state_of self.old) }
+        requires room { 0 < self.old.exchange.room }
+        requires none_waits { self.old.exchange.held.waiting ≡ None }
+        requires few { AreFew self.old.packets }
+        ensures effect { (transfer : Transfer) → self.old.transfer ≡ Some transfer →
+            TakesEffect seqnum transfer (record (state_of self.old) { transfer = None }) (state_of self.new) }
+        ensures outputs { self.new.outputs ≡ self.old.outputs }
+    {
+        match header {
+            OutHeader::Message { size, eom, .. } => self.accept_message(seqnum, size, eom),
+            OutHeader::Request { tag, size } => self.accept_request(tag, size),
+            OutHeader::Trigger { .. } => self.accept_trigger(seqnum),
+        }
+    }
+
+    /// A part of a message takes effect.
+    fn accept_message(&mut self, seqnum: u32, size: u32, eom: bool) {
+        let before = self.exchange.status();
+        let end = BULK_HEADER + size as usize;
+        self.exchange
+            .accept_part(seqnum, &self.transfer.taken()[BULK_HEADER..end], eom);
+        self.packets.notice(before, self.exchange.status());
+        self.transfer.clear();
+    }
+
+    /// A request takes effect.
+    fn accept_request(&mut self, tag: u8, size: u32) {
+        self.transfer.clear();
+        self.side.owe(tag, size);
+        if self.exchange.unread().is_empty() {
+            self.request_nothing();
+        }
+    }
+
+    /// A response is requested where none is unread.
+    fn request_nothing(&mut self) {
+        let before = self.exchange.status();
+        self.exchange.bare();
+        self.packets.notice(before, self.exchange.status());
+    }
+
+    /// A trigger takes effect.
+    fn accept_trigger(&mut self, seqnum: u32) {
+        let before = self.exchange.status();
+        self.exchange.trigger(seqnum);
+        self.packets.notice(before, self.exchange.status());
+        self.transfer.clear();
+    }
+}
