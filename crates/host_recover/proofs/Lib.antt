@@ -2,3 +2,4 @@ pub mod Phases
 pub mod Leads
 pub mod Lefts
 pub mod Words
+pub mod Next
