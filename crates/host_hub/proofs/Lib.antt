@@ -1,4 +1,10 @@
+pub mod Lists
 pub mod Messages
 pub mod Tickets
 pub mod Grows
 pub mod Orders
+pub mod Seen
+pub mod Lawful
+pub mod Numbers
+pub mod Pasts
+pub mod Sound

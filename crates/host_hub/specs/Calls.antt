@@ -1,11 +1,9 @@
 -- which happenings a call of a hub adds to its record
-use Rattle.std.specs.Prelude.{◌≡◌, ◌≢◌, ℕ, ◌+◌, ◌==◌, ◌&&◌, not, Bool, true, false, Option, Some, None, List, [], ◌∷◌, ◌++◌, if◌then◌else◌}
+use Rattle.std.specs.Prelude.{◌≡◌, ◌≢◌, ℕ, ◌+◌, ◌==◌, ◌&&◌, not, Bool, false, Option, Some, None, List, [], ◌∷◌, ◌++◌, if◌then◌else◌}
 use Rattle.std.specs.Bool.{MatchBool}
-use Rattle.host_hub.specs.declared.outcome.End.{End}
 use Rattle.host_hub.specs.declared.outcome.End.TheVariants as end
 use Rattle.host_hub.specs.Order.{Setting}
 use Rattle.host_hub.specs.Record.{Happening, Past, Wrote, Took, Fell, Stopped, Recovers, Asked, Cancelled, Cleared, GaveUp, Settled, Asking}
-use Rattle.host_hub.specs.Hand.{ended}
 use Rattle.host_hub.specs.Book.{tickets, live, is_live, is_cancelled, asking_of}
 use Rattle.host_hub.specs.Law.{Kept}
 

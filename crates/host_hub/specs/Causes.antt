@@ -1,5 +1,5 @@
 -- cancels, clears, and why a ticket settles
-use Rattle.std.specs.Prelude.{◌≡◌, ℕ, ◌==◌, ◌<◌, Bool, true, Option, Some, None, List, [], ◌∷◌, is_some, if◌then◌else◌}
+use Rattle.std.specs.Prelude.{◌≡◌, ℕ, ◌==◌, ◌<◌, true, Option, Some, None, List, [], ◌∷◌, is_some, if◌then◌else◌}
 use Rattle.host_hub.specs.declared.outcome.Outcome.{Outcome}
 use Rattle.host_hub.specs.declared.outcome.Outcome.TheVariants as outcome
 use Rattle.host_hub.specs.declared.outcome.End.{End}

@@ -1,7 +1,7 @@
 -- what the laws of a record say, by subject
-use Rattle.std.specs.Prelude.{◌≡◌, ◌≢◌, ℕ, true, Some, None, List, [], ◌∷◌, is_some}
+use Rattle.std.specs.Prelude.{◌≡◌, ℕ, true, Some, None, List, [], ◌∷◌, is_some}
 use Rattle.host_hub.specs.Order.{Order, Unlink, Setting, message_of}
-use Rattle.host_hub.specs.Record.{Happening, Past, Wrote, Took, Fell, Stopped, Settled, Recovers, Of, Recovery, Owner}
+use Rattle.host_hub.specs.Record.{Happening, Past, Wrote, Took, Fell, Stopped, Settled, Recovers, Of, Recovery}
 use Rattle.host_hub.specs.Crossings.{crossings}
 use Rattle.host_hub.specs.Hand.{is_begun, in_hand, ended}
 use Rattle.host_hub.specs.Outstanding.{outstanding, busy}
@@ -72,7 +72,7 @@ pub record Recovered (past : Past) : Type 0 where
 -- a status read that has begun made its request; and where no message is waited for, all recoveries are over
 
 pub record Waiting (past : Past) : Type 0 where
-  pub active : ended past ≡ None → WaitsFor (active past) past
+  pub ticket : ended past ≡ None → WaitsFor (active past) past
   pub polled : ended past ≡ None → (t : ℕ) → active past ≡ Some t → is_begun t past ≡ true → is_status (asking_of t past) ≡ true
       → is_some (status_tag t past) ≡ true
   pub recovered : ended past ≡ None → busy (outstanding past) ≡ [] → AreRecovered past

@@ -1,19 +1,17 @@
 -- the laws of a hub: what may happen behind a past, and that between its calls nothing is owed
-use Rattle.std.specs.Prelude.{◌≡◌, ◌≢◌, ℕ, ◌<◌, Bool, true, false, Option, Some, None, List, [], ◌∷◌, is_some}
+use Rattle.std.specs.Prelude.{◌≡◌, ◌≢◌, ℕ, ◌<◌, true, false, Option, Some, None, List, [], ◌∷◌, is_some}
 use Rattle.std.specs.Bool.{MatchBool}
 use Rattle.tmc_base.specs.declared.field.Field.{Field}
-use Rattle.usbip_wire.specs.Down as down
 use Rattle.host_urbs.specs.declared.limits.TheConstants.{LAST_SUBMIT}
 use Rattle.host_urbs.specs.Law.{MayWrite, MayTake}
-use Rattle.host_hub.specs.declared.outcome.Outcome.{Outcome}
 use Rattle.host_hub.specs.declared.outcome.End.{End}
 use Rattle.host_hub.specs.declared.outcome.End.TheVariants as end
 use Rattle.host_hub.specs.Order.{Order, Unlink, Setting, message_of, is_unlink}
 use Rattle.host_hub.specs.Record.{Happening, Past, Wrote, Took, Fell, Stopped, Asked, Cancelled, Cleared, GaveUp, Settled, Recovers, Owner, Of, Recovery, next}
 use Rattle.host_hub.specs.Crossings.{crossings}
 use Rattle.host_hub.specs.Hand.{is_begun, in_hand, ended}
-use Rattle.host_hub.specs.Outstanding.{Sent, outstanding, busy}
-use Rattle.host_hub.specs.Book.{BookLaw, active, live, has, asking_of, is_live}
+use Rattle.host_hub.specs.Outstanding.{outstanding, busy}
+use Rattle.host_hub.specs.Book.{BookLaw, active, asking_of, is_live}
 use Rattle.host_hub.specs.Pieces.{pieces}
 use Rattle.host_hub.specs.Status.{awaits}
 use Rattle.host_hub.specs.Causes.{SettleLaw, AreSettled, reached}

@@ -1,5 +1,5 @@
 -- what was written and is not answered
-use Rattle.std.specs.Prelude.{ℕ, ◌==◌, Bool, true, false, ◌||◌, ◌&&◌, Option, Some, None, List, [], ◌∷◌, ◌++◌, if◌then◌else◌}
+use Rattle.std.specs.Prelude.{ℕ, ◌==◌, Bool, false, ◌||◌, ◌&&◌, Option, Some, None, List, [], ◌∷◌, ◌++◌, if◌then◌else◌}
 use Rattle.usbip_wire.specs.Awaited.{Awaited, sent_by}
 use Rattle.usbip_wire.specs.Down as down
 use Rattle.host_hub.specs.Order.{Order, Unlink, Setting, message_of, is_unlink, is_listen, is_bulk}

@@ -1,5 +1,5 @@
 -- what a ticket's submits are, one after another, and when they are made (USBTMC 1.0, sections 3.2 and 3.3)
-use Rattle.std.specs.Prelude.{◌≡◌, ℕ, ◌+◌, ◌-◌, ◌*◌, ◌/◌, ◌%◌, ◌<◌, nat_le, nat_lt, min, Bool, true, false, ◌&&◌, not, is_some, Option, Some, None, List, [], ◌∷◌, length, take, drop, if◌then◌else◌}
+use Rattle.std.specs.Prelude.{◌≡◌, ℕ, ◌+◌, ◌-◌, ◌*◌, ◌/◌, ◌%◌, ◌<◌, nat_le, min, Bool, true, false, ◌&&◌, not, is_some, Option, Some, None, List, [], ◌∷◌, length, take, drop, if◌then◌else◌}
 use Rattle.std.specs.Bool.{MatchBool}
 use Rattle.tmc_base.specs.declared.limits.TheConstants.{BULK_IN_SUBMIT}
 use Rattle.instr_plain.specs.declared.remote.RemoteAct.{RemoteAct}

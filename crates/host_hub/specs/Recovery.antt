@@ -16,7 +16,7 @@ use Rattle.host_hub.specs.Outstanding.{Sent, find, outstanding}
 use Rattle.host_hub.specs.Book.{active}
 use Rattle.host_hub.specs.Status.{listens}
 use Rattle.host_hub.specs.Made.{stalled}
-use Rattle.host_hub.specs.Letters.{order_of, is_recovery, is_ticket_submit, letters}
+use Rattle.host_hub.specs.Letters.{order_of, is_ticket_submit, letters}
 use Rattle.host_hub.specs.Needs.{need_of}
 
 -- A full clear was called for, and none has begun since: by a clear, or by a fault of an Interrupt-IN submit that concerns

@@ -8,6 +8,7 @@ use Rattle.tmc_wire.specs.declared.class_request.ClassRequest.TheVariants as cla
 use Rattle.host_recover.specs.Letter.{status_success}
 use Rattle.host_hub.specs.declared.kind.Kind.{Kind}
 use Rattle.host_hub.specs.declared.kind.Kind.TheVariants as kind
+use Rattle.host_hub.specs.declared.service.Service.{Service}
 use Rattle.host_hub.specs.Order.{Order, Class, Setting, is_listen}
 use Rattle.host_hub.specs.Record.{Happening, Past, Wrote, Took, Settled, Asking, Owner, Of, Recovery}
 use Rattle.host_hub.specs.Hand.{is_of, is_begun}
@@ -167,21 +168,17 @@ next_status_tag s past = skipping (stale s past) (tag_behind (last_status_tag pa
 
 -- ---- requests for service: how many of these packets came, up to the greatest number, and the last one's byte
 
-pub record Requests : Type 0 where
-  pub count : ℕ
-  pub last : Option ℕ
-
 -- bNotify1 is 0x81
 abbrev pub is_service : Option Sent → RetSubmitHead → List ℕ → Bool
 is_service None head bytes = false
 is_service (Some x) head bytes = is_listen x.order && (int_eq head.status (pos 0) && (slice_index bytes 0 == 0x81))
 
-abbrev pub service_by : Past → Happening → Requests → Requests
+abbrev pub service_by : Past → Happening → Service → Service
 service_by past (Took (down.RetSubmit head bytes)) before =
     if is_service (find head.seqnum (outstanding past)) head bytes
     then record { count = min (before.count + 1) (2 ^ 64 - 1); last = Some (slice_index bytes 1) } else before
 service_by past _ before = before
 
-abbrev pub service : Past → Requests
+abbrev pub service : Past → Service
 service [] = record { count = 0; last = None }
 service (x ∷ past) = service_by past x (service past)

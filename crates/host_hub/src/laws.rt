@@ -1,6 +1,10 @@
 //! What holds of each record. Each function does nothing, and its contract is the law.
 
 ghost use Rattle.std.specs.Prelude.{◌≡◌, ℕ, ◌+◌, ◌≤◌, true, false, Option, Some, None, List, ◌++◌, length};
+ghost use Rattle.usbip_wire.specs.declared.dirs.TheConstants.{DIRS_MAX};
+ghost use Rattle.host_urbs.specs.Law as urbs_law;
+ghost use Rattle.host_hub.specs.Law.{Lawful};
+ghost use Rattle.host_hub.specs.Outstanding.{outstanding, awaited_by};
 ghost use Rattle.host_hub.specs.declared.outcome.Outcome.{Outcome};
 ghost use Rattle.host_hub.specs.Book.{has, live, tickets, settled, KeepsBook};
 ghost use Rattle.host_hub.specs.Crossings.{crossings};
@@ -10,6 +14,8 @@ ghost use Rattle.host_urbs.specs.Record as urbs;
 ghost use Rattle.host_urbs.specs.Unanswered.{seqnum_of};
 ghost use Rattle.usbip_wire.specs.Down as down;
 ghost use Rattle.usbip_wire.specs.Up as up;
+
+use host_urbs::few_are_outstanding;
 
 /// The messages written and the answers taken are those of the record of messages, for which `host_urbs` says what is
 /// outstanding, and so is the next number.
@@ -43,3 +49,14 @@ pub fn what_happened_stays()
 pub fn orders_have_their_numbers()
     ensures { (setting : Setting) (number : ℕ) (order : Order) → seqnum_of (message_of setting number order) ≡ number }
 {}
+
+/// The messages of a lawful record are a lawful record of messages, so that all that `host_urbs` says of these holds of a
+/// hub's; and what is outstanding by the record is what is outstanding by these.
+pub fn messages_are_lawful()
+    ensures lawful { (setting : Setting) (past : Past) → Lawful setting past → urbs_law.Lawful setting.first (crossings setting past) }
+    ensures outstanding { (setting : Setting) (past : Past) → Lawful setting past
+        → awaited_by setting (outstanding past) ≡ urbs.outstanding (crossings setting past) }
+    ensures count { (setting : Setting) (past : Past) → Lawful setting past → length (outstanding past) ≤ DIRS_MAX }
+{
+    few_are_outstanding();
+}

@@ -3,15 +3,34 @@
 //! The functions of `laws` do nothing: their contracts say what holds of the definitions in `specs/`.
 #![tactic(auto)]
 
+mod answers;
 mod book;
+mod facts;
 mod kind;
 mod laws;
+mod limits;
 mod outcome;
+mod refusals;
+mod service;
+mod ticket;
+mod view;
 
-pub use book::BookEntry;
+pub use answers::{CancelAnswer, DropAnswer, Turn};
+pub use book::{Book, BookEntry};
+pub use facts::{
+    books_are_kept, each_outcome_has_its_cause, recoveries_are_made, something_is_waited_for,
+    traffic_is_planned, unlinks_are_due,
+};
 pub use kind::Kind;
 pub use laws::{
-    a_settled_outcome_stays, messages_are_crossings, orders_have_their_numbers,
-    tickets_are_numbered, what_happened_stays,
+    a_settled_outcome_stays, messages_are_crossings, messages_are_lawful,
+    orders_have_their_numbers, tickets_are_numbered, what_happened_stays,
+};
+pub use limits::{
+    LAST_ASK, LIMIT_MAX, LIMITS_MAX, MAX_DEPTH, MESSAGE_MAX, SESSIONS, TICKETS_MAX,
+    hub_limits_are_the_products,
 };
 pub use outcome::{End, Outcome};
+pub use refusals::{AskFault, ClearFault};
+pub use service::Service;
+pub use view::View;
