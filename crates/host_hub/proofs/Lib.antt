@@ -8,3 +8,6 @@ pub mod Lawful
 pub mod Numbers
 pub mod Pasts
 pub mod Sound
+pub mod Quiets
+pub mod Stepping
+pub mod Endings

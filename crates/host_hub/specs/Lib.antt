@@ -18,6 +18,7 @@ pub mod Ends
 pub mod Law
 pub mod Facts
 pub mod Calls
+pub mod Steps
 pub mod BookSeen
 pub mod Refusals
 pub mod Shown

@@ -12,6 +12,7 @@ mod limits;
 mod outcome;
 mod refusals;
 mod service;
+mod steps;
 mod ticket;
 mod view;
 
@@ -33,4 +34,7 @@ pub use limits::{
 pub use outcome::{End, Outcome};
 pub use refusals::{AskFault, ClearFault};
 pub use service::Service;
+pub use steps::{
+    a_hub_ends, a_hub_waits, a_submit_is_due, a_submit_is_written, a_ticket_is_asked, an_answer_comes,
+};
 pub use view::View;
