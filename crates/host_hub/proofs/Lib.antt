@@ -11,3 +11,4 @@ pub mod Sound
 pub mod Quiets
 pub mod Stepping
 pub mod Endings
+pub mod Clean

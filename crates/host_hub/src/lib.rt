@@ -35,6 +35,6 @@ pub use outcome::{End, Outcome};
 pub use refusals::{AskFault, ClearFault};
 pub use service::Service;
 pub use steps::{
-    a_hub_ends, a_hub_waits, a_submit_is_due, a_submit_is_written, a_ticket_is_asked, an_answer_comes,
+    a_hub_ends, a_hub_waits, a_submit_is_due, a_submit_is_written, a_ticket_is_asked, a_ticket_stays_clean, an_answer_comes,
 };
 pub use view::View;

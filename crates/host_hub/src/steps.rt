@@ -4,14 +4,15 @@
 //! A call begins at a kept record. In its midst the hub works (`Working`): every ticket that has a cause is settled, and no
 //! unlink is due. The call ends where nothing more is due and something is waited for, or where the hub has ended.
 
-ghost use Rattle.std.specs.Prelude.{◌≡◌, ◌≢◌, ◌<◌, ℕ, Bool, true, false, None, Some, List, [], ◌∷◌};
+ghost use Rattle.std.specs.Prelude.{◌≡◌, ◌≢◌, ◌<◌, ℕ, pos, Bool, true, false, None, Some, List, [], ◌∷◌};
 ghost use Rattle.usbip_wire.specs.Down as down;
 ghost use Rattle.usbip_wire.specs.declared.ret_submit.RetSubmitHead.{RetSubmitHead};
 ghost use Rattle.host_urbs.specs.Law.{MayTake};
 ghost use Rattle.host_hub.specs.declared.outcome.End.{End};
 ghost use Rattle.host_hub.specs.declared.outcome.End.TheVariants as end;
 ghost use Rattle.host_hub.specs.declared.outcome.Outcome.{Outcome};
-ghost use Rattle.host_hub.specs.Order.{Order, Setting};
+ghost use Rattle.host_hub.specs.Order.{Order, Setting, is_unlink};
+ghost use Rattle.host_hub.specs.Needs.{overs, owed, split_at};
 ghost use Rattle.host_hub.specs.Record.{Past, Asking, Took, Fell, Stopped, GaveUp, Settled};
 ghost use Rattle.host_hub.specs.Crossings.{crossings};
 ghost use Rattle.host_hub.specs.Hand.{is_begun, ended};
@@ -26,7 +27,7 @@ ghost use Rattle.host_hub.specs.Plan.{When, first_order, follows, last, next_tag
 ghost use Rattle.host_hub.specs.Recovery.{AreRecovered};
 ghost use Rattle.host_hub.specs.Ends.{end_due, ends_by};
 ghost use Rattle.host_hub.specs.Law.{Kept, Lawful, Planned, StopLaw, Waits};
-ghost use Rattle.host_hub.specs.Steps.{Comes, MayWriteNext, Speaks, Working, asked, settle_all, took, wrote};
+ghost use Rattle.host_hub.specs.Steps.{Comes, IsClean, MayWriteNext, Speaks, Working, asked, settle_all, took, wrote};
 
 /// A ticket is asked of a hub that runs. Whatever else it does then, it works.
 pub fn a_ticket_is_asked()
@@ -97,4 +98,21 @@ pub fn a_hub_ends()
         → Kept setting (settle_all e (live past) (Stopped e ∷ past)) }
     ensures given_up { (setting : Setting) (past : Past) → Kept setting past → ended past ≡ None
         → Kept setting (settle_all end.GivenUp (live past) (Stopped end.GivenUp ∷ GaveUp ∷ past)) }
+{}
+
+/// A ticket in hand that has no trouble stays so: as it begins, with each further submit and each answer with status 0, as
+/// another ticket is asked, and as one settles. Where the last part of its message was accepted and no response is owed, no
+/// recovery is called for, and the next ticket may begin.
+pub fn a_ticket_stays_clean()
+    ensures begins { (setting : Setting) (past : Past) (ticket : ℕ) (order : Order) → AreRecovered past → is_begun ticket past ≡ false
+        → is_unlink order ≡ false → IsClean (wrote setting past ticket order) ticket false }
+    ensures writes { (setting : Setting) (past : Past) (ticket : ℕ) (split : Bool) (order : Order) → IsClean past ticket split → is_unlink order ≡ false
+        → IsClean (wrote setting past ticket order) ticket split }
+    ensures answers { (setting : Setting) (past : Past) (ticket number : ℕ) (split : Bool) (order : Order) (head : RetSubmitHead) (bytes : List ℕ)
+        → IsClean past ticket split → Comes setting past ticket number order head bytes → head.status ≡ pos 0
+        → IsClean (took past head bytes) ticket (split_at order split) }
+    ensures asked { (past : Past) (ticket : ℕ) (split : Bool) (asking : Asking) → IsClean past ticket split → IsClean (asked past asking) ticket split }
+    ensures settles { (past : Past) (ticket other : ℕ) (split : Bool) (outcome : Outcome) → IsClean past ticket split
+        → IsClean (Settled other outcome ∷ past) ticket split }
+    ensures recovered { (past : Past) (ticket : ℕ) → IsClean past ticket false → owed (pieces ticket past) (overs ticket past) ≡ None → AreRecovered past }
 {}
