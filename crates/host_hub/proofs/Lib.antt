@@ -12,3 +12,4 @@ pub mod Quiets
 pub mod Stepping
 pub mod Endings
 pub mod Clean
+pub mod Entries

@@ -73,7 +73,7 @@ outstanding_falls s (x ∷ past) h = outstanding_falls s past h.0
 
 -- ---- what host_urbs has outstanding
 
-entry_number : (s : Setting) (n : ℕ) (order : Order) → wire.number_of (sent_by (message_of s n order)) ≡ n
+pub entry_number : (s : Setting) (n : ℕ) (order : Order) → wire.number_of (sent_by (message_of s n order)) ≡ n
 entry_number s n (Unlink target) = refl
 entry_number s n order = refl
 
@@ -97,7 +97,7 @@ others_awaited s k (x ∷ xs) =
     step false e again = rw (entry_number s x.number x.order) (rw e (ap (λ (l : List Awaited). l ++ sent_by (message_of s x.number x.order) ∷ []) again))
 
 -- no number here is this one
-abbrev Lacks : ℕ → List Awaited → Type 0
+abbrev pub Lacks : ℕ → List Awaited → Type 0
 Lacks k [] = Unit {0}
 Lacks k (x ∷ xs) = (wire.number_of x ≢ k) × Lacks k xs
 
@@ -105,7 +105,7 @@ lacks_more : (k : ℕ) (xs : List Awaited) (x : Awaited) → Lacks k xs → wire
 lacks_more k [] x h other = (other, tt)
 lacks_more k (y ∷ ys) x h other = (h.0, lacks_more k ys x h.1 other)
 
-below_lacks : (s : Setting) (n k : ℕ) (xs : List Sent) → Below n xs → n ≤ k → Lacks k (awaited_by s xs)
+pub below_lacks : (s : Setting) (n k : ℕ) (xs : List Sent) → Below n xs → n ≤ k → Lacks k (awaited_by s xs)
 below_lacks s n k [] b h = tt
 below_lacks s n k (x ∷ xs) b h =
     lacks_more k (awaited_by s xs) (sent_by (message_of s x.number x.order)) (below_lacks s x.number k xs b.1 (omega (arith, h, b.0)))

@@ -24,8 +24,8 @@ pub use facts::{
 };
 pub use kind::Kind;
 pub use laws::{
-    a_settled_outcome_stays, messages_are_crossings, messages_are_lawful,
-    orders_have_their_numbers, tickets_are_numbered, what_happened_stays,
+    a_settled_outcome_stays, answers_may_come, messages_are_crossings, messages_are_lawful,
+    messages_may_be_written, orders_have_their_numbers, tickets_are_numbered, what_happened_stays,
 };
 pub use limits::{
     LAST_ASK, LIMIT_MAX, LIMITS_MAX, MAX_DEPTH, MESSAGE_MAX, SESSIONS, TICKETS_MAX,
