@@ -13,3 +13,5 @@ pub mod Stepping
 pub mod Endings
 pub mod Clean
 pub mod Entries
+pub mod Stopping
+pub mod Recovering

@@ -1,23 +1,25 @@
 -- the steps of a call over the record
-use Rattle.std.specs.Prelude.{◌≡◌, ℕ, ◌+◌, Bool, false, Some, None, List, [], ◌∷◌}
+use Rattle.std.specs.Prelude.{◌≡◌, ℕ, ◌+◌, Bool, true, false, Some, None, List, [], ◌∷◌}
 use Rattle.usbip_wire.specs.declared.ret_submit.RetSubmitHead.{RetSubmitHead}
 use Rattle.usbip_wire.specs.Down as down
 use Rattle.host_urbs.specs.Law.{MayWrite, MayTake}
 use Rattle.host_hub.specs.declared.outcome.End.{End}
-use Rattle.host_hub.specs.Order.{Order, Setting, message_of, is_listen}
-use Rattle.host_hub.specs.Record.{Past, Wrote, Took, Asked, Settled, Asking, Of, next}
+use Rattle.host_hub.specs.declared.outcome.Outcome.{Outcome}
+use Rattle.host_hub.specs.Order.{Order, Setting, Unlink, is_listen, message_of}
+use Rattle.host_hub.specs.Record.{Asked, Asking, Of, Past, Recovery, Settled, Took, Wrote, next}
 use Rattle.host_hub.specs.Crossings.{crossings}
 use Rattle.host_hub.specs.Hand.{in_hand, ended}
-use Rattle.host_hub.specs.Outstanding.{find, outstanding}
-use Rattle.host_hub.specs.Book.{active, asking_of, tickets}
-use Rattle.host_hub.specs.Status.{is_status_kind}
-use Rattle.host_hub.specs.Causes.{named}
+use Rattle.host_hub.specs.Outstanding.{busy, find, others, outstanding}
+use Rattle.host_hub.specs.Book.{active, asking_of, has, live, tickets}
+use Rattle.host_hub.specs.Status.{awaits, is_status_kind}
+use Rattle.host_hub.specs.Made.{made_at}
+use Rattle.host_hub.specs.Causes.{named, reached}
 use Rattle.host_hub.specs.Unlinks.{unlinks_due}
 use Rattle.host_hub.specs.Needs.{overs, back, is_split, any_faulty}
 use Rattle.host_hub.specs.Letters.{letters}
 use Rattle.host_hub.specs.Recovery.{is_called, is_served, running}
-use Rattle.host_hub.specs.Ends.{ends_by}
-use Rattle.host_hub.specs.Law.{Lawful, Works}
+use Rattle.host_hub.specs.Ends.{ends_by, end_due}
+use Rattle.host_hub.specs.Law.{IsHandOver, Lawful, Works}
 
 -- in the midst of a call: the laws were kept, every ticket that has a cause is settled, and no unlink is due
 pub record Working (s : Setting) (past : Past) : Type 0 where
@@ -70,3 +72,34 @@ pub record IsClean (past : Past) (t : ℕ) (split : Bool) : Type 0 where
   pub fine : any_faulty (overs t past) ≡ false
   pub running : running past ≡ None
   pub letters : letters past ≡ []
+
+-- ---- unlinks and recoveries
+
+-- these unlinks of a ticket are written, one behind another
+abbrev pub write_unlinks : Setting → (t : ℕ) → List ℕ → Past → Past
+write_unlinks s t [] past = past
+write_unlinks s t (target ∷ targets) past = write_unlinks s t targets (wrote s past t (Unlink target))
+
+-- a submit of a recovery is written
+abbrev pub recovers_with : Setting → Past → Order → Past
+recovers_with s past order = Wrote (next s.first past) Recovery order ∷ past
+
+-- the ticket that is stopped settles by that as this answer comes: it was the last that it waited for, and makes nothing
+pub record StopsAt (s : Setting) (past : Past) (t : ℕ) (answer : down.Message) (o : Outcome) : Type 0 where
+  pub turn : active past ≡ Some t
+  pub may : MayTake (crossings s past) answer
+  pub good : ends_by s past answer ≡ None
+  pub stop : reached t past ≡ Some o
+  pub none_left : awaits t (Took answer ∷ past) ≡ []
+  pub unmade : (u : ℕ) → has u (live past) ≡ true → made_at s u past (Took answer) ≡ None
+  pub free : end_due (Took answer ∷ past) ≡ None
+
+-- an answer comes to the submit of a recovery, which is the only message that is not answered, and the hub does not end by it
+pub record HearsRecovery (s : Setting) (past : Past) (number : ℕ) (order : Order) (head : RetSubmitHead) (bytes : List ℕ) : Type 0 where
+  pub hand : IsHandOver (in_hand past) past
+  pub found : find head.seqnum (outstanding past) ≡ Some (record { number = number; owner = Recovery; order = order })
+  pub alone : busy (others head.seqnum (outstanding past)) ≡ []
+  pub plain : is_listen order ≡ false
+  pub may : MayTake (crossings s past) (down.RetSubmit head bytes)
+  pub good : ends_by s past (down.RetSubmit head bytes) ≡ None
+  pub free : end_due (took past head bytes) ≡ None

@@ -13,6 +13,7 @@ mod outcome;
 mod refusals;
 mod service;
 mod steps;
+mod stops;
 mod ticket;
 mod view;
 
@@ -36,5 +37,8 @@ pub use refusals::{AskFault, ClearFault};
 pub use service::Service;
 pub use steps::{
     a_hub_ends, a_hub_waits, a_submit_is_due, a_submit_is_written, a_ticket_is_asked, a_ticket_stays_clean, an_answer_comes,
+};
+pub use stops::{
+    a_hand_is_over, a_recovery_goes_on, a_stopped_ticket_settles, an_active_ticket_is_stopped,
 };
 pub use view::View;
