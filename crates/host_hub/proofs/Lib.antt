@@ -15,3 +15,5 @@ pub mod Clean
 pub mod Entries
 pub mod Stopping
 pub mod Recovering
+pub mod Rows
+pub mod WorkedAsks

@@ -24,3 +24,4 @@ pub mod Refusals
 pub mod Shown
 pub mod Tied
 pub mod Owned
+pub mod Worked

@@ -16,6 +16,7 @@ mod steps;
 mod stops;
 mod ticket;
 mod view;
+pub mod worked;
 
 pub use answers::{CancelAnswer, DropAnswer, Turn};
 pub use book::{Book, BookEntry};
