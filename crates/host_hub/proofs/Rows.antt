@@ -1,5 +1,5 @@
 -- the steps of a worked record, by what is computed of it
-use Rattle.std.proofs.Common.{◌≡◌, ℕ, ◌+◌, ◌<◌, ◌≤◌, true, false, List, [], ◌∷◌, length, Some, None, refl}
+use Rattle.std.proofs.Common.{◌≡◌, ◌≢◌, ℕ, ◌+◌, ◌<◌, ◌≤◌, true, false, List, [], ◌∷◌, length, Some, None, refl}
 use Rattle.usbip_wire.specs.RetSubmit.{Returns}
 use Rattle.usbip_wire.specs.declared.ret_submit.RetSubmitHead.{RetSubmitHead}
 use Rattle.usbip_wire.specs.declared.dirs.TheConstants.{DIRS_MAX}
@@ -24,7 +24,7 @@ use Rattle.host_hub.specs.Worked.{setting}
 use Rattle.host_hub.proofs.Lists.{clash}
 use Rattle.host_hub.proofs.Entries.{submit_answer, submit_may}
 use Rattle.host_hub.proofs.Quiets.{none_planned_idle}
-use Rattle.host_hub.proofs.Stepping.{answer_settles, answer_works, asked_works, begins_planned, goes_on_planned, idle_kept, no_unlinks_behind, no_unlinks_settled, queued_kept, written_kept}
+use Rattle.host_hub.proofs.Stepping.{answer_settles, answer_works, asked_works, begins_planned, goes_on_planned, idle_kept, no_unlinks_behind, no_unlinks_settled, waiting_kept, written_kept}
 
 pub start : Kept setting []
 start = record {
@@ -90,3 +90,9 @@ settles {past} {t} {n} {k} kept head bytes x o made =
 -- and idles
 pub idles : {past : Past} → Working setting past → active past ≡ None → AreRecovered past → Kept setting past
 idles {past} w idle recovered = idle_kept setting past w idle (λ e. recovered)
+
+-- another ticket is asked while the active one waits
+pub queues : {past : Past} → Kept setting past → (asking : Asking) → ended past ≡ None → (t : ℕ) (a : Asking) → active (asked past asking) ≡ Some t → is_begun t past ≡ true
+    → Speaks (asked past asking) t a → awaits t (asked past asking) ≢ [] → busy (outstanding past) ≢ [] → Kept setting (asked past asking)
+queues {past} kept asking running t a turn begun speaks some more =
+    waiting_kept setting (asked past asking) t a refl (asked_works setting past asking kept running) turn begun speaks some more
