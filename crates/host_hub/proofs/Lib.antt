@@ -17,3 +17,4 @@ pub mod Stopping
 pub mod Recovering
 pub mod Rows
 pub mod WorkedAsks
+pub mod WorkedStops

@@ -3,13 +3,17 @@ use Rattle.std.proofs.Common.{◌≡◌, ◌≢◌, ◌⊎◌, ℕ, ◌||◌, �
 use Rattle.std.specs.Prelude.{◌==◌, if◌then◌else◌, is_some}
 use Rattle.std.proofs.lemmas.Bool.{eqb-true, eqb-false}
 use Rattle.usbip_wire.specs.declared.ret_submit.RetSubmitHead.{RetSubmitHead}
+use Rattle.usbip_wire.specs.declared.ret_unlink.RetUnlinkHead.{RetUnlinkHead}
 use Rattle.usbip_wire.specs.Down as down
+use Rattle.host_urbs.specs.Law.{MayTake}
 use Rattle.host_recover.specs.Letter.{Letter, Submit, Ask, Clear, Read}
 use Rattle.host_hub.specs.declared.outcome.Outcome.{Outcome}
 use Rattle.host_hub.specs.declared.outcome.End.{End}
 use Rattle.host_hub.specs.Order.{Setting, Order, Part, Request, Trigger, Listen, Class, ClearHalt, Unlink, is_listen, is_bulk}
 use Rattle.host_hub.specs.Order as order
 use Rattle.host_hub.specs.Record.{Asking, Of, Recovery, Happening, Past, Wrote, Took, Asked, Settled, Recovers, next}
+use Rattle.host_hub.specs.Crossings.{crossings}
+use Rattle.host_hub.specs.Ends.{ends_by}
 use Rattle.host_hub.specs.Outstanding.{Sent, busy, find, not_unlinked, others, outstanding, own_bulk}
 use Rattle.host_hub.specs.Book.{live, has, remove, first_of, active, asking_of, is_live}
 use Rattle.host_hub.specs.Hand.{ended, in_hand, is_begun, is_of}
@@ -213,3 +217,18 @@ pub letters_grow : (s : Setting) (past : Past) (n : ℕ) (order : Order) (head :
     → letters (took past head bytes) ≡ letters past ++ letter_of order head bytes
 letters_grow s past n order head bytes e =
     subst (λ (o : Option Sent). letters past ++ letter_in o head bytes ≡ letters past ++ letter_of order head bytes) (sym e.found) refl
+
+-- ---- the answer to an unlink comes behind the settling
+
+pub unlink_answered : (s : Setting) (past : Past) (head : RetUnlinkHead) → Kept s past → ended past ≡ None → IsHandOver (in_hand past) past
+    → MayTake (crossings s past) (down.RetUnlink head) → ends_by s past (down.RetUnlink head) ≡ None → unlinks_due s (ended past) (Took (down.RetUnlink head) ∷ past) ≡ []
+    → Working s (Took (down.RetUnlink head) ∷ past)
+unlink_answered s past head kept running over may good unlinked = record {
+  lawful = (kept.lawful, (record { running = running; quiet = kept.quiet }, may, good));
+  works = record {
+    running = running;
+    free = kept.quiet.over running;
+    settled = λ t lives. still s past (Took (down.RetUnlink head)) t (kept.quiet.settled t lives) refl refl (none_stopped s past kept.lawful kept.quiet.settled over t lives);
+  };
+  unlinked = unlinked;
+}

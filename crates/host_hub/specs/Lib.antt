@@ -25,3 +25,4 @@ pub mod Shown
 pub mod Tied
 pub mod Owned
 pub mod Worked
+pub mod WorkedStops

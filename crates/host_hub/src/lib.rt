@@ -41,5 +41,6 @@ pub use steps::{
 };
 pub use stops::{
     a_hand_is_over, a_recovery_goes_on, a_stopped_ticket_settles, an_active_ticket_is_stopped,
+    an_unlink_is_answered,
 };
 pub use view::View;

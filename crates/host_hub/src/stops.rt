@@ -2,7 +2,11 @@
 
 ghost use Rattle.std.specs.Prelude.{◌≡◌, ◌≢◌, ◌+◌, ◌≤◌, ℕ, true, false, None, Some, List, [], ◌∷◌, ◌++◌, length};
 ghost use Rattle.usbip_wire.specs.declared.ret_submit.RetSubmitHead.{RetSubmitHead};
+ghost use Rattle.usbip_wire.specs.declared.ret_unlink.RetUnlinkHead.{RetUnlinkHead};
 ghost use Rattle.host_recover.specs.Letter.{Submit};
+ghost use Rattle.host_urbs.specs.Law.{MayTake};
+ghost use Rattle.host_hub.specs.Crossings.{crossings};
+ghost use Rattle.host_hub.specs.Ends.{ends_by};
 ghost use Rattle.usbip_wire.specs.Down as down;
 ghost use Rattle.usbip_wire.specs.declared.dirs.TheConstants.{DIRS_MAX};
 ghost use Rattle.host_hub.specs.declared.outcome.Outcome.{Outcome};
@@ -36,6 +40,13 @@ pub fn a_stopped_ticket_settles()
     ensures { (setting : Setting) (past : Past) (ticket : ℕ) (answer : down.Message) (outcome : Outcome) → Kept setting past → ended past ≡ None
         → StopsAt setting past ticket answer outcome → unlinks_due setting (ended past) (Settled ticket outcome ∷ Took answer ∷ past) ≡ []
         → Working setting (Settled ticket outcome ∷ Took answer ∷ past) }
+{}
+
+/// The answer to an unlink comes where its ticket is settled: nothing settles by it.
+pub fn an_unlink_is_answered()
+    ensures { (setting : Setting) (past : Past) (head : RetUnlinkHead) → Kept setting past → ended past ≡ None → IsHandOver (in_hand past) past
+        → MayTake (crossings setting past) (down.RetUnlink head) → ends_by setting past (down.RetUnlink head) ≡ None
+        → unlinks_due setting (ended past) (Took (down.RetUnlink head) ∷ past) ≡ [] → Working setting (Took (down.RetUnlink head) ∷ past) }
 {}
 
 /// Where the ticket in hand is settled, no live ticket has begun.
