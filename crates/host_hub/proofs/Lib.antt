@@ -18,3 +18,4 @@ pub mod Recovering
 pub mod Rows
 pub mod WorkedAsks
 pub mod WorkedStops
+pub mod WorkedStatus

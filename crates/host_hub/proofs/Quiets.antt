@@ -7,7 +7,7 @@ use Rattle.host_hub.specs.declared.kind.Kind.{Kind}
 use Rattle.host_hub.specs.declared.kind.Kind.TheVariants as kind
 use Rattle.host_hub.specs.declared.outcome.Outcome.{Outcome}
 use Rattle.host_hub.specs.declared.outcome.End.{End}
-use Rattle.host_hub.specs.Order.{Class, ClearHalt, Listen, Order, Part, Read, Request, Setting, Trigger, Unlink, is_listen}
+use Rattle.host_hub.specs.Order.{Class, ClearHalt, Listen, Order, Part, Read, Request, Setting, Trigger, Unlink, is_listen, is_unlink}
 use Rattle.host_hub.specs.Record.{Asking, Of, Past}
 use Rattle.host_hub.specs.Book.{active, asking_of, has, is_live, live}
 use Rattle.host_hub.specs.Hand.{ended, in_hand, is_begun}
@@ -128,15 +128,13 @@ planned_proper s t a past order speaks e =
     (subst (λ (o : Option Asking). planned s t o past ≡ Some order) speaks.0 e))
     (follows_proper a (last t past) (next_tag past) (parts t past) (pieces t past))
 
-pub as_law : (s : Setting) (past : Past) (t : ℕ) (order : Order) → IsProper order → Planned s past t order → unlinks_due s (ended past) past ≡ [] → WriteLaw s past (Of t) order
-as_law s past t (Part tag text eom) proper law none = (law, none)
-as_law s past t (Request tag size) proper law none = (law, none)
-as_law s past t (Trigger tag) proper law none = (law, none)
-as_law s past t Read proper law none = (law, none)
-as_law s past t Listen proper law none = (law, none)
-as_law s past t (Class request) proper law none = (law, none)
-as_law s past t (ClearHalt endpoint) proper law none = (law, none)
-as_law s past t (Unlink target) proper law none = absurd proper
+pub proper_plain : (order : Order) → IsProper order → is_unlink order ≡ false
+proper_plain (Unlink target) proper = absurd proper
+proper_plain order proper = refl
+
+pub as_law : (s : Setting) (past : Past) (t : ℕ) (order : Order) → is_unlink order ≡ false → Planned s past t order → unlinks_due s (ended past) past ≡ [] → WriteLaw s past (Of t) order
+as_law s past t (Unlink target) plain law none = clash (sym plain)
+as_law s past t order plain law none = (law, none)
 
 pub not_listen : (order : Order) → IsProper order → is_listen order ≡ false
 not_listen (Part tag text eom) proper = refl

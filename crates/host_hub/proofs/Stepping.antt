@@ -7,24 +7,24 @@ use Rattle.usbip_wire.specs.declared.ret_submit.RetSubmitHead.{RetSubmitHead}
 use Rattle.usbip_wire.specs.Down as down
 use Rattle.host_hub.specs.declared.outcome.Outcome.{Outcome}
 use Rattle.host_hub.specs.declared.outcome.End.{End}
-use Rattle.host_hub.specs.Order.{Order, Setting, is_listen}
+use Rattle.host_hub.specs.Order.{Order, Setting, is_listen, is_unlink}
 use Rattle.host_hub.specs.Record.{Asked, Asking, Of, Past, Settled, Took, Wrote, next}
 use Rattle.host_hub.specs.Book.{active, asking_of, has, live, or_else, remove, tickets}
 use Rattle.host_hub.specs.Hand.{ended, ended_by, in_hand, is_begun, is_of}
 use Rattle.host_hub.specs.Outstanding.{Sent, busy, find, not_unlinked, outstanding}
 use Rattle.host_hub.specs.Pieces.{pieces}
-use Rattle.host_hub.specs.Status.{awaits}
+use Rattle.host_hub.specs.Status.{awaits, is_status_kind}
 use Rattle.host_hub.specs.Made.{Standing, judged, made_at, made_by, standing}
 use Rattle.host_hub.specs.Causes.{AreSettled, cause, ends_as, reached, stops}
 use Rattle.host_hub.specs.Unlinks.{unlinks_due, unlinks_of, unwanted}
-use Rattle.host_hub.specs.Plan.{When, first_order, follows, last, next_tag, parts}
+use Rattle.host_hub.specs.Plan.{When, first_order, follows, last, next_tag, parts, planned, status_order}
 use Rattle.host_hub.specs.Recovery.{AreRecovered}
 use Rattle.host_hub.specs.Ends.{end_due}
 use Rattle.host_hub.specs.Law.{Begins, Kept, Lawful, Planned, Quiet, Waits}
-use Rattle.host_hub.specs.Steps.{Comes, MayWriteNext, Speaks, Working, asked, took, wrote}
-use Rattle.host_hub.proofs.Lists.{differ, first_has, has_added, has_more, has_removed, neither, own}
+use Rattle.host_hub.specs.Steps.{Comes, MayWriteNext, Notifies, Speaks, Working, asked, took, wrote}
+use Rattle.host_hub.proofs.Lists.{differ, first_has, has_added, has_more, has_removed, neither, own, same}
 use Rattle.host_hub.proofs.Pasts.{begun_known, hand_begun, live_known, not_stopped, others_unreached, still, still_live, unasked_cause, unasked_reached, unreached}
-use Rattle.host_hub.proofs.Quiets.{as_law, listens_wrote, mine, more, none_planned, none_planned_idle, none_planned_queued, none_reached, not_listen, planned_proper, unlinks_none, unreached_now, waits_begun, waits_idle, waits_queued}
+use Rattle.host_hub.proofs.Quiets.{as_law, listens_wrote, mine, more, none_planned, none_planned_idle, none_planned_queued, none_reached, not_listen, planned_proper, proper_plain, unlinks_none, unreached_now, waits_begun, waits_idle, waits_queued}
 
 -- ---- a ticket is asked
 
@@ -97,10 +97,10 @@ goes_on_planned s past t a order turn begun free speaks plan when = record {
 
 -- ---- it is written
 
-pub wrote_works : (s : Setting) (past : Past) (t : ℕ) (a : Asking) (order : Order) → Working s past → Speaks past t a → Planned s past t order → MayWriteNext s past order
+pub wrote_works : (s : Setting) (past : Past) (t : ℕ) (order : Order) → Working s past → Planned s past t order → is_unlink order ≡ false → MayWriteNext s past order
     → unlinks_due s (ended past) (wrote s past t order) ≡ [] → Working s (wrote s past t order)
-wrote_works s past t a order w speaks law may none = record {
-  lawful = (w.lawful, (w.works, may, as_law s past t order (planned_proper s t a past order speaks law.plan) law w.unlinked));
+wrote_works s past t order w law plain may none = record {
+  lawful = (w.lawful, (w.works, may, as_law s past t order plain law w.unlinked));
   works = record {
     running = w.works.running;
     free = w.works.free;
@@ -121,13 +121,24 @@ rests s past w none waits = record {
 pub written_kept : (s : Setting) (past : Past) (t : ℕ) (a : Asking) (order : Order) → s.depth ≡ 1 → Working s past → Speaks past t a → Planned s past t order → MayWriteNext s past order
     → Kept s (wrote s past t order)
 written_kept s past t a order d w speaks law may =
-    rests s (wrote s past t order) (wrote_works s past t a order w speaks law may (unlinks_none s (wrote s past t order) d w.works.running free))
+    rests s (wrote s past t order)
+    (wrote_works s past t order w law (proper_plain order (planned_proper s t a past order speaks law.plan)) may (unlinks_none s (wrote s past t order) d w.works.running free))
     (none_planned s (wrote s past t order) t a d law.turn speaks (listens_wrote s past t order) (mine s past t order))
     (waits_begun (wrote s past t order) t w.works.running law.turn (listens_wrote s past t order) (mine s past t order)
     (more s past t order (not_listen order (planned_proper s t a past order speaks law.plan))))
   where
     free : (u : ℕ) → has u (live past) ≡ true → reached u past ≡ None
     free u lives = none_reached s past t u w.lawful law.turn (unreached_now (reached t past) law.free) lives (w.works.settled u lives)
+
+-- where the plan of the active ticket has nothing more, it waits
+pub planned_kept : (s : Setting) (past : Past) (t : ℕ) → Working s past → active past ≡ Some t → is_begun t past ≡ true → planned s t (asking_of t past) past ≡ None
+    → awaits t past ≢ [] → busy (outstanding past) ≢ [] → Kept s past
+planned_kept s past t w turn begun nothing some more = rests s past w none (waits_begun past t w.works.running turn begun some more)
+  where
+    none : (u : ℕ) (order : Order) → Planned s past u order → ⊥
+    none u order law =
+        let mine : planned s t (asking_of t past) past ≡ Some order = subst (λ (v : ℕ). planned s v (asking_of v past) past ≡ Some order) (same u t (sym law.turn ∙ turn)) law.plan in
+        let e : None ≡ Some order = sym nothing ∙ mine in cc
 
 pub idle_kept : (s : Setting) (past : Past) → Working s past → active past ≡ None → (busy (outstanding past) ≡ [] → AreRecovered past) → Kept s past
 idle_kept s past w idle recovered = rests s past w (none_planned_idle s past idle) (waits_idle past w.works.running idle recovered)
@@ -241,3 +252,70 @@ no_unlinks_settled s past t o head bytes d kept running turn = unlinks_none s (S
     others u h =
         let r : (has u (live past) ≡ true) × (u ≢ t) = has_removed u t (live past) h in
         others_unreached s past kept.lawful t u turn r.0 (kept.quiet.settled u r.0) r.1
+
+-- ---- a packet comes to a status read
+
+packet_other : (s : Setting) (past : Past) (t u : ℕ) (x : Sent) (o : Option Asking) (head : RetSubmitHead) (bytes : List ℕ) (now : Standing) → active past ≡ Some t
+    → is_listen x.order ≡ true → (t ≡ u → ⊥) → made_by s u past o (Some x) head bytes now ≡ None
+packet_other s past t u x None head bytes now turn is other = refl
+packet_other s past t u x (Some a) head bytes now turn is other = rw is (rw turn (rw (differ t u other) refl))
+
+packet_none : (s : Setting) (past : Past) (t u : ℕ) (x : Sent) (head : RetSubmitHead) (bytes : List ℕ) → Kept s past → Notifies s past t x head bytes
+    → has u (live past) ≡ true → (u ≡ t → ⊥) → cause s u (took past head bytes) ≡ None
+packet_none s past t u x head bytes kept e lives other =
+    still s past (Took (down.RetSubmit head bytes)) u (kept.quiet.settled u lives)
+    (subst (λ (o : Option Sent). made_by s u past (asking_of u past) o head bytes (standing s u (took past head bytes)) ≡ None) (sym e.found)
+    (packet_other s past t u x (asking_of u past) head bytes (standing s u (took past head bytes)) e.turn e.is (λ h. other (sym h))))
+    refl
+    (others_unreached s past kept.lawful t u e.turn lives (kept.quiet.settled u lives) other)
+
+pub packet_works : (s : Setting) (past : Past) (t : ℕ) (x : Sent) (head : RetSubmitHead) (bytes : List ℕ) → Kept s past → ended past ≡ None → Notifies s past t x head bytes
+    → made_at s t past (Took (down.RetSubmit head bytes)) ≡ None → reached t past ≡ None → end_due (took past head bytes) ≡ None
+    → unlinks_due s (ended past) (took past head bytes) ≡ [] → Working s (took past head bytes)
+packet_works s past t x head bytes kept running e unmade free none unlinked = record {
+  lawful = (kept.lawful, (record { running = running; quiet = kept.quiet }, e.may, e.good));
+  works = record { running = running; free = none; settled = settled };
+  unlinked = unlinked;
+}
+  where
+    settled : AreSettled s (took past head bytes)
+    settled u lives = step (u == t) refl where
+      step : (b : Bool) → (u == t) ≡ b → cause s u (took past head bytes) ≡ None
+      step true h =
+          subst (λ (v : ℕ). cause s v (took past head bytes) ≡ None) (sym (eqb-true u t h))
+          (still s past (Took (down.RetSubmit head bytes)) t (kept.quiet.settled t (first_has t (live past) e.turn)) unmade refl free)
+      step false h = packet_none s past t u x head bytes kept e lives (eqb-false u t h)
+
+pub packet_settles : (s : Setting) (past : Past) (t : ℕ) (x : Sent) (o : Outcome) (head : RetSubmitHead) (bytes : List ℕ) → Kept s past → ended past ≡ None
+    → Notifies s past t x head bytes → made_at s t past (Took (down.RetSubmit head bytes)) ≡ Some o → end_due (took past head bytes) ≡ None
+    → unlinks_due s (ended past) (Settled t o ∷ took past head bytes) ≡ [] → Working s (Settled t o ∷ took past head bytes)
+packet_settles s past t x o head bytes kept running e made none unlinked = record {
+  lawful = (
+    (kept.lawful, (record { running = running; quiet = kept.quiet }, e.may, e.good)),
+    (first_has t (live past) e.turn, record {
+      caused = first_decides (cause s t past) (made_at s t past (Took (down.RetSubmit head bytes)))
+          (or_else (ends_as (ended_by (Took (down.RetSubmit head bytes)) None)) (stops t (took past head bytes))) o
+          (kept.quiet.settled t (first_has t (live past) e.turn)) made;
+      order = λ u few lives. packet_none s past t u x head bytes kept e lives (λ h. omega (arith, h, few));
+    }),
+  );
+  works = record { running = running; free = none; settled = settled };
+  unlinked = unlinked;
+}
+  where
+    settled : AreSettled s (Settled t o ∷ took past head bytes)
+    settled u h =
+        let r : (has u (live past) ≡ true) × (u ≢ t) = has_removed u t (live past) h in
+        still s (took past head bytes) (Settled t o) u (packet_none s past t u x head bytes kept e r.0 r.1) refl refl
+        (others_unreached s past kept.lawful t u e.turn r.0 (kept.quiet.settled u r.0) r.1)
+
+-- what is due of a status read
+pub status_planned : (s : Setting) (past : Past) (t : ℕ) (a : Asking) (order : Order) → active past ≡ Some t → reached t past ≡ None → asking_of t past ≡ Some a
+    → is_status_kind a.kind ≡ true → MatchBool (is_begun t past) (When s (pieces t past) (awaits t past) order) (Begins past) → status_order s t past ≡ Some order
+    → Planned s past t order
+status_planned s past t a order turn free known is when plan = record {
+  turn = turn;
+  free = ap (λ (o : Option Outcome). is_some o) free;
+  when = when;
+  plan = rw known (rw is plan);
+}

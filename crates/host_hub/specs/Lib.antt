@@ -26,3 +26,4 @@ pub mod Tied
 pub mod Owned
 pub mod Worked
 pub mod WorkedStops
+pub mod WorkedStatus

@@ -9,9 +9,9 @@ use Rattle.host_hub.specs.Order.{Order, Setting, Unlink, is_listen, message_of}
 use Rattle.host_hub.specs.Record.{Asked, Asking, Of, Past, Recovery, Settled, Took, Wrote, next}
 use Rattle.host_hub.specs.Crossings.{crossings}
 use Rattle.host_hub.specs.Hand.{in_hand, ended}
-use Rattle.host_hub.specs.Outstanding.{busy, find, others, outstanding}
+use Rattle.host_hub.specs.Outstanding.{Sent, busy, find, others, outstanding}
 use Rattle.host_hub.specs.Book.{active, asking_of, has, live, tickets}
-use Rattle.host_hub.specs.Status.{awaits, is_status_kind}
+use Rattle.host_hub.specs.Status.{awaits, is_status_kind, listens}
 use Rattle.host_hub.specs.Made.{made_at}
 use Rattle.host_hub.specs.Causes.{named, reached}
 use Rattle.host_hub.specs.Unlinks.{unlinks_due}
@@ -58,6 +58,15 @@ pub record Comes (s : Setting) (past : Past) (t number : ℕ) (order : Order) (h
   pub turn : active past ≡ Some t
   pub found : find head.seqnum (outstanding past) ≡ Some (record { number = number; owner = Of t; order = order })
   pub plain : is_listen order ≡ false
+  pub may : MayTake (crossings s past) (down.RetSubmit head bytes)
+  pub good : ends_by s past (down.RetSubmit head bytes) ≡ None
+
+-- an answer comes on Interrupt-IN while a status read is active that has begun, and the hub does not end by it
+pub record Notifies (s : Setting) (past : Past) (t : ℕ) (sent : Sent) (head : RetSubmitHead) (bytes : List ℕ) : Type 0 where
+  pub turn : active past ≡ Some t
+  pub hears : listens t past ≡ true
+  pub found : find head.seqnum (outstanding past) ≡ Some sent
+  pub is : is_listen sent.order ≡ true
   pub may : MayTake (crossings s past) (down.RetSubmit head bytes)
   pub good : ends_by s past (down.RetSubmit head bytes) ≡ None
 

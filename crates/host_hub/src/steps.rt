@@ -5,6 +5,7 @@
 //! unlink is due. The call ends where nothing more is due and something is waited for, or where the hub has ended.
 
 ghost use Rattle.std.specs.Prelude.{◌≡◌, ◌≢◌, ◌<◌, ℕ, pos, Bool, true, false, None, Some, List, [], ◌∷◌};
+ghost use Rattle.std.specs.Bool.{MatchBool};
 ghost use Rattle.usbip_wire.specs.Down as down;
 ghost use Rattle.usbip_wire.specs.declared.ret_submit.RetSubmitHead.{RetSubmitHead};
 ghost use Rattle.host_urbs.specs.Law.{MayTake};
@@ -16,18 +17,18 @@ ghost use Rattle.host_hub.specs.Needs.{overs, owed, split_at};
 ghost use Rattle.host_hub.specs.Record.{Past, Asking, Took, Fell, Stopped, GaveUp, Settled};
 ghost use Rattle.host_hub.specs.Crossings.{crossings};
 ghost use Rattle.host_hub.specs.Hand.{is_begun, ended};
-ghost use Rattle.host_hub.specs.Outstanding.{busy, outstanding};
+ghost use Rattle.host_hub.specs.Outstanding.{Sent, busy, outstanding};
 ghost use Rattle.host_hub.specs.Book.{active, asking_of, has, live};
 ghost use Rattle.host_hub.specs.Pieces.{pieces};
-ghost use Rattle.host_hub.specs.Status.{awaits};
+ghost use Rattle.host_hub.specs.Status.{awaits, is_status_kind};
 ghost use Rattle.host_hub.specs.Made.{judged, made_at, standing};
 ghost use Rattle.host_hub.specs.Causes.{reached};
 ghost use Rattle.host_hub.specs.Unlinks.{unlinks_due};
-ghost use Rattle.host_hub.specs.Plan.{When, first_order, follows, last, next_tag, parts};
+ghost use Rattle.host_hub.specs.Plan.{When, first_order, follows, last, next_tag, parts, planned, status_order};
 ghost use Rattle.host_hub.specs.Recovery.{AreRecovered};
 ghost use Rattle.host_hub.specs.Ends.{end_due, ends_by};
-ghost use Rattle.host_hub.specs.Law.{Kept, Lawful, Planned, StopLaw, Waits};
-ghost use Rattle.host_hub.specs.Steps.{Comes, IsClean, MayWriteNext, Speaks, Working, asked, settle_all, took, wrote};
+ghost use Rattle.host_hub.specs.Law.{Begins, Kept, Lawful, Planned, StopLaw, Waits};
+ghost use Rattle.host_hub.specs.Steps.{Comes, IsClean, MayWriteNext, Notifies, Speaks, Working, asked, settle_all, took, wrote};
 
 /// A ticket is asked of a hub that runs. Whatever else it does then, it works.
 pub fn a_ticket_is_asked()
@@ -48,8 +49,8 @@ pub fn a_submit_is_due()
 
 /// A submit that is due is written, and the hub works on; at depth 1 it then waits.
 pub fn a_submit_is_written()
-    ensures works { (setting : Setting) (past : Past) (ticket : ℕ) (asking : Asking) (order : Order) → Working setting past → Speaks past ticket asking
-        → Planned setting past ticket order → MayWriteNext setting past order → unlinks_due setting (ended past) (wrote setting past ticket order) ≡ []
+    ensures works { (setting : Setting) (past : Past) (ticket : ℕ) (order : Order) → Working setting past → Planned setting past ticket order
+        → is_unlink order ≡ false → MayWriteNext setting past order → unlinks_due setting (ended past) (wrote setting past ticket order) ≡ []
         → Working setting (wrote setting past ticket order) }
     ensures waits { (setting : Setting) (past : Past) (ticket : ℕ) (asking : Asking) (order : Order) → setting.depth ≡ 1 → Working setting past
         → Speaks past ticket asking → Planned setting past ticket order → MayWriteNext setting past order → Kept setting (wrote setting past ticket order) }
@@ -77,7 +78,7 @@ pub fn an_answer_comes()
 {}
 
 /// A hub that works may stop where nothing more is due and something is waited for: where no ticket is live, where the active
-/// one has not begun and another message is unanswered, and, at depth 1, where the active one waits.
+/// one has not begun and another message is unanswered, where its plan has nothing more, and, at depth 1, where it waits.
 pub fn a_hub_waits()
     ensures rests { (setting : Setting) (past : Past) → Working setting past → ((ticket : ℕ) (order : Order) → Planned setting past ticket order → ⊥)
         → Waits past → Kept setting past }
@@ -85,6 +86,8 @@ pub fn a_hub_waits()
         → Kept setting past }
     ensures queued { (setting : Setting) (past : Past) (ticket : ℕ) → Working setting past → active past ≡ Some ticket → is_begun ticket past ≡ false
         → busy (outstanding past) ≢ [] → Kept setting past }
+    ensures planned { (setting : Setting) (past : Past) (ticket : ℕ) → Working setting past → active past ≡ Some ticket → is_begun ticket past ≡ true
+        → planned setting ticket (asking_of ticket past) past ≡ None → awaits ticket past ≢ [] → busy (outstanding past) ≢ [] → Kept setting past }
     ensures waiting { (setting : Setting) (past : Past) (ticket : ℕ) (asking : Asking) → setting.depth ≡ 1 → Working setting past → active past ≡ Some ticket
         → is_begun ticket past ≡ true → Speaks past ticket asking → awaits ticket past ≢ [] → busy (outstanding past) ≢ [] → Kept setting past }
 {}
@@ -115,4 +118,20 @@ pub fn a_ticket_stays_clean()
     ensures settles { (past : Past) (ticket other : ℕ) (split : Bool) (outcome : Outcome) → IsClean past ticket split
         → IsClean (Settled other outcome ∷ past) ticket split }
     ensures recovered { (past : Past) (ticket : ℕ) → IsClean past ticket false → owed (pieces ticket past) (overs ticket past) ≡ None → AreRecovered past }
+{}
+
+/// A status read: which submit of it is due, and a packet that comes while it is active.
+pub fn a_status_read_goes_on()
+    ensures due { (setting : Setting) (past : Past) (ticket : ℕ) (asking : Asking) (order : Order) → active past ≡ Some ticket → reached ticket past ≡ None
+        → asking_of ticket past ≡ Some asking → is_status_kind asking.kind ≡ true
+        → MatchBool (is_begun ticket past) (When setting (pieces ticket past) (awaits ticket past) order) (Begins past)
+        → status_order setting ticket past ≡ Some order → Planned setting past ticket order }
+    ensures goes_on { (setting : Setting) (past : Past) (ticket : ℕ) (sent : Sent) (head : RetSubmitHead) (bytes : List ℕ) → Kept setting past
+        → ended past ≡ None → Notifies setting past ticket sent head bytes → made_at setting ticket past (Took (down.RetSubmit head bytes)) ≡ None
+        → reached ticket past ≡ None → end_due (took past head bytes) ≡ None → unlinks_due setting (ended past) (took past head bytes) ≡ []
+        → Working setting (took past head bytes) }
+    ensures settles { (setting : Setting) (past : Past) (ticket : ℕ) (sent : Sent) (outcome : Outcome) (head : RetSubmitHead) (bytes : List ℕ)
+        → Kept setting past → ended past ≡ None → Notifies setting past ticket sent head bytes
+        → made_at setting ticket past (Took (down.RetSubmit head bytes)) ≡ Some outcome → end_due (took past head bytes) ≡ None
+        → unlinks_due setting (ended past) (Settled ticket outcome ∷ took past head bytes) ≡ [] → Working setting (Settled ticket outcome ∷ took past head bytes) }
 {}

@@ -4,7 +4,9 @@ ghost use Rattle.std.specs.Prelude.{◌≡◌, ◌++◌, [], ◌∷◌, Some, co
 ghost use Rattle.host_hub.specs.declared.outcome.End.TheVariants as end;
 ghost use Rattle.host_hub.specs.declared.outcome.Outcome.TheVariants as outcome;
 ghost use Rattle.host_hub.specs.Book.{outcome_of};
-ghost use Rattle.host_hub.specs.Hand.{ended};
+ghost use Rattle.host_hub.specs.Hand.{ended, start};
+ghost use Rattle.host_hub.specs.Status.{poll, service};
+ghost use Rattle.host_hub.specs.WorkedStatus.{status_record};
 ghost use Rattle.host_hub.specs.Law.{Kept};
 ghost use Rattle.host_hub.specs.Pieces.{got};
 ghost use Rattle.host_hub.specs.Plan.{message_end};
@@ -98,4 +100,14 @@ pub fn a_command_has_no_response()
     ensures complete { outcome_of 2 unanswered_record ≡ outcome.Complete }
     ensures bytes { got 2 unanswered_record ≡ codes "132" ++ 10 ∷ [] }
     ensures last { message_end 2 unanswered_record ≡ 8 }
+{}
+
+/// A status read whose packet comes before its answer, behind a request for service, which is counted.
+pub fn a_status_is_read()
+    ensures kept { Kept setting status_record }
+    ensures done { outcome_of 1 status_record ≡ outcome.Done }
+    ensures outcome { outcome_of 2 status_record ≡ outcome.Status 0x50 }
+    ensures service { service status_record ≡ record { count = 1; last = Some 0x50 } }
+    ensures poll { poll 2 status_record ≡ 3 }
+    ensures start { start 2 status_record ≡ 2 }
 {}
