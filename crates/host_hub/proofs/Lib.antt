@@ -19,3 +19,4 @@ pub mod Rows
 pub mod WorkedAsks
 pub mod WorkedStops
 pub mod WorkedStatus
+pub mod WorkedWrong

@@ -84,7 +84,7 @@ race_kept =
 
 -- or it does not, and the response is aborted
 
-in_word : Has (words_of (need.In 2)) (Asked (class.AbortIn 2) Success ∷ Drained Short ∷ Asked class.CheckIn Success ∷ [])
+pub in_word : Has (words_of (need.In 2)) (Asked (class.AbortIn 2) Success ∷ Drained Short ∷ Asked class.CheckIn Success ∷ [])
 in_word = inr (inr (inr (
   Asked (class.AbortIn 2) Success ∷ [],
   Drained Short ∷ Asked class.CheckIn Success ∷ [],

@@ -27,3 +27,4 @@ pub mod Owned
 pub mod Worked
 pub mod WorkedStops
 pub mod WorkedStatus
+pub mod WorkedWrong

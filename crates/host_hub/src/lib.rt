@@ -11,6 +11,7 @@ mod laws;
 mod limits;
 mod outcome;
 mod refusals;
+pub mod refused;
 mod service;
 mod steps;
 mod stops;
