@@ -20,3 +20,4 @@ pub mod WorkedAsks
 pub mod WorkedStops
 pub mod WorkedStatus
 pub mod WorkedWrong
+pub mod Tying

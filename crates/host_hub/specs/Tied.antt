@@ -14,7 +14,7 @@ use Rattle.host_urbs.specs.Record as urbs
 use Rattle.host_hub.specs.declared.outcome.End.{End}
 use Rattle.host_hub.specs.declared.outcome.End.TheVariants as end
 use Rattle.host_hub.specs.Order.{Setting}
-use Rattle.host_hub.specs.Record.{Happening, Past, Took, Fell, Stopped, written}
+use Rattle.host_hub.specs.Record.{Happening, Past, Wrote, Took, Fell, Stopped, written}
 use Rattle.host_hub.specs.Crossings.{crossings}
 use Rattle.host_hub.specs.Hand.{ended}
 use Rattle.host_hub.specs.Calls.{All, IsOfTurn}
@@ -130,3 +130,10 @@ pub record AddsTurn (s : Setting) (past : Past) (count : ℕ) (rest : List ℕ) 
   pub failed : (stopped more ≡ Some end.LinkFault) ↔ (said ≡ Failed)
   pub closed : (stopped more ≡ Some end.Unplugged) ↔ (said ≡ Closed)
   pub refused : (f : Field) → stopped more ≡ Some (end.PeerFault f) → IsRefused s (more ++ past) count rest f
+
+-- neither a message nor an answer
+abbrev pub MovesNothing : Happening → Type 0
+MovesNothing (Wrote number owner order) = ⊥
+MovesNothing (Took answer) = ⊥
+MovesNothing (Fell answer e) = ⊥
+MovesNothing x = Unit {0}

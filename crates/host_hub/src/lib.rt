@@ -16,6 +16,7 @@ mod service;
 mod steps;
 mod stops;
 mod ticket;
+mod ties;
 mod view;
 pub mod worked;
 
@@ -44,4 +45,5 @@ pub use stops::{
     a_hand_is_over, a_recovery_goes_on, a_stopped_ticket_settles, an_active_ticket_is_stopped,
     an_unlink_is_answered,
 };
+pub use ties::records_are_tied;
 pub use view::View;
