@@ -27,7 +27,7 @@ use Rattle.host_hub.proofs.Pasts.{unbegun_free}
 
 -- ---- a ticket that has not begun has no submit that is over
 
-found_free : (t n : ℕ) (xs : List Sent) (x : Sent) → involved t false xs ≡ [] → find n xs ≡ Some x → is_of t x.owner ≡ false
+pub found_free : (t n : ℕ) (xs : List Sent) (x : Sent) → involved t false xs ≡ [] → find n xs ≡ Some x → is_of t x.owner ≡ false
 found_free t n [] x h e = cc
 found_free t n (y ∷ ys) x h e = step (found_free t n ys x) (is_of t y.owner) refl h (y.number == n) e
   where

@@ -21,3 +21,4 @@ pub mod WorkedStops
 pub mod WorkedStatus
 pub mod WorkedWrong
 pub mod Tying
+pub mod Within

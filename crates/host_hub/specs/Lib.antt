@@ -28,3 +28,4 @@ pub mod Worked
 pub mod WorkedStops
 pub mod WorkedStatus
 pub mod WorkedWrong
+pub mod Sentences
