@@ -22,3 +22,4 @@ pub mod WorkedStatus
 pub mod WorkedWrong
 pub mod Tying
 pub mod Within
+pub mod Outcomes
