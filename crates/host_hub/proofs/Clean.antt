@@ -82,7 +82,7 @@ serves_none (Class request) = by request
     by request = refl
 serves_none order = refl
 
-submits : (t : ℕ) (order : Order) → is_unlink order ≡ false → is_ticket_submit (Of t) order ≡ true
+pub submits : (t : ℕ) (order : Order) → is_unlink order ≡ false → is_ticket_submit (Of t) order ≡ true
 submits t (Unlink target) h = clash (sym h)
 submits t order h = refl
 

@@ -223,7 +223,7 @@ due_first s past n rest h = by (ended past) (in_hand past) h
 
 -- it is found there
 
-in_found : (n : ℕ) (xs : List Sent) (x : Sent) → Below n xs → IsIn x xs → find x.number xs ≡ Some x
+pub in_found : (n : ℕ) (xs : List Sent) (x : Sent) → Below n xs → IsIn x xs → find x.number xs ≡ Some x
 in_found n [] x b h = absurd h
 in_found n (y ∷ ys) x b (inl e) = rw e (rw (own y.number) refl)
 in_found n (y ∷ ys) x b (inr e) =

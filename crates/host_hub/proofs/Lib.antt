@@ -23,3 +23,4 @@ pub mod WorkedWrong
 pub mod Tying
 pub mod Within
 pub mod Outcomes
+pub mod Fronts

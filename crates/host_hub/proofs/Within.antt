@@ -200,7 +200,7 @@ read_within head bytes piece earlier h counts =
     step false e k = subst (λ (c : Bool). (if c then first_fault (transfer_faults (extended head bytes piece)) else None) ≡ None) counts k
 
 -- an answer that does not end the hub has no refused field
-not_refused : (s : Setting) (past : Past) (x : Sent) (head : RetSubmitHead) (bytes : List ℕ) → submit_ends s (Some x) past head bytes ≡ None → owned_ends s x.owner x.order past head bytes ≡ None
+pub not_refused : (s : Setting) (past : Past) (x : Sent) (head : RetSubmitHead) (bytes : List ℕ) → submit_ends s (Some x) past head bytes ≡ None → owned_ends s x.owner x.order past head bytes ≡ None
 not_refused s past x head bytes h = step (comes_early s.ends x x.owner (outstanding past)) (is_gone head.status) h
   where
     step : (b c : Bool) → (if b then Some (end.PeerFault number_field) else if c then Some end.Unplugged else owned_ends s x.owner x.order past head bytes) ≡ None

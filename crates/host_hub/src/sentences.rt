@@ -8,8 +8,15 @@ ghost use Rattle.host_hub.specs.Record.{Asking, Past};
 ghost use Rattle.host_hub.specs.Book.{asking_of, settled};
 ghost use Rattle.host_hub.specs.Sentences.{MaySettleAs};
 ghost use Rattle.host_hub.specs.declared.outcome.Outcome.{Outcome};
-ghost use Rattle.host_hub.specs.Law.{Lawful};
+ghost use Rattle.host_recover.specs.declared.need.Need.{Need};
+ghost use Rattle.host_recover.specs.Words.{Begins, words_of};
+ghost use Rattle.host_hub.specs.Hand.{in_hand};
+ghost use Rattle.host_hub.specs.Letters.{letters};
+ghost use Rattle.host_hub.specs.Recovery.{running};
+ghost use Rattle.host_hub.specs.Law.{IsHandOver, Lawful};
 ghost use Rattle.host_hub.specs.Pieces.{got};
+
+use host_recover::{each_answer_goes_on, each_recovery_has_a_word};
 
 /// The bytes of a ticket never pass its limit, and a ticket that is no ask has none.
 pub fn bytes_keep_the_limit()
@@ -24,3 +31,13 @@ pub fn outcomes_go_by_kind()
     ensures { (setting : Setting) (past : Past) (ticket : ℕ) (asking : Asking) (outcome : Outcome) → Lawful setting past → asking_of ticket past ≡ Some asking
         → settled ticket past ≡ Some outcome → MaySettleAs asking.kind outcome }
 {}
+
+/// The letters of a recovery that runs begin a word of it, whatever was answered; and while one runs, the ticket in hand is
+/// settled.
+pub fn recoveries_begin_their_words()
+    ensures front { (setting : Setting) (past : Past) (need : Need) → Lawful setting past → running past ≡ Some need → Begins (words_of need) (letters past) }
+    ensures over { (setting : Setting) (past : Past) (need : Need) → Lawful setting past → running past ≡ Some need → IsHandOver (in_hand past) past }
+{
+    each_answer_goes_on();
+    each_recovery_has_a_word();
+}

@@ -3,3 +3,4 @@ pub mod Leads
 pub mod Lefts
 pub mod Words
 pub mod Next
+pub mod Some

@@ -29,6 +29,11 @@ pub fn each_answer_goes_on()
         → submit_of answer ≡ submit_of letter → GoesOn answer → Begins (words_of called) (letters ++ answer ∷ []) }
 {}
 
+/// Each recovery can be made: it has a word.
+pub fn each_recovery_has_a_word()
+    ensures { (called : Need) → Begins (words_of called) [] }
+{}
+
 /// A whole word does not go on, and no recovery is whole before its first submit.
 pub fn a_whole_word_ends()
     ensures whole { (called : Need) (letters : List Letter) (letter : Letter) → Has (words_of called) letters → Begins (words_of called) (letters ++ letter ∷ []) → ⊥ }
