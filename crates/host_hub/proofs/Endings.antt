@@ -60,7 +60,7 @@ live_rising s (Asked t a ∷ past) h =
 live_rising s (Settled t o ∷ past) h = rising_removed t (live past) (live_rising s past h.0)
 live_rising s (x ∷ past) h = live_rising s past h.0
 
-above_has : (x u : ℕ) (ts : List ℕ) → AreAbove x ts → has u ts ≡ true → x < u
+pub above_has : (x u : ℕ) (ts : List ℕ) → AreAbove x ts → has u ts ≡ true → x < u
 above_has x u [] h e = clash e
 above_has x u (y ∷ ys) h e = step (above_has x u ys h.1) (or_cases (y == u) _ e)
   where

@@ -24,3 +24,4 @@ pub mod Tying
 pub mod Within
 pub mod Outcomes
 pub mod Fronts
+pub mod Starts

@@ -1,7 +1,7 @@
 //! What a reader can check of a hub: sentences that follow from its laws. Each function does nothing, and its contract is the
 //! law.
 
-ghost use Rattle.std.specs.Prelude.{◌≡◌, ◌≤◌, ℕ, Some, [], length};
+ghost use Rattle.std.specs.Prelude.{◌≡◌, ◌≢◌, ◌<◌, ◌≤◌, ℕ, true, Some, [], length};
 ghost use Rattle.host_hub.specs.declared.kind.Kind.TheVariants as kind;
 ghost use Rattle.host_hub.specs.Order.{Setting};
 ghost use Rattle.host_hub.specs.Record.{Asking, Past};
@@ -10,7 +10,7 @@ ghost use Rattle.host_hub.specs.Sentences.{MaySettleAs};
 ghost use Rattle.host_hub.specs.declared.outcome.Outcome.{Outcome};
 ghost use Rattle.host_recover.specs.declared.need.Need.{Need};
 ghost use Rattle.host_recover.specs.Words.{Begins, words_of};
-ghost use Rattle.host_hub.specs.Hand.{in_hand};
+ghost use Rattle.host_hub.specs.Hand.{in_hand, is_begun, start};
 ghost use Rattle.host_hub.specs.Letters.{letters};
 ghost use Rattle.host_hub.specs.Recovery.{running};
 ghost use Rattle.host_hub.specs.Law.{IsHandOver, Lawful};
@@ -41,3 +41,11 @@ pub fn recoveries_begin_their_words()
     each_answer_goes_on();
     each_recovery_has_a_word();
 }
+
+/// A ticket has a start exactly where something was written for it, and the starts that are not 0 rise with the tickets.
+pub fn tickets_begin_in_order()
+    ensures rise { (setting : Setting) (past : Past) (ticket other : ℕ) → Lawful setting past → ticket < other → start ticket past ≢ 0 → start other past ≢ 0
+        → start ticket past < start other past }
+    ensures begun { (setting : Setting) (past : Past) (ticket : ℕ) → Lawful setting past → 1 ≤ setting.first → is_begun ticket past ≡ true → start ticket past ≢ 0 }
+    ensures started { (past : Past) (ticket : ℕ) → start ticket past ≢ 0 → is_begun ticket past ≡ true }
+{}
