@@ -171,7 +171,7 @@ from_busy x (y ∷ ys) h = step (is_listen y.order) (from_busy x ys) h
     step true again k = inr (again k)
     step false again k = kept again k
 
-found_in : (n : ℕ) (xs : List Sent) (x : Sent) → find n xs ≡ Some x → IsIn x xs × (x.number ≡ n)
+pub found_in : (n : ℕ) (xs : List Sent) (x : Sent) → find n xs ≡ Some x → IsIn x xs × (x.number ≡ n)
 found_in n [] x e = cc
 found_in n (y ∷ ys) x e = step (y.number == n) refl e (found_in n ys x)
   where

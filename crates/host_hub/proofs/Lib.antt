@@ -25,3 +25,4 @@ pub mod Within
 pub mod Outcomes
 pub mod Fronts
 pub mod Starts
+pub mod Views

@@ -47,10 +47,10 @@ begun_low s (x ∷ past) h t u begun lives = begun_low s past h.0 t u begun live
 
 -- ---- its start is below the next number
 
-first_least_next : (s : Setting) (past : Past) → s.first ≤ next s.first past
-first_least_next s [] = omega arith
-first_least_next s (Wrote n o k ∷ past) = omega (arith, first_least_next s past)
-first_least_next s (x ∷ past) = first_least_next s past
+pub first_next : (s : Setting) (past : Past) → s.first ≤ next s.first past
+first_next s [] = omega arith
+first_next s (Wrote n o k ∷ past) = omega (arith, first_next s past)
+first_next s (x ∷ past) = first_next s past
 
 start_below : (s : Setting) (past : Past) → Lawful s past → (t : ℕ) → is_begun t past ≡ true → (s.first ≤ start t past) × (start t past < next s.first past)
 start_below s [] h t begun = clash begun
@@ -61,7 +61,7 @@ start_below s (Wrote n (Of v) k ∷ past) h t begun = step (v == t) refl (is_beg
 
     step : (b : Bool) → (v == t) ≡ b → (c : Bool) → is_begun t past ≡ c → (c ≡ true → (s.first ≤ start t past) × (start t past < next s.first past)) → b || c ≡ true
         → (s.first ≤ (if b && not c then n else start t past)) × ((if b && not c then n else start t past) < next s.first past + 1)
-    step true f false g again k = (omega (arith, e, first_least_next s past), omega (arith, e))
+    step true f false g again k = (omega (arith, e, first_next s past), omega (arith, e))
     step true f true g again k = let r = again refl in (r.0, omega (arith, r.1))
     step false f true g again k = let r = again refl in (r.0, omega (arith, r.1))
     step false f false g again k = clash k

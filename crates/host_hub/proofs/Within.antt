@@ -90,7 +90,7 @@ abbrev Fits : (limit : ℕ) → List Piece → Type 0
 Fits limit [] = Unit {0}
 Fits limit (piece ∷ earlier) = (length (data_in earlier) + piece.size ≤ limit) × (length (data_of piece.bytes) ≤ piece.size) × Fits limit earlier
 
-abbrev OfAsk : Kind → List Piece → Type 0
+abbrev pub OfAsk : Kind → List Piece → Type 0
 OfAsk which [] = Unit {0}
 OfAsk which (piece ∷ earlier) = which ≡ kind.Ask
 
