@@ -1,58 +1,11 @@
 -- tickets and their outcomes
-use Rattle.std.proofs.Common.{◌≡◌, ◌≢◌, ◌⊎◌, ℕ, ◌+◌, ◌≤◌, ◌||◌, Bool, true, false, List, [], ◌∷◌, ◌++◌, Some, inl, inr, refl, sym, subst, ◌∙◌, arith}
+use Rattle.std.proofs.Common.{◌≡◌, ◌≢◌, ◌⊎◌, ℕ, ◌+◌, ◌≤◌, Bool, true, false, [], ◌∷◌, ◌++◌, Some, inl, inr, refl, sym, subst, arith}
 use Rattle.std.specs.Prelude.{◌==◌, if◌then◌else◌}
-use Rattle.std.proofs.lemmas.Bool.{eqb-true, eqb-false}
+use Rattle.std.proofs.lemmas.Bool.{eqb-true}
 use Rattle.host_hub.specs.declared.outcome.Outcome.{Outcome}
 use Rattle.host_hub.specs.Record.{Past, Asked, Settled}
-use Rattle.host_hub.specs.Book.{has, remove, live, tickets, settled, KeepsBook}
-
-clash : {P : Type 0} → false ≡ true → P
-clash e = absurd (no e)
-  where
-    no : false ≡ true → ⊥
-    no h = cc
-
-or_cases : (a b : Bool) → a || b ≡ true → (a ≡ true) ⊎ (b ≡ true)
-or_cases true b h = inl refl
-or_cases false b h = inr h
-
-or_left : (a b : Bool) → a ≡ true → a || b ≡ true
-or_left a b e = rw e refl
-
-or_right : (a b : Bool) → b ≡ true → a || b ≡ true
-or_right true b e = refl
-or_right false b e = e
-
-or_false : (b : Bool) → b || false ≡ b
-or_false true = refl
-or_false false = refl
-
-has_added : (u t : ℕ) (ts : List ℕ) → has u (ts ++ t ∷ []) ≡ true → (has u ts ≡ true) ⊎ (t ≡ u)
-has_added u t [] h = inr (eqb-true t u (sym (or_false (t == u)) ∙ h))
-has_added u t (x ∷ xs) h = step (has_added u t xs) (or_cases (x == u) _ h)
-  where
-    rest : (has u xs ≡ true) ⊎ (t ≡ u) → (has u (x ∷ xs) ≡ true) ⊎ (t ≡ u)
-    rest (inl e) = inl (or_right _ _ e)
-    rest (inr e) = inr e
-
-    step : (has u (xs ++ t ∷ []) ≡ true → (has u xs ≡ true) ⊎ (t ≡ u)) → ((x == u) ≡ true) ⊎ (has u (xs ++ t ∷ []) ≡ true)
-        → (has u (x ∷ xs) ≡ true) ⊎ (t ≡ u)
-    step again (inl e) = inl (or_left _ _ e)
-    step again (inr e) = rest (again e)
-
-has_removed : (u t : ℕ) (ts : List ℕ) → has u (remove t ts) ≡ true → (has u ts ≡ true) × (u ≢ t)
-has_removed u t [] h = clash h
-has_removed u t (x ∷ xs) h = step (has_removed u t xs) (x == t) refl h
-  where
-    behind : (has u (remove t xs) ≡ true → (has u xs ≡ true) × (u ≢ t)) → ((x == u) ≡ true) ⊎ (has u (remove t xs) ≡ true) → (x == t) ≡ false
-        → (has u (x ∷ xs) ≡ true) × (u ≢ t)
-    behind again (inl e) other = (or_left _ _ e, λ k. eqb-false x t other (eqb-true x u e ∙ k))
-    behind again (inr e) other = let k = again e in (or_right _ _ k.0, k.1)
-
-    step : (has u (remove t xs) ≡ true → (has u xs ≡ true) × (u ≢ t)) → (b : Bool) → (x == t) ≡ b
-        → has u (if b then remove t xs else x ∷ remove t xs) ≡ true → (has u (x ∷ xs) ≡ true) × (u ≢ t)
-    step again true e k = let r = again k in (or_right _ _ r.0, r.1)
-    step again false e k = behind again (or_cases (x == u) _ k) e
+use Rattle.host_hub.specs.Book.{has, live, tickets, settled, KeepsBook}
+use Rattle.host_hub.proofs.Lists.{clash, has_added, has_removed}
 
 -- ---- live tickets were asked
 

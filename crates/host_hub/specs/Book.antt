@@ -4,6 +4,11 @@ use Rattle.host_hub.specs.declared.outcome.Outcome.{Outcome}
 use Rattle.host_hub.specs.declared.outcome.Outcome.TheVariants.{Live}
 use Rattle.host_hub.specs.Record.{Happening, Past, Asked, Cancelled, GaveUp, Settled, Asking}
 
+-- the first of two that there is
+abbrev pub or_else : {A : Type 0} → Option A → Option A → Option A
+or_else (Some a) other = Some a
+or_else None other = other
+
 abbrev pub first_of : {A : Type 0} → List A → Option A
 first_of [] = None
 first_of (x ∷ xs) = Some x
@@ -35,6 +40,9 @@ living _ ts = ts
 abbrev pub live : Past → List ℕ
 live [] = []
 live (x ∷ past) = living x (live past)
+
+abbrev pub is_live : ℕ → Past → Bool
+is_live t past = has t (live past)
 
 -- the first of them is the active one
 abbrev pub active : Past → Option ℕ

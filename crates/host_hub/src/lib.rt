@@ -3,15 +3,49 @@
 //! The functions of `laws` do nothing: their contracts say what holds of the definitions in `specs/`.
 #![tactic(auto)]
 
+mod answers;
 mod book;
+mod facts;
 mod kind;
 mod laws;
+mod limits;
 mod outcome;
+mod refusals;
+pub mod refused;
+mod sentences;
+mod service;
+mod steps;
+mod stops;
+mod ticket;
+mod ties;
+mod view;
+pub mod worked;
 
-pub use book::BookEntry;
+pub use answers::{CancelAnswer, DropAnswer, Turn};
+pub use book::{Book, BookEntry};
+pub use facts::{
+    books_are_kept, each_outcome_has_its_cause, recoveries_are_made, something_is_waited_for,
+    traffic_is_planned, unlinks_are_due,
+};
 pub use kind::Kind;
 pub use laws::{
-    a_settled_outcome_stays, messages_are_crossings, orders_have_their_numbers,
-    tickets_are_numbered, what_happened_stays,
+    a_settled_outcome_stays, answers_may_come, messages_are_crossings, messages_are_lawful,
+    messages_may_be_written, orders_have_their_numbers, tickets_are_numbered, what_happened_stays,
+};
+pub use limits::{
+    LAST_ASK, LIMIT_MAX, LIMITS_MAX, MAX_DEPTH, MESSAGE_MAX, SESSIONS, TICKETS_MAX,
+    hub_limits_are_the_products,
 };
 pub use outcome::{End, Outcome};
+pub use refusals::{AskFault, ClearFault};
+pub use sentences::{bytes_keep_the_limit, outcomes_go_by_kind, recoveries_begin_their_words, tickets_begin_in_order};
+pub use service::Service;
+pub use steps::{
+    a_hub_ends, a_hub_waits, a_status_read_goes_on, a_submit_is_due, a_submit_is_written, a_ticket_is_asked, a_ticket_stays_clean, an_answer_comes,
+};
+pub use stops::{
+    a_hand_is_over, a_recovery_goes_on, a_stopped_ticket_settles, an_active_ticket_is_stopped,
+    an_unlink_is_answered,
+};
+pub use ties::records_are_tied;
+pub use view::View;

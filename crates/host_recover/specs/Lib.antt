@@ -1,3 +1,5 @@
 pub mod Letter
 pub mod Words
 pub mod Goes
+pub mod Next
+pub mod Want

@@ -1,10 +1,11 @@
 //! What holds of the words of a recovery. Each function does nothing, and its contract is the law.
 
-ghost use Rattle.std.specs.Prelude.{◌≡◌, ℕ, true, false, List, [], ◌∷◌, ◌++◌};
+ghost use Rattle.std.specs.Prelude.{◌≡◌, ℕ, Bool, true, false, List, [], ◌∷◌, ◌++◌};
 ghost use Rattle.host_recover.specs.declared.need.Need.{Need};
 ghost use Rattle.host_recover.specs.declared.need.Need.TheVariants as need;
 ghost use Rattle.host_recover.specs.Goes.{GoesOn, AreOfOne};
-ghost use Rattle.host_recover.specs.Letter.{Letter, Asked, Cleared, Drained, submit_of, Success, Pending, Queued, Failed, Otherwise, Full, Short, Faulty, BulkIn, Notify, BulkOut};
+ghost use Rattle.host_recover.specs.Letter.{Letter, Asked, Cleared, Drained, Submit, submit_of, Success, Pending, Queued, Failed, Otherwise, Full, Short, Faulty, BulkIn, Notify, BulkOut};
+ghost use Rattle.host_recover.specs.Next.{IsNext};
 ghost use Rattle.host_recover.specs.Words.{Has, Begins, words_of};
 ghost use Rattle.tmc_wire.specs.declared.class_request.ClassRequest.TheVariants as class;
 
@@ -15,11 +16,22 @@ pub fn the_next_submit_is_determined()
         → Begins (words_of called) (letters ++ other ∷ []) → AreOfOne letter other }
 {}
 
+/// By which halts were seen, the next submit is one.
+pub fn the_next_submit_is_one()
+    ensures { (called : Need) (letters : List Letter) (in_halted notify_halted : Bool) (submit other : Submit)
+        → IsNext called letters in_halted notify_halted submit → IsNext called letters in_halted notify_halted other → submit ≡ other }
+{}
+
 /// Where a submit may come, a recovery goes on with each answer to it, whatever its status and its second byte, but for a
 /// clear that the device refuses.
 pub fn each_answer_goes_on()
     ensures { (called : Need) (letters : List Letter) (letter answer : Letter) → Begins (words_of called) (letters ++ letter ∷ [])
         → submit_of answer ≡ submit_of letter → GoesOn answer → Begins (words_of called) (letters ++ answer ∷ []) }
+{}
+
+/// Each recovery can be made: it has a word.
+pub fn each_recovery_has_a_word()
+    ensures { (called : Need) → Begins (words_of called) [] }
 {}
 
 /// A whole word does not go on, and no recovery is whole before its first submit.

@@ -1,0 +1,22 @@
+-- what each reader can check of a hub against its lists and marks alone
+use Rattle.std.specs.Prelude.{ℕ}
+use Rattle.host_hub.specs.declared.kind.Kind.{Kind}
+use Rattle.host_hub.specs.declared.kind.Kind.TheVariants as kind
+use Rattle.host_hub.specs.declared.outcome.Outcome.{Outcome}
+use Rattle.host_hub.specs.declared.outcome.Outcome.TheVariants as outcome
+
+-- Which outcomes a settled ticket may have, by its kind. A cancel, a clear, a halt, a fault and each end of the hub come to
+-- any.
+abbrev pub MaySettleAs : Kind → Outcome → Type 0
+MaySettleAs kind outcome.Live = ⊥
+MaySettleAs kind.Ask outcome.Complete = Unit {0}
+MaySettleAs kind.Ask outcome.Limit = Unit {0}
+MaySettleAs kind outcome.Complete = ⊥
+MaySettleAs kind outcome.Limit = ⊥
+MaySettleAs kind.Tell outcome.Done = Unit {0}
+MaySettleAs kind.Trigger outcome.Done = Unit {0}
+MaySettleAs (kind.Remote act) outcome.Done = Unit {0}
+MaySettleAs kind outcome.Done = ⊥
+MaySettleAs kind.Status (outcome.Status byte) = Unit {0}
+MaySettleAs kind (outcome.Status byte) = ⊥
+MaySettleAs kind other = Unit {0}

@@ -1,0 +1,51 @@
+//! What a reader can check of a hub: sentences that follow from its laws. Each function does nothing, and its contract is the
+//! law.
+
+ghost use Rattle.std.specs.Prelude.{◌≡◌, ◌≢◌, ◌<◌, ◌≤◌, ℕ, true, Some, [], length};
+ghost use Rattle.host_hub.specs.declared.kind.Kind.TheVariants as kind;
+ghost use Rattle.host_hub.specs.Order.{Setting};
+ghost use Rattle.host_hub.specs.Record.{Asking, Past};
+ghost use Rattle.host_hub.specs.Book.{asking_of, settled};
+ghost use Rattle.host_hub.specs.Sentences.{MaySettleAs};
+ghost use Rattle.host_hub.specs.declared.outcome.Outcome.{Outcome};
+ghost use Rattle.host_recover.specs.declared.need.Need.{Need};
+ghost use Rattle.host_recover.specs.Words.{Begins, words_of};
+ghost use Rattle.host_hub.specs.Hand.{in_hand, is_begun, start};
+ghost use Rattle.host_hub.specs.Letters.{letters};
+ghost use Rattle.host_hub.specs.Recovery.{running};
+ghost use Rattle.host_hub.specs.Law.{IsHandOver, Lawful};
+ghost use Rattle.host_hub.specs.Pieces.{got};
+
+use host_recover::{each_answer_goes_on, each_recovery_has_a_word};
+
+/// The bytes of a ticket never pass its limit, and a ticket that is no ask has none.
+pub fn bytes_keep_the_limit()
+    ensures within { (setting : Setting) (past : Past) (ticket : ℕ) (asking : Asking) → Lawful setting past → asking_of ticket past ≡ Some asking
+        → length (got ticket past) ≤ asking.limit }
+    ensures asks { (setting : Setting) (past : Past) (ticket : ℕ) (asking : Asking) → Lawful setting past → asking_of ticket past ≡ Some asking
+        → (asking.kind ≡ kind.Ask → ⊥) → got ticket past ≡ [] }
+{}
+
+/// Which outcomes come of which kind.
+pub fn outcomes_go_by_kind()
+    ensures { (setting : Setting) (past : Past) (ticket : ℕ) (asking : Asking) (outcome : Outcome) → Lawful setting past → asking_of ticket past ≡ Some asking
+        → settled ticket past ≡ Some outcome → MaySettleAs asking.kind outcome }
+{}
+
+/// The letters of a recovery that runs begin a word of it, whatever was answered; and while one runs, the ticket in hand is
+/// settled.
+pub fn recoveries_begin_their_words()
+    ensures front { (setting : Setting) (past : Past) (need : Need) → Lawful setting past → running past ≡ Some need → Begins (words_of need) (letters past) }
+    ensures over { (setting : Setting) (past : Past) (need : Need) → Lawful setting past → running past ≡ Some need → IsHandOver (in_hand past) past }
+{
+    each_answer_goes_on();
+    each_recovery_has_a_word();
+}
+
+/// A ticket has a start exactly where something was written for it, and the starts that are not 0 rise with the tickets.
+pub fn tickets_begin_in_order()
+    ensures rise { (setting : Setting) (past : Past) (ticket other : ℕ) → Lawful setting past → ticket < other → start ticket past ≢ 0 → start other past ≢ 0
+        → start ticket past < start other past }
+    ensures begun { (setting : Setting) (past : Past) (ticket : ℕ) → Lawful setting past → 1 ≤ setting.first → is_begun ticket past ≡ true → start ticket past ≢ 0 }
+    ensures started { (past : Past) (ticket : ℕ) → start ticket past ≢ 0 → is_begun ticket past ≡ true }
+{}
