@@ -5,7 +5,7 @@ use Rattle.std.specs.Ordering.{int_eq}
 use Rattle.std.proofs.lemmas.Bool.{ltb-true, ltb-false}
 use Rattle.usbip_wire.specs.declared.ret_submit.RetSubmitHead.{RetSubmitHead}
 use Rattle.usbip_wire.specs.Down as down
-use Rattle.host_recover.specs.Letter.{status_success}
+use Rattle.tmc_wire.specs.ClassStatus.{STATUS_SUCCESS}
 use Rattle.host_transfers.specs.Piece.{eom_of}
 use Rattle.host_hub.specs.declared.kind.Kind.{Kind}
 use Rattle.host_hub.specs.declared.kind.Kind.TheVariants as kind
@@ -158,7 +158,7 @@ served_as kind.Trigger limit (Class request) bytes now = none_as kind.Trigger
 served_as kind.Trigger limit (ClearHalt endpoint) bytes now = none_as kind.Trigger
 served_as kind.Trigger limit (Unlink target) bytes now = none_as kind.Trigger
 served_as (kind.Remote act) limit (Class request) bytes now =
-    if_as (kind.Remote act) (slice_index bytes 0 == status_success) (Some outcome.Done) (Some (outcome.DeviceSays (slice_index bytes 0)))
+    if_as (kind.Remote act) (slice_index bytes 0 == STATUS_SUCCESS) (Some outcome.Done) (Some (outcome.DeviceSays (slice_index bytes 0)))
     (some_as (kind.Remote act) outcome.Done tt) (some_as (kind.Remote act) (outcome.DeviceSays (slice_index bytes 0)) tt)
 served_as (kind.Remote act) limit (Part tag text eom) bytes now = none_as (kind.Remote act)
 served_as (kind.Remote act) limit (Request tag size) bytes now = none_as (kind.Remote act)
@@ -169,7 +169,7 @@ served_as (kind.Remote act) limit (ClearHalt endpoint) bytes now = none_as (kind
 served_as (kind.Remote act) limit (Unlink target) bytes now = none_as (kind.Remote act)
 served_as kind.Status limit Listen bytes now = status_as now.is_said now.packet
 served_as kind.Status limit (Class request) bytes now =
-    if_as kind.Status (slice_index bytes 0 == status_success) (status_made now.is_said now.packet) (Some (outcome.DeviceSays (slice_index bytes 0)))
+    if_as kind.Status (slice_index bytes 0 == STATUS_SUCCESS) (status_made now.is_said now.packet) (Some (outcome.DeviceSays (slice_index bytes 0)))
     (status_as now.is_said now.packet) (some_as kind.Status (outcome.DeviceSays (slice_index bytes 0)) tt)
 served_as kind.Status limit (Part tag text eom) bytes now = none_as kind.Status
 served_as kind.Status limit (Request tag size) bytes now = none_as kind.Status

@@ -12,7 +12,7 @@ use Rattle.tmc_wire.specs.Standard.{header_size, dev_dep_msg_in}
 use Rattle.tmc_wire.specs.HeaderFault.{MsgID, bTag, bTagInverse, TransferSize}
 use Rattle.tmc_wire.specs.ClassAnswer.{answer_length}
 use Rattle.tmc_wire.specs.Short.{short_answer, short_packet}
-use Rattle.host_recover.specs.Letter.{status_success}
+use Rattle.tmc_wire.specs.ClassStatus.{STATUS_SUCCESS}
 use Rattle.host_hub.specs.Order.{Order, Read, Listen, Class, Setting, size_of}
 use Rattle.host_hub.specs.Record.{Past}
 use Rattle.host_hub.specs.Pieces.{Piece, pieces, extended, does_count}
@@ -72,7 +72,7 @@ answer_fault request bytes = if nat_lt (length bytes) (answer_length request) th
 
 -- a status request is answered with success and another tag
 abbrev pub other_tag : ClassRequest → List ℕ → Bool
-other_tag (class.ReadStatus tag) bytes = (slice_index bytes 0 == status_success) && not (slice_index bytes 1 == tag)
+other_tag (class.ReadStatus tag) bytes = (slice_index bytes 0 == STATUS_SUCCESS) && not (slice_index bytes 1 == tag)
 other_tag request bytes = false
 
 abbrev pub class_fault : ClassRequest → List ℕ → Option Field

@@ -3,7 +3,7 @@ use Rattle.std.specs.Prelude.{ℕ, ℤ, pos, neg_ℤ, ◌==◌, Bool, true, not,
 use Rattle.std.specs.Ordering.{int_eq}
 use Rattle.usbip_wire.specs.declared.ret_submit.RetSubmitHead.{RetSubmitHead}
 use Rattle.usbip_wire.specs.Down as down
-use Rattle.host_recover.specs.Letter.{status_success}
+use Rattle.tmc_wire.specs.ClassStatus.{STATUS_SUCCESS}
 use Rattle.host_transfers.specs.Piece.{eom_of}
 use Rattle.host_hub.specs.declared.kind.Kind.{Kind}
 use Rattle.host_hub.specs.declared.kind.Kind.TheVariants as kind
@@ -31,7 +31,7 @@ piece_made limit (piece ∷ earlier) =
 
 -- a class request was answered with this status
 abbrev pub said : (status : ℕ) → Option Outcome
-said status = if status == status_success then Some outcome.Done else Some (outcome.DeviceSays status)
+said status = if status == STATUS_SUCCESS then Some outcome.Done else Some (outcome.DeviceSays status)
 
 -- a status read has its answer and its packet
 abbrev pub status_made : (is_said : Bool) → Option ℕ → Option Outcome
@@ -52,7 +52,7 @@ served kind.Trigger limit (Trigger tag) bytes now = Some outcome.Done
 served (kind.Remote act) limit (Class request) bytes now = said (slice_index bytes 0)
 served kind.Status limit Listen bytes now = status_made now.is_said now.packet
 served kind.Status limit (Class request) bytes now =
-    if slice_index bytes 0 == status_success then status_made now.is_said now.packet else Some (outcome.DeviceSays (slice_index bytes 0))
+    if slice_index bytes 0 == STATUS_SUCCESS then status_made now.is_said now.packet else Some (outcome.DeviceSays (slice_index bytes 0))
 served kind limit order bytes now = None
 
 -- a submit that concerns the ticket was answered

@@ -5,7 +5,7 @@ use Rattle.std.specs.Ordering.{int_eq}
 use Rattle.usbip_wire.specs.declared.ret_submit.RetSubmitHead.{RetSubmitHead}
 use Rattle.usbip_wire.specs.Down as down
 use Rattle.tmc_wire.specs.declared.class_request.ClassRequest.TheVariants as class
-use Rattle.host_recover.specs.Letter.{status_success}
+use Rattle.tmc_wire.specs.ClassStatus.{STATUS_SUCCESS}
 use Rattle.host_hub.specs.declared.kind.Kind.{Kind}
 use Rattle.host_hub.specs.declared.kind.Kind.TheVariants as kind
 use Rattle.host_hub.specs.declared.service.Service.{Service}
@@ -71,7 +71,7 @@ status_tag t (x ∷ past) = status_tag_by t x (status_tag t past)
 abbrev pub grants : ℕ → Option Sent → RetSubmitHead → List ℕ → Bool
 grants t None head bytes = false
 grants t (Some x) head bytes =
-    is_of t x.owner && (is_read_status x.order && (int_eq head.status (pos 0) && (slice_index bytes 0 == status_success)))
+    is_of t x.owner && (is_read_status x.order && (int_eq head.status (pos 0) && (slice_index bytes 0 == STATUS_SUCCESS)))
 
 abbrev pub said_by : ℕ → Past → Happening → Bool → Bool
 said_by t past (Took (down.RetSubmit head bytes)) before = grants t (find head.seqnum (outstanding past)) head bytes || before

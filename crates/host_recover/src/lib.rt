@@ -9,8 +9,8 @@ mod need;
 mod want;
 
 pub use laws::{
-    a_whole_word_ends, each_answer_goes_on, each_recovery_has_a_word, the_next_submit_is_determined,
-    the_next_submit_is_one, worked_words,
+    a_whole_word_ends, each_answer_goes_on, each_recovery_has_a_word,
+    the_next_submit_is_determined, the_next_submit_is_one, worked_words,
 };
 pub use need::Need;
 pub use want::{Heard, Want};
