@@ -5,3 +5,4 @@ pub mod Making
 pub mod Effects
 pub mod Beginning
 pub mod Filling
+pub mod FillSteps
