@@ -7,3 +7,5 @@ pub mod Beginning
 pub mod Filling
 pub mod FillSteps
 pub mod Judging
+pub mod Wanting
+pub mod TakeSteps
