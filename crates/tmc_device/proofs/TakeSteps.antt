@@ -15,7 +15,9 @@ use Rattle.tmc_law.specs.Packets.{moved_on}
 use Rattle.tmc_law.specs.BulkOut.{packets_of, Takes, Empty, Spoiled, Inside, SubmitEnds, TransferEnds, Moves, DoesMove, Spoils, Belongs, TakesEffect, wants}
 use Rattle.tmc_law.specs.Step.{Take}
 use Rattle.endpoint_pipes.specs.Held.{Held, with_list}
-use Rattle.endpoint_pipes.specs.Outcome.{left_of}
+use Rattle.endpoint_pipes.specs.Outcome.{first_of, left_of}
+use Rattle.endpoint_pipes.specs.declared.outcome.Pending.{Pending as First}
+use Rattle.tmc_device.specs.Events.{packets_there}
 use Rattle.tmc_device.specs.declared.body.Body.{Body}
 use Rattle.tmc_device.specs.Parts.{Outbox, taken_in}
 use Rattle.tmc_device.specs.Seen.{Makes}
@@ -125,3 +127,29 @@ few_packets s submit behind sound is =
     let fits = (subst (AllFit BulkOut) is (sound.stand BulkOut)).0 in
     let wide : submit.head.length < 2 ^ 32 = fits.came.wide 3 in
     let less = sized_out submit.head.dir submit fits.way fits.sized in omega (arith, wide, less)
+
+pub first_value : (list : List Pending) (submit : Pending) (behind : List Pending) (first : First) → list ≡ submit ∷ behind → first_of list ≡ Some first
+    → first ≡ record { head = submit.head; moved = length submit.moved }
+first_value list submit behind first is value =
+    let both : ◌≡◌ {A = Option First} (Some first) (Some (record { head = submit.head; moved = length submit.moved })) = sym value ∙ ap first_of is in cc
+
+-- a submit of length 0 is answered
+pub empty_made : (body : Body) (submit : Pending) (behind : List Pending) (most : ℕ) (p : Held) (o : Outbox) → IsSound (state_of body) → (state_of body).presence ≡ Plugged
+    → (state_of body).waiting ≡ None → body.pipes.bulk_out ≡ submit ∷ behind → submit.head.length ≡ 0 → 0 < most → p ≡ with_list BulkOut behind body.pipes
+    → o.puts ≡ body.outputs.puts ++ ended success submit ∷ [] → Makes (Take (min most (packets_there (state_of body)))) (seen_of body) (seen_of (record body { pipes = p; outputs = o }))
+empty_made body submit behind most p o sound plugged free is zero some left put =
+    let fits = (subst (AllFit BulkOut) is (sound.stand BulkOut)).0 in
+    let less = sized_out submit.head.dir submit fits.way fits.sized in
+    let there : packets_there (state_of body) ≡ packets_of (length submit.left) = ap (λ (l : List Pending). packets_of (length (left_of l))) is in
+    loud (Take (min most (packets_there (state_of body)))) (seen_of body) (seen_of (record body { pipes = p; outputs = o })) (ended success submit ∷ []) plugged
+    (free, Empty submit behind is zero (omega (arith, there, less, zero, some)) refl (ap (λ (held : Held). state_of (record body { pipes = held; outputs = o })) left)) put
+
+-- the header or the length is refused
+pub spoiled_made : (body new : Body) (submit : Pending) (behind : List Pending) (most : ℕ) → (state_of body).presence ≡ Plugged
+    → (state_of body).waiting ≡ None → body.pipes.bulk_out ≡ submit ∷ behind → 0 < submit.head.length → 0 < most → Spoils (state_of body) submit
+    → state_of new ≡ halts BulkOut (state_of body) → new.outputs.puts ≡ body.outputs.puts ++ halt_answers BulkOut (state_of body)
+    → Makes (Take (min most (packets_there (state_of body)))) (seen_of body) (seen_of new)
+spoiled_made body new submit behind most plugged free is long some spoils state put =
+    let there : packets_there (state_of body) ≡ packets_of (length submit.left) = ap (λ (l : List Pending). packets_of (length (left_of l))) is in
+    loud (Take (min most (packets_there (state_of body)))) (seen_of body) (seen_of new) (halt_answers BulkOut (state_of body)) plugged
+    (free, Spoiled submit behind is (λ zero. omega (arith, long, zero)) (omega (arith, there, some)) (omega (arith, there)) spoils refl state) put
