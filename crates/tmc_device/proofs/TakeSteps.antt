@@ -43,12 +43,14 @@ module _ (body : Body) (submit : Pending) (behind : List Pending) (header : OutH
       → Makes (Take count) (seen_of body) (seen_of (record body { pipes = p; transfer = t }))
   some_made count p t some more left grown =
       let long = length-drop (count * 64) submit.left in
-      quiet (Take count) (seen_of body) (seen_of (record body { pipes = p; transfer = t })) plugged
-      (free, Inside submit (moved_on submit (take (count * 64) submit.left) (drop (count * 64) submit.left)) behind (on body header)
-      (record { header = header; taken = taken_in body.transfer ++ take (count * 64) submit.left }) is (λ zero. omega (arith, length_some, zero)) some judged.0 judged.1 (DoesMove refl refl)
-      (not_empty (drop (count * 64) submit.left) (omega (arith, long, more))) refl
-      (ap (λ (held : Held). state_of (record body { pipes = held; transfer = t })) left
-      ∙ ap (λ (o : Option Transfer). record (state_of body) { bulk_out = moved_on submit (take (count * 64) submit.left) (drop (count * 64) submit.left) ∷ behind; transfer = o }) grown))
+      quiet (Take count) (seen_of body) (seen_of (record body { pipes = p; transfer = t })) plugged (
+        free,
+        Inside submit (moved_on submit (take (count * 64) submit.left) (drop (count * 64) submit.left)) behind (on body header)
+            (record { header = header; taken = taken_in body.transfer ++ take (count * 64) submit.left }) is (λ zero. omega (arith, length_some, zero)) some judged.0 judged.1 (DoesMove refl refl)
+            (not_empty (drop (count * 64) submit.left) (omega (arith, long, more))) refl
+            (ap (λ (held : Held). state_of (record body { pipes = held; transfer = t })) left
+            ∙ ap (λ (o : Option Transfer). record (state_of body) { bulk_out = moved_on submit (take (count * 64) submit.left) (drop (count * 64) submit.left) ∷ behind; transfer = o }) grown),
+      )
       refl
 
   -- its rest is taken
@@ -72,30 +74,34 @@ module _ (body : Body) (submit : Pending) (behind : List Pending) (header : OutH
       → Makes (Take count) (seen_of body) (seen_of (record body { pipes = q; transfer = t; outputs = o }))
   rest_made count p q t o all left gone grown put less =
       let same = all_taken count all in
-      loud (Take count) (seen_of body) (seen_of (record body { pipes = q; transfer = t; outputs = o })) (ended success (rest_of count) ∷ []) plugged
-      (free, SubmitEnds submit (rest_of count) behind (on body header) (rest_grown count) is (λ zero. omega (arith, length_some, zero)) all judged.0 judged.1 (DoesMove refl refl)
-      (let long = ap (λ (l : List ℕ). length (taken_in body.transfer ++ l)) same in λ zero. omega (arith, less, long, zero)) refl
-      (rest_state count p q t o left gone
-      ∙ ap (λ (v : Option Transfer). record (state_of body) { bulk_out = behind; transfer = v })
-      (grown ∙ ap (λ (l : List ℕ). Some (record { header = header; taken = taken_in body.transfer ++ l })) (sym same))))
+      loud (Take count) (seen_of body) (seen_of (record body { pipes = q; transfer = t; outputs = o })) (ended success (rest_of count) ∷ []) plugged (
+        free,
+        SubmitEnds submit (rest_of count) behind (on body header) (rest_grown count) is (λ zero. omega (arith, length_some, zero)) all judged.0 judged.1 (DoesMove refl refl)
+            (let long = ap (λ (l : List ℕ). length (taken_in body.transfer ++ l)) same in λ zero. omega (arith, less, long, zero)) refl
+            (rest_state count p q t o left gone
+            ∙ ap (λ (v : Option Transfer). record (state_of body) { bulk_out = behind; transfer = v })
+            (grown ∙ ap (λ (l : List ℕ). Some (record { header = header; taken = taken_in body.transfer ++ l })) (sym same))),
+      )
       put
 
   pub whole_made : (count seqnum : ℕ) (p q : Held) (t : Option Transfer) (o : Outbox) (new : Body) → submit.head.seqnum ≡ seqnum → count ≡ packets_of (length submit.left)
       → p ≡ record body.pipes { bulk_out = rest_of count ∷ behind } → q ≡ with_list BulkOut behind p
       → o.puts ≡ body.outputs.puts ++ ended success (rest_of count) ∷ [] → length (taken_in body.transfer ++ submit.left) ≡ transfer_size (data_size header)
       → TakesEffect seqnum (record { header = header; taken = taken_in body.transfer ++ submit.left })
-          (record (state_of (record body { pipes = q; transfer = t; outputs = o })) { transfer = None }) (state_of new)
+      (record (state_of (record body { pipes = q; transfer = t; outputs = o })) { transfer = None }) (state_of new)
       → new.outputs ≡ o
       → Makes (Take count) (seen_of body) (seen_of new)
   whole_made count seqnum p q t o new number all left gone put whole effect same_outputs =
       let same = all_taken count all in
-      loud (Take count) (seen_of body) (seen_of new) (ended success (rest_of count) ∷ []) plugged
-      (free, TransferEnds submit (rest_of count) behind (on body header) (rest_grown count) is (λ zero. omega (arith, length_some, zero)) all judged.0 judged.1 (DoesMove refl refl)
-      (let long = ap (λ (l : List ℕ). length (taken_in body.transfer ++ l)) same in omega (arith, whole, long))
-      (subst (λ (l : List ℕ). TakesEffect submit.head.seqnum (record { header = header; taken = taken_in body.transfer ++ l }) (record (state_of body) { bulk_out = behind; transfer = None }) (state_of new)) (sym same)
-      (subst (λ (s : State). TakesEffect submit.head.seqnum (record { header = header; taken = taken_in body.transfer ++ submit.left }) (record s { transfer = None }) (state_of new)) (rest_state count p q t o left gone)
-      (subst (λ (n : ℕ). TakesEffect n (record { header = header; taken = taken_in body.transfer ++ submit.left }) (record (state_of (record body { pipes = q; transfer = t; outputs = o })) { transfer = None }) (state_of new)) (sym number) effect)))
-      refl)
+      loud (Take count) (seen_of body) (seen_of new) (ended success (rest_of count) ∷ []) plugged (
+        free,
+        TransferEnds submit (rest_of count) behind (on body header) (rest_grown count) is (λ zero. omega (arith, length_some, zero)) all judged.0 judged.1 (DoesMove refl refl)
+            (let long = ap (λ (l : List ℕ). length (taken_in body.transfer ++ l)) same in omega (arith, whole, long))
+            (subst (λ (l : List ℕ). TakesEffect submit.head.seqnum (record { header = header; taken = taken_in body.transfer ++ l }) (record (state_of body) { bulk_out = behind; transfer = None }) (state_of new)) (sym same)
+            (subst (λ (s : State). TakesEffect submit.head.seqnum (record { header = header; taken = taken_in body.transfer ++ submit.left }) (record s { transfer = None }) (state_of new)) (rest_state count p q t o left gone)
+            (subst (λ (n : ℕ). TakesEffect n (record { header = header; taken = taken_in body.transfer ++ submit.left }) (record (state_of (record body { pipes = q; transfer = t; outputs = o })) { transfer = None }) (state_of new)) (sym number) effect)))
+            refl,
+      )
       (ap (λ (b : Outbox). b.puts) same_outputs ∙ put)
 
   -- what its effect needs

@@ -82,8 +82,8 @@ pub wanted : (s : State) (submit : Pending) (behind : List Pending) (transfer : 
     → IsWanted s submit transfer
 wanted s submit behind transfer sound is ok belongs = record {
   rest =
-    let taken = less_taken s submit transfer sound belongs in
-    let rest = rest_fits s submit behind transfer sound is ok belongs (nothing_or submit.moved) in omega (arith, taken, rest);
+      let taken = less_taken s submit transfer sound belongs in
+      let rest = rest_fits s submit behind transfer sound is ok belongs (nothing_or submit.moved) in omega (arith, taken, rest);
   place = the_place s submit transfer sound belongs;
   headed = the_header s submit transfer sound belongs;
 }

@@ -19,11 +19,10 @@ returns-then-not-has_place c =
 
 pub returns : goal.returns
 returns c =
-    let headed = subst (λ (l : List ℕ). IsOutHeader c.in-Ok.header (take header_size l)) c.rest_out.ensures ((c.in-Ok.ensures.header c.in-Ok.header).0 refl) in
-    (
+    let headed = subst (λ (l : List ℕ). IsOutHeader c.in-Ok.header (take header_size l)) c.rest_out.ensures ((c.in-Ok.ensures.header c.in-Ok.header).0 refl) in (
       accepted (state_of c.args.self.now) _ c.in-Ok.header
-      (λ fault is. let one = (c.in-Ok.ensures.fault fault).1 (subst (λ (l : List ℕ). IsOutFault l fault) (sym c.rest_out.ensures) is) in cc)
-      (λ other is. let one = (c.in-Ok.ensures.header other).1 (subst (λ (l : List ℕ). IsOutHeader other (take header_size l)) (sym c.rest_out.ensures) is) in cc)
-      c.if-not-is_idle.ensures c.if-not-has_place.ensures,
+          (λ fault is. let one = (c.in-Ok.ensures.fault fault).1 (subst (λ (l : List ℕ). IsOutFault l fault) (sym c.rest_out.ensures) is) in cc)
+          (λ other is. let one = (c.in-Ok.ensures.header other).1 (subst (λ (l : List ℕ). IsOutHeader other (take header_size l)) (sym c.rest_out.ensures) is) in cc)
+          c.if-not-is_idle.ensures c.if-not-has_place.ensures,
       headed,
     )

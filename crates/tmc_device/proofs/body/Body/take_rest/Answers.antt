@@ -56,7 +56,7 @@ returns-else-taken-out_len c =
     let grown = c.extend.ensures ∙ ap (λ (l : List ℕ). Some (record { header = c.args.header; taken = taken_in c.args.self.now.transfer ++ l })) (c.rest_out.ensures ∙ ap left_of f.is) in
     let long : length c.taken.result.now ≡ length (taken_in c.args.self.now.transfer ++ f.submit.left) = ap length c.taken.ensures ∙ ap (λ (t : Option Transfer). length (taken_in t)) grown in
     let most = rest_length c.args.self.now f.submit f.behind c.args.header (is_plugged c.args.self.now.unplugged c.requires.ready.plugged) c.requires.none_waits f.is (c.requires.length f.submit f.behind f.is).0
-        (c.requires.judged f.submit f.behind f.is) c.requires.ready.sound in
+    (c.requires.judged f.submit f.behind f.is) c.requires.ready.sound in
     rest_made c.args.self.now f.submit f.behind c.args.header (is_plugged c.args.self.now.unplugged c.requires.ready.plugged) c.requires.none_waits f.is (c.requires.length f.submit f.behind f.is).0
     (c.requires.judged f.submit f.behind f.is) c.args.packets c.take_out.new.self c.end_first.new.pipes c.extend.new.self c.end_first.new.outputs
     (c.requires.all ∙ ap (λ (l : List Pending). packets_of (length (left_of l))) f.is) (c.take_out.ensures f.submit f.behind f.is) (c.end_first.ensures.left _ f.behind first) grown (c.end_first.ensures.put _ f.behind first)
