@@ -1,3 +1,6 @@
+pub mod Queueing
+pub mod Firsts
+pub mod Halting
 pub mod Asked
 pub mod Checked
 pub mod Served
