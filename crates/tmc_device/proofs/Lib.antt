@@ -4,3 +4,4 @@ pub mod Halting
 pub mod Asked
 pub mod Checked
 pub mod Served
+pub mod Logged
