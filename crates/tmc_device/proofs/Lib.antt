@@ -5,3 +5,4 @@ pub mod Asked
 pub mod Checked
 pub mod Served
 pub mod Logged
+pub mod Aborting
