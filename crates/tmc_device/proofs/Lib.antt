@@ -6,3 +6,5 @@ pub mod Checked
 pub mod Served
 pub mod Logged
 pub mod Aborting
+pub mod Roomy
+pub mod Clearing
