@@ -6,6 +6,7 @@ use Rattle.tmc_law.specs.Control.{Asks}
 use Rattle.tmc_device.specs.declared.answer.Asked.{Asked}
 use Rattle.tmc_device.specs.Control.{IsAsked}
 use Rattle.usb_setup.specs.declared.setup.Setup.{Setup}
+use Rattle.usb_setup.specs.Setup.{Fits, setup_layout}
 use Rattle.tmc_law.specs.Endpoint.{Control}
 use Rattle.endpoint_pipes.specs.declared.outcome.Pending.{Pending as First}
 use Rattle.endpoint_pipes.specs.Held.{AreUnpolled}
@@ -38,8 +39,9 @@ asked_asks s asked is submit behind first = subst (λ (p : Pending). Asks p aske
 -- it is the first of the list, with what is kept beside the list
 pub is_asked : (s : State) (list others : List Pending) (polled : Bool) (first : First) (setup : Setup) → s.control ≡ queue_from Control polled list
     → AreUnpolled (list ++ others) → first_of list ≡ Some first → Asks (record { head = first.head; left = []; moved = []; polled = false }) setup
+    → ((other : Setup) → Fits other → setup_layout other ≡ first.head.setup → setup ≡ other)
     → IsAsked s (record { head = first.head; setup = setup; polled = polled })
-is_asked s list others polled first setup control unpolled there asks = by polled control
+is_asked s list others polled first setup control unpolled there asks one = by polled control
   where
     is : FirstIs list first
     is = first_is list first there
@@ -58,6 +60,7 @@ is_asked s list others polled first setup control unpolled there asks = by polle
       head = same;
       polled = refl;
       asks = record { fits = asks.fits; layout = ap (λ (h : SubmitHead). h.setup) same ∙ asks.layout };
+      only = λ other it. one other it.fits (sym it.layout ∙ ap (λ (h : SubmitHead). h.setup) same);
     }
     by false control = record {
       submit = is.submit;
@@ -66,4 +69,18 @@ is_asked s list others polled first setup control unpolled there asks = by polle
       head = same;
       polled = fresh;
       asks = record { fits = asks.fits; layout = ap (λ (h : SubmitHead). h.setup) same ∙ asks.layout };
+      only = λ other it. one other it.fits (sym it.layout ∙ ap (λ (h : SubmitHead). h.setup) same);
     }
+
+-- what a setup of the first control submit is, is what was asked
+pub asked_is : (s : State) (asked : Asked) (is : IsAsked s asked) (submit : Pending) (behind : List Pending) (setup : Setup) → s.control ≡ submit ∷ behind → Asks submit setup
+    → asked.setup ≡ setup
+asked_is s asked is submit behind setup first asks =
+    is.only setup (subst (λ (p : Pending). Asks p setup) (sym (one_submit s asked is submit behind first)) asks)
+
+-- the list of the control endpoint, once the status byte was polled for its first submit
+pub polled_again : (polled : Bool) (list : List Pending) (submit : Pending) (behind : List Pending) → queue_from Control polled list ≡ submit ∷ behind
+    → queue_from Control true list ≡ record submit { polled = true } ∷ behind
+polled_again true [] submit behind first = absurd (cc)
+polled_again true (x ∷ list) submit behind first = ap (λ (l : List Pending). queue_from Control true l) first
+polled_again false list submit behind first = ap (λ (l : List Pending). queue_from Control true l) first

@@ -8,3 +8,4 @@ pub mod Logged
 pub mod Aborting
 pub mod Roomy
 pub mod Clearing
+pub mod Postponed
