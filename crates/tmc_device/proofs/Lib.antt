@@ -9,3 +9,8 @@ pub mod Aborting
 pub mod Roomy
 pub mod Clearing
 pub mod Postponed
+pub mod Making
+pub mod Effects
+pub mod Beginning
+pub mod Filling
+pub mod FillSteps
