@@ -14,3 +14,4 @@ pub mod Effects
 pub mod Beginning
 pub mod Filling
 pub mod FillSteps
+pub mod Unplugging
