@@ -15,3 +15,4 @@ pub mod Beginning
 pub mod Filling
 pub mod FillSteps
 pub mod Unplugging
+pub mod Sounding
