@@ -1,6 +1,14 @@
 pub mod Queueing
 pub mod Firsts
 pub mod Halting
+pub mod Asked
+pub mod Checked
+pub mod Served
+pub mod Logged
+pub mod Aborting
+pub mod Roomy
+pub mod Clearing
+pub mod Postponed
 pub mod Making
 pub mod Effects
 pub mod Beginning
@@ -9,3 +17,5 @@ pub mod FillSteps
 pub mod Judging
 pub mod Wanting
 pub mod TakeSteps
+pub mod Unplugging
+pub mod Sounding

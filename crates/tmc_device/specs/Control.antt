@@ -25,6 +25,7 @@ pub record IsAsked (s : State) (asked : Asked) : Type 0 where
   pub head : submit.head ≡ asked.head
   pub polled : submit.polled ≡ asked.polled
   pub asks : Asks submit asked.setup
+  pub only : (setup : Setup) → Asks submit setup → asked.setup ≡ setup
 
 -- the first control submit was answered by this, and the others are left
 pub record IsReplied (behind : List Pending) (answer : Put) (old new : Body) : Type 0 where
