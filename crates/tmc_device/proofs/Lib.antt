@@ -19,3 +19,4 @@ pub mod Wanting
 pub mod TakeSteps
 pub mod Unplugging
 pub mod Sounding
+pub mod Unlinking

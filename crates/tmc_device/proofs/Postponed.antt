@@ -22,19 +22,28 @@ pub postponed : (old ready new : Body) (asked : Asked) (request : ClassRequest) 
     → ((submit : Submit) (behind : List Submit) → (state_of ready).control ≡ submit ∷ behind → IsReplied behind (control_answer submit asked.setup layout) ready new)
     → IsEnabled event.Pending (state_of old) × Makes Pend (seen_of old) (seen_of new)
 postponed old ready new asked request layout is same plugged row stays replies =
-    let replied = replies is.submit is.behind (ap (λ (z : Seen). z.state.control) same.seen ∙ is.first) in
-    ((record {
-      plugged = plugged;
-      needs = record {
-        submit = is.submit; behind = is.behind; setup = asked.setup; request = request; layout = layout;
-        first = is.first; asks = is.asks; row = row; stays = stays;
-      };
-    }), record {
-      puts = control_answer is.submit asked.setup layout ∷ [];
-      steps = record {
+    let replied = replies is.submit is.behind (ap (λ (z : Seen). z.state.control) same.seen ∙ is.first) in (
+      (record {
         plugged = plugged;
-        leads = DoesPostpone is.submit is.behind asked.setup request layout is.first is.asks row stays refl
-            (replied.state ∙ ap (λ (z : Seen). record z.state { control = is.behind }) same.seen);
-      };
-      joins = replied.puts ∙ ap (λ (l : List Put). l ++ control_answer is.submit asked.setup layout ∷ []) same.outputs;
-    })
+        needs = record {
+          submit = is.submit;
+          behind = is.behind;
+          setup = asked.setup;
+          request = request;
+          layout = layout;
+          first = is.first;
+          asks = is.asks;
+          row = row;
+          stays = stays;
+        };
+      }),
+      record {
+        puts = control_answer is.submit asked.setup layout ∷ [];
+        steps = record {
+          plugged = plugged;
+          leads = DoesPostpone is.submit is.behind asked.setup request layout is.first is.asks row stays refl
+              (replied.state ∙ ap (λ (z : Seen). record z.state { control = is.behind }) same.seen);
+        };
+        joins = replied.puts ∙ ap (λ (l : List Put). l ++ control_answer is.submit asked.setup layout ∷ []) same.outputs;
+      },
+    )

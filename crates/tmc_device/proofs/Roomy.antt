@@ -8,5 +8,9 @@ few_out held = omega (arith, length-append held.control (held.bulk_out ++ (held.
 
 pub few_interrupt_in : (held : Held) → length held.interrupt_in ≤ length (all_of held)
 few_interrupt_in held =
-    omega (arith, length-append held.control (held.bulk_out ++ (held.bulk_in ++ held.interrupt_in)), length-append held.bulk_out (held.bulk_in ++ held.interrupt_in),
-      length-append held.bulk_in held.interrupt_in)
+    omega (
+      arith,
+      length-append held.control (held.bulk_out ++ (held.bulk_in ++ held.interrupt_in)),
+      length-append held.bulk_out (held.bulk_in ++ held.interrupt_in),
+      length-append held.bulk_in held.interrupt_in,
+    )

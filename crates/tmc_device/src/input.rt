@@ -1,10 +1,8 @@
-ghost use Rattle.std.specs.Prelude.{◌≡◌, ℕ, ◌++◌, ◌∷◌, ◌<◌, ◌≤◌, [], List, false, IfErr, IfNone, IfSome, OnOk, OnErr, MatchBool, vec_capacity};
+ghost use Rattle.std.specs.Prelude.{◌≡◌, ℕ, ◌++◌, ◌∷◌, ◌<◌, ◌≤◌, [], List, false, IfErr, OnOk, OnErr, MatchBool, vec_capacity};
 ghost use Rattle.usbip_wire.specs.Submit.{Carries};
 ghost use Rattle.usbip_wire.specs.Up as up;
-ghost use Rattle.tmc_wire.specs.declared.class_request.ClassRequest.TheVariants.{ReadStatus};
-ghost use Rattle.tmc_wire.specs.ControlTable.{IsRow};
 ghost use Rattle.tmc_law.specs.declared.input.Input.TheVariants as arrival;
-ghost use Rattle.tmc_law.specs.Endpoint.{Endpoint, ends, way_of_request as law_way};
+ghost use Rattle.tmc_law.specs.Endpoint.{Endpoint, way_of_request as law_way};
 ghost use Rattle.tmc_law.specs.State.{Pending, arrived, queue_of, with_queue};
 ghost use Rattle.tmc_law.specs.Put.{answer_of, stalled};
 ghost use Rattle.endpoint_pipes.specs.Held.{endpoint_of};
@@ -23,9 +21,7 @@ use crate::endpoints::{
 };
 use crate::status::{TMC_SUCCESS, status_layout};
 use endpoint_pipes::Unlinked;
-use tmc_law::setups_have_one_meaning;
 use tmc_wire::{ClassRequest, read_class};
-use usb_setup::Setup;
 use usbip_wire::{Dir, SubmitHead, UnlinkHead};
 
 /// The most pending submits.
@@ -167,25 +163,16 @@ impl Body {
         requires capacity { LAYOUT_MAX ≤ vec_capacity buffer }
         ensures { (submit : Pending) (behind : List Pending) → (state_of self.old).control ≡ submit ∷ behind → AnswersPolled submit behind self.old self.new }
     {
-        setups_have_one_meaning();
         let Some(asked) = self.asked() else {
             unreachable!()
         };
-        let Some(tag) = status_tag(&asked.setup) else {
+        let Some(request) = read_class(&asked.setup, &ENDS) else {
+            unreachable!()
+        };
+        let ClassRequest::ReadStatus { tag } = request else {
             unreachable!()
         };
         self.reply(&asked, &status_layout(TMC_SUCCESS, tag), buffer);
-    }
-}
-
-/// The tag of a setup that is READ_STATUS_BYTE.
-pub(crate) fn status_tag(setup: &Setup) -> Option<u8>
-    ensures some { IfSome result (λ tag. IsRow ends (ReadStatus tag) setup.now) }
-    ensures none { IfNone result ((tag : ℕ) → ¬ IsRow ends (ReadStatus tag) setup.now) }
-{
-    match read_class(setup, &ENDS) {
-        Some(ClassRequest::ReadStatus { tag }) => Some(tag),
-        Some(_) | None => None,
     }
 }
 

@@ -17,7 +17,7 @@ returns-then-wanting c = λ submit behind first.
     let replied = c.reply.ensures submit behind first in
     served_as (Serves request.CheckIn submit) submit behind setup (seen_of old) (seen_of c.reply.new.self) _ _ refl
     (in_pending (record (state_of old) { control = behind }) old.running c.in-AbortsIn.given
-      (c.in-AbortsIn.is ∙ ap (λ (b : Bool). running.AbortsIn b c.in-AbortsIn.given) c.if-wanting.true))
+    (c.in-AbortsIn.is ∙ ap (λ (b : Bool). running.AbortsIn b c.in-AbortsIn.given) c.if-wanting.true))
     (replied.puts ∙ ap (λ (l : List ℕ). old.outputs.puts ++ control_answer submit setup l ∷ []) c.in_layout.ensures)
     replied.state
 
@@ -28,7 +28,7 @@ returns-else-wanting c = λ submit behind first.
     let replied = c.reply-else-wanting.ensures submit behind first in
     served_as (Serves request.CheckIn submit) submit behind setup (seen_of old) (seen_of (record c.reply-else-wanting.new.self { running = running.Nothing })) _ _ refl
     (in_ends (record (state_of old) { control = behind }) old.running c.in-AbortsIn.given
-      (c.in-AbortsIn.is ∙ ap (λ (b : Bool). running.AbortsIn b c.in-AbortsIn.given) c.if-wanting.false))
+    (c.in-AbortsIn.is ∙ ap (λ (b : Bool). running.AbortsIn b c.in-AbortsIn.given) c.if-wanting.false))
     (replied.puts ∙ ap (λ (l : List ℕ). old.outputs.puts ++ control_answer submit setup l ∷ []) c.in_layout-else-wanting.ensures)
     (ap (λ (z : State). record z { running = law.Nothing }) replied.state)
 

@@ -41,8 +41,14 @@ pub halts-requires-clause-room : goal.halts-requires-clause-room
 halts-requires-clause-room c =
     let asked = c.requires.asked in
     let replied = c.reply.ensures asked.submit asked.behind asked.first in
-    omega (arith, ap (λ (l : List Pending). length l) (ap (λ (p : pipes.Held). p.bulk_out) c.end_part.ensures.pipes ∙ ap (λ (s : State). s.bulk_out) replied.state),
-      few_out c.args.self.now.pipes, replied.outputs, c.requires.ready.room.outputs, c.end_part.ensures.room)
+    omega (
+      arith,
+      ap (λ (l : List Pending). length l) (ap (λ (p : pipes.Held). p.bulk_out) c.end_part.ensures.pipes ∙ ap (λ (s : State). s.bulk_out) replied.state),
+      few_out c.args.self.now.pipes,
+      replied.outputs,
+      c.requires.ready.room.outputs,
+      c.end_part.ensures.room,
+    )
 
 pub returns : goal.returns
 returns c = λ submit behind first.
@@ -66,16 +72,16 @@ returns c = λ submit behind first.
           ∙ (ap (λ (z : State). parted.outputs.puts ++ halt_answers BulkOut z) parts
           ∙ (ap (λ (l : List Pending). parted.outputs.puts ++ all_ended stalled l) (ap (λ (z : State). z.bulk_out) replied.state)
           ∙ (ap (λ (p : List Put). p ++ halt_answers BulkOut s)
-              (c.end_part.ensures.puts
-              ∙ (ap (λ (p : List Put). p ++ part_answer mid.pipes.bulk_in) replied.puts
-              ∙ ap (λ (z : State). (old.outputs.puts ++ answer ∷ []) ++ part_answer z.bulk_in) replied.state))
+          (c.end_part.ensures.puts
+          ∙ (ap (λ (p : List Put). p ++ part_answer mid.pipes.bulk_in) replied.puts
+          ∙ ap (λ (z : State). (old.outputs.puts ++ answer ∷ []) ++ part_answer z.bulk_in) replied.state))
           ∙ (append_assoc (old.outputs.puts ++ answer ∷ []) (part_answer s.bulk_in) (halt_answers BulkOut s)
           ∙ append_assoc old.outputs.puts (answer ∷ []) (part_answer s.bulk_in ++ halt_answers BulkOut s)))));
       is =
           ap (λ (x : Side). record (state_of c.halts.new.self) { side = x; running = Clears }) c.end.ensures
           ∙ (ap (λ (z : State). record z { side = Idle; running = Clears }) (c.halts.ensures.state ∙ ap (λ (z : State). halts BulkOut z) parts)
           ∙ (ap (λ (p : List Packet). record (left_of held (state_of mid)) { packets = p })
-              (c.notice.ensures mid.exchange.held.standing held.standing c.status-before.ensures c.status.ensures)
+          (c.notice.ensures mid.exchange.held.standing held.standing c.status-before.ensures c.status.ensures)
           ∙ (ap (λ (z : State). left_of held z) replied.state
           ∙ is_logged held s logs)));
     }

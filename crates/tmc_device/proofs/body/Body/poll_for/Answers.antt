@@ -22,6 +22,6 @@ returns-clause-polls c =
     let noticed = c.notice.ensures old.exchange.held.standing c.poll-byte.new.self.held.standing c.status-before.ensures c.status.ensures in
     DoesPoll to (c.poll-byte.ensures.polls (state_of old) (own old))
     (ap (λ (p : List Packet). record to { packets = p })
-      (c.push_status.ensures
-      ∙ (ap (λ (p : List Packet). p ++ StatusPacket c.args.tag c.poll-byte.result ∷ []) noticed
-      ∙ ap (λ (b : ℕ). to.packets ++ StatusPacket c.args.tag b ∷ []) c.poll-byte.ensures.byte)))
+    (c.push_status.ensures
+    ∙ (ap (λ (p : List Packet). p ++ StatusPacket c.args.tag c.poll-byte.result ∷ []) noticed
+    ∙ ap (λ (b : ℕ). to.packets ++ StatusPacket c.args.tag b ∷ []) c.poll-byte.ensures.byte)))

@@ -67,7 +67,7 @@ returns-else-has_status c = λ submit behind first.
     let polls : Polls submit.head.seqnum c.args.tag (record (state_of old) { control = behind }) to =
     subst (λ (s : State). Polls submit.head.seqnum c.args.tag s to) replied.state
     (subst (λ (h : SubmitHead). Polls h.seqnum c.args.tag (state_of c.reply-else-has_status.new.self) to)
-      (sym (asked_head (state_of old) asked c.requires.asked submit behind first)) c.poll_for.ensures.polls) in
+    (sym (asked_head (state_of old) asked c.requires.asked submit behind first)) c.poll_for.ensures.polls) in
     record {
       served = record { layout = status_layout 1 c.args.tag; behind = []; state = to };
       serves = PolledNow to c.if-not-is_status_tag.ensures (asked_polled (state_of old) asked c.requires.asked submit behind first ∙ c.if-asked.false)

@@ -43,18 +43,20 @@ returns c =
     c.end_all-4.ensures.put
     ∙ (ap (λ (h : pipes.Held). c.end_all-3.new.outputs.puts ++ answers h.interrupt_in) (c.end_all-3.ensures.left ∙ ap (λ (h : pipes.Held). pipes.with_list BulkIn [] h) c.end_all-2.ensures.left)
     ∙ (ap (λ (h : pipes.Held). c.end_all-3.new.outputs.puts ++ answers h.interrupt_in) (c.end_all.ensures.left ∙ ap (λ (h : pipes.Held). pipes.with_list Control [] h) same.pipes)
-    ∙ ap (λ (l : List Put). c.end_all-3.new.outputs.puts ++ l) (each_ended unplugged old.pipes.interrupt_in (sound.first InterruptIn)))) in
-    ((record { plugged = plugged; needs = tt }), record {
-      puts = unplug_answers s;
-      steps = record {
-        plugged = plugged;
-        leads = record {
-          answered = refl;
-          is =
-              ap (λ (h : pipes.Held). state_of (record ready { pipes = h; unplugged = true })) empty
-              ∙ (ap (λ (l : List Pending). record (state_of ready) { control = l; bulk_out = []; bulk_in = []; interrupt_in = []; presence = Unplugged }) (none_queued ready.polled)
-              ∙ ap (λ (z : Seen). record z.state { control = []; bulk_out = []; bulk_in = []; interrupt_in = []; presence = Unplugged }) same.seen);
+    ∙ ap (λ (l : List Put). c.end_all-3.new.outputs.puts ++ l) (each_ended unplugged old.pipes.interrupt_in (sound.first InterruptIn)))) in (
+      (record { plugged = plugged; needs = tt }),
+      record {
+        puts = unplug_answers s;
+        steps = record {
+          plugged = plugged;
+          leads = record {
+            answered = refl;
+            is =
+                ap (λ (h : pipes.Held). state_of (record ready { pipes = h; unplugged = true })) empty
+                ∙ (ap (λ (l : List Pending). record (state_of ready) { control = l; bulk_out = []; bulk_in = []; interrupt_in = []; presence = Unplugged }) (none_queued ready.polled)
+                ∙ ap (λ (z : Seen). record z.state { control = []; bulk_out = []; bulk_in = []; interrupt_in = []; presence = Unplugged }) same.seen);
+          };
         };
-      };
-      joins = in_a_row c.end_all.new.outputs.puts c.end_all-2.new.outputs.puts c.end_all-3.new.outputs.puts c.end_all-4.new.outputs.puts old.outputs.puts _ _ _ _ first second third fourth;
-    })
+        joins = in_a_row c.end_all.new.outputs.puts c.end_all-2.new.outputs.puts c.end_all-3.new.outputs.puts c.end_all-4.new.outputs.puts old.outputs.puts _ _ _ _ first second third fourth;
+      },
+    )
