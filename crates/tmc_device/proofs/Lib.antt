@@ -16,3 +16,4 @@ pub mod Filling
 pub mod FillSteps
 pub mod Unplugging
 pub mod Sounding
+pub mod Moves
