@@ -48,7 +48,7 @@ module _ (size : ℕ) (submit : Pending) (behind : List Pending) (piece : Piece)
       → Became (record (state_of old) { bulk_in = behind; side = side }) (ended success (filled size piece submit) ∷ []) old (record gave { pipes = p; outputs = o; side = side })
   answered p o side left put = record {
     state =
-      ap (λ (b : Body). state_of (record b { pipes = p; outputs = o; side = side })) g.others
-      ∙ ap (λ (held : Held). state_of (record old { pipes = held; outputs = o; side = side })) (left ∙ ap (λ (held : Held). with_list BulkIn behind held) g.pipes);
+        ap (λ (b : Body). state_of (record b { pipes = p; outputs = o; side = side })) g.others
+        ∙ ap (λ (held : Held). state_of (record old { pipes = held; outputs = o; side = side })) (left ∙ ap (λ (held : Held). with_list BulkIn behind held) g.pipes);
     puts = put ∙ ap (λ (b : Outbox). b.puts ++ ended success (filled size piece submit) ∷ []) same_outputs;
   }

@@ -14,6 +14,9 @@ pub mod Effects
 pub mod Beginning
 pub mod Filling
 pub mod FillSteps
+pub mod Judging
+pub mod Wanting
+pub mod TakeSteps
 pub mod Unplugging
 pub mod Sounding
 pub mod Moves

@@ -1,5 +1,5 @@
 -- what the first control submit asks for
-use Rattle.std.specs.Prelude.{◌≡◌, ℕ, ◌+◌, true, List, [], ◌∷◌, ◌++◌}
+use Rattle.std.specs.Prelude.{◌≡◌, ◌≢◌, ℕ, ◌+◌, true, List, [], ◌∷◌, ◌++◌}
 use Rattle.usb_setup.specs.declared.setup.Setup.{Setup}
 use Rattle.tmc_law.specs.State.{State, Pending}
 use Rattle.tmc_law.specs.Control.{Asks, control_answer}
@@ -56,6 +56,10 @@ pub record IsPolledFirst (target : ℕ) (s : State) : Type 0 where
   pub first : s.control ≡ submit ∷ behind
   pub polled : submit.polled ≡ true
   pub number : submit.head.seqnum ≡ target
+
+-- that submit, if the status byte was polled for it, has another number
+abbrev pub IsNotPolled : (target : ℕ) → Body → Type 0
+IsNotPolled target body = (submit : Pending) (behind : List Pending) → body.polled ≡ true → body.pipes.control ≡ submit ∷ behind → submit.head.seqnum ≢ target
 
 -- the first control submit, a status request that was polled, was answered
 pub record AnswersPolled (submit : Pending) (behind : List Pending) (old new : Body) : Type 0 where

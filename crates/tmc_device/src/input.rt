@@ -1,8 +1,10 @@
-ghost use Rattle.std.specs.Prelude.{◌≡◌, ℕ, ◌++◌, ◌∷◌, ◌<◌, ◌≤◌, [], List, false, IfErr, OnOk, OnErr, MatchBool, vec_capacity};
+ghost use Rattle.std.specs.Prelude.{◌≡◌, ℕ, ◌++◌, ◌∷◌, ◌<◌, ◌≤◌, [], List, false, IfErr, IfNone, IfSome, OnOk, OnErr, MatchBool, vec_capacity};
 ghost use Rattle.usbip_wire.specs.Submit.{Carries};
 ghost use Rattle.usbip_wire.specs.Up as up;
+ghost use Rattle.tmc_wire.specs.declared.class_request.ClassRequest.TheVariants.{ReadStatus};
+ghost use Rattle.tmc_wire.specs.ControlTable.{IsRow};
 ghost use Rattle.tmc_law.specs.declared.input.Input.TheVariants as arrival;
-ghost use Rattle.tmc_law.specs.Endpoint.{Endpoint, way_of_request as law_way};
+ghost use Rattle.tmc_law.specs.Endpoint.{Endpoint, ends, way_of_request as law_way};
 ghost use Rattle.tmc_law.specs.State.{Pending, arrived, queue_of, with_queue};
 ghost use Rattle.tmc_law.specs.Put.{answer_of, stalled};
 ghost use Rattle.endpoint_pipes.specs.Held.{endpoint_of};
@@ -21,7 +23,9 @@ use crate::endpoints::{
 };
 use crate::status::{TMC_SUCCESS, status_layout};
 use endpoint_pipes::Unlinked;
+use tmc_law::setups_have_one_meaning;
 use tmc_wire::{ClassRequest, read_class};
+use usb_setup::Setup;
 use usbip_wire::{Dir, SubmitHead, UnlinkHead};
 
 /// The most pending submits.
@@ -29,7 +33,7 @@ const PENDING_MAX: u32 = 256;
 
 impl Body {
     ghost use Rattle.tmc_device.specs.Body.{state_of, seen_of, IsReady};
-    ghost use Rattle.tmc_device.specs.Control.{IsPolledFirst, AnswersPolled};
+    ghost use Rattle.tmc_device.specs.Control.{IsPolledFirst, IsNotPolled, AnswersPolled};
     ghost use Rattle.tmc_device.specs.declared.answer.TheConstants.{LAYOUT_MAX};
 
     /// A submit arrives.
@@ -132,20 +136,24 @@ impl Body {
     {
         if self.is_polled(head.target) {
             self.answer_polled(buffer);
+            self.outputs.unlink(head, SUCCESS);
+            return;
         }
-        let status = match self.pipes.unlink(head.target) {
-            Unlinked::Hit => UNLINKED,
-            Unlinked::Miss => SUCCESS,
-        };
-        self.outputs.unlink(head, status);
+        match self.pipes.unlink(head.target) {
+            Unlinked::Hit => self.outputs.unlink(head, UNLINKED),
+            Unlinked::Miss => self.outputs.unlink(head, SUCCESS),
+        }
     }
 
     /// Whether the first control submit has this number, and the status byte was polled for it.
     fn is_polled(&self, target: u32) -> bool
-        ensures { MatchBool result (IsPolledFirst target (state_of self.now)) (¬ IsPolledFirst target (state_of self.now)) }
+        ensures { MatchBool result (IsPolledFirst target (state_of self.now)) (IsNotPolled target self.now) }
     {
+        if !self.polled {
+            return false;
+        }
         match self.pipes.first(CONTROL) {
-            Some(first) => self.polled && first.head.seqnum == target,
+            Some(first) => first.head.seqnum == target,
             None => false,
         }
     }
@@ -159,13 +167,25 @@ impl Body {
         requires capacity { LAYOUT_MAX ≤ vec_capacity buffer }
         ensures { (submit : Pending) (behind : List Pending) → (state_of self.old).control ≡ submit ∷ behind → AnswersPolled submit behind self.old self.new }
     {
+        setups_have_one_meaning();
         let Some(asked) = self.asked() else {
             unreachable!()
         };
-        let Some(ClassRequest::ReadStatus { tag }) = read_class(&asked.setup, &ENDS) else {
+        let Some(tag) = status_tag(&asked.setup) else {
             unreachable!()
         };
         self.reply(&asked, &status_layout(TMC_SUCCESS, tag), buffer);
+    }
+}
+
+/// The tag of a setup that is READ_STATUS_BYTE.
+pub(crate) fn status_tag(setup: &Setup) -> Option<u8>
+    ensures some { IfSome result (λ tag. IsRow ends (ReadStatus tag) setup.now) }
+    ensures none { IfNone result ((tag : ℕ) → ¬ IsRow ends (ReadStatus tag) setup.now) }
+{
+    match read_class(setup, &ENDS) {
+        Some(ClassRequest::ReadStatus { tag }) => Some(tag),
+        Some(_) | None => None,
     }
 }
 

@@ -17,8 +17,8 @@ returns c =
     let none : NoAbortIn (running_of c.args.self.now.running) = search rules in
     let there = ap length c.unread.ensures.unread in
     let count : c.min-count.result ≡ min c.args.most (largest_piece (state_of c.args.self.now)) =
-        least_of c.args.most c.in-Owed.size (length c.args.self.now.exchange.held.standing.unread) _ c.min-count.result c.min.result
-        (largest_is (state_of c.args.self.now) c.in-Owed.tag c.in-Owed.size owed) c.min.ensures (c.min-count.ensures ∙ ap (λ (n : ℕ). min c.min.result n) there) in (
+    least_of c.args.most c.in-Owed.size (length c.args.self.now.exchange.held.standing.unread) _ c.min-count.result c.min.result
+    (largest_is (state_of c.args.self.now) c.in-Owed.tag c.in-Owed.size owed) c.min.ensures (c.min-count.ensures ∙ ap (λ (n : ℕ). min c.min.result n) there) in (
       record {
         plugged = is_plugged c.args.self.now.unplugged c.requires.plugged;
         needs = (
@@ -26,9 +26,9 @@ returns c =
           subst (λ (v : Side). IsOwed v) (sym owed) tt,
           none,
           λ (empty : unread (state_of c.args.self.now) ≡ []). let zero : length c.unread.result.now ≡ 0 = there ∙ ap length empty in
-            absurd (omega (arith, zero, c.min.ensures, c.min-count.ensures, c.if-count-eq0.false)),
+              absurd (omega (arith, zero, c.min.ensures, c.min-count.ensures, c.if-count-eq0.false)),
         );
       },
       subst (λ (n : ℕ). Makes (Begin n) (seen_of c.args.self.now) (seen_of c.begin_piece.new.self)) count
-      (from_same (Begin c.min-count.result) _ _ _ c.prepare.ensures.same.seen c.begin_piece.ensures),
+          (from_same (Begin c.min-count.result) _ _ _ c.prepare.ensures.same.seen c.begin_piece.ensures),
     )

@@ -27,6 +27,6 @@ returns c submit behind piece stood sending =
     let g = c.give.ensures submit behind piece stood sending in
     let first = first_gave c.args.left submit behind piece c.args.self.now c.give.new.self g in
     subst (λ (v : Side). Became (record (state_of c.args.self.now) { bulk_in = behind; side = v }) (ended success (filled c.args.left piece submit) ∷ []) c.args.self.now
-        (record c.give.new.self { pipes = c.end_first.new.pipes; outputs = c.end_first.new.outputs; side = c.end.new.self })) c.end.ensures
+    (record c.give.new.self { pipes = c.end_first.new.pipes; outputs = c.end_first.new.outputs; side = c.end.new.self })) c.end.ensures
     (answered c.args.left submit behind piece c.args.self.now c.give.new.self g c.end_first.new.pipes c.end_first.new.outputs c.end.new.self
     (c.end_first.ensures.left (filled c.args.left piece submit) behind first) (c.end_first.ensures.put (filled c.args.left piece submit) behind first))

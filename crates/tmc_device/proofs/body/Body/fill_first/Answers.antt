@@ -94,14 +94,16 @@ returns-else-size-left-3 c =
     let some : 1 ≤ c.min-count.result = omega (arith, c.min.ensures, c.min-count.ensures, c.packets_of.ensures, c.requires.some) in
     let there : c.min-count.result ≤ length f.piece.left / 64 + 1 = omega (arith, left, c.min.ensures, c.min-count.ensures) in
     let over : room f.submit < (c.min-count.result - 1) * 64 + min 64 (length f.piece.left - (c.min-count.result - 1) * 64) =
-        elim c.else-size-left.branch [
-          else-size-left-via-then-size-left+else-size-room w ↦ elim c.else-size-left-2.branch [
-            else-size-left-2-via-then-size-left-2+else-size-room-2 v ↦ omega (arith, left, free, some, w.if-size-left, w.if-size-room, v.if-size-room-2)
-          | else-size-left-2-via-else-size-left-2 v ↦ absurd (omega (arith, w.if-size-left, v.if-size-left-2)) ]
-        | else-size-left-via-else-size-left w ↦ elim c.else-size-left-3.branch [
-            else-size-left-3-via-then-size-left-3+else-left-room v ↦ omega (arith, left, free, some, there, v.if-size-left-3, v.if-left-room)
-          | else-size-left-3-via-else-size-left-3 v ↦ absurd (omega (arith, w.if-size-left, v.if-size-left-3)) ]
-        ] in
+    elim c.else-size-left.branch [
+      | else-size-left-via-then-size-left+else-size-room w ↦ elim c.else-size-left-2.branch [
+        | else-size-left-2-via-then-size-left-2+else-size-room-2 v ↦ omega (arith, left, free, some, w.if-size-left, w.if-size-room, v.if-size-room-2)
+        | else-size-left-2-via-else-size-left-2 v ↦ absurd (omega (arith, w.if-size-left, v.if-size-left-2))
+      ]
+      | else-size-left-via-else-size-left w ↦ elim c.else-size-left-3.branch [
+        | else-size-left-3-via-then-size-left-3+else-left-room v ↦ omega (arith, left, free, some, there, v.if-size-left-3, v.if-left-room)
+        | else-size-left-3-via-else-size-left-3 v ↦ absurd (omega (arith, w.if-size-left, v.if-size-left-3))
+      ]
+    ] in
     subst (λ (n : ℕ). Makes (Fill n) (seen_of c.args.self.now) (seen_of c.overflow.new.self)) count
     (over_made c.args.self.now c.overflow.new.self c.args.first.now f c.min-count.result (is_plugged c.args.self.now.unplugged c.requires.ready.plugged) c.requires.none_wanted
     some (c.min-count.result * 64 - 64) (omega arith) (omega (arith, free, c.min-count.ensures, c.packets_of.ensures)) there over

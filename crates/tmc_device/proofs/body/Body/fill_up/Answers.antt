@@ -27,6 +27,6 @@ returns c submit behind piece stood sending =
     let g = c.give.ensures submit behind piece stood sending in
     let first = first_gave c.args.size submit behind piece c.args.self.now c.give.new.self g in
     subst (λ (v : Side). Became (record (state_of c.args.self.now) { bulk_in = behind; side = v }) (ended success (filled c.args.size piece submit) ∷ []) c.args.self.now
-        (record c.give.new.self { pipes = c.end_first.new.pipes; outputs = c.end_first.new.outputs })) g.side
+    (record c.give.new.self { pipes = c.end_first.new.pipes; outputs = c.end_first.new.outputs })) g.side
     (answered c.args.size submit behind piece c.args.self.now c.give.new.self g c.end_first.new.pipes c.end_first.new.outputs c.give.new.self.side
     (c.end_first.ensures.left (filled c.args.size piece submit) behind first) (c.end_first.ensures.put (filled c.args.size piece submit) behind first))

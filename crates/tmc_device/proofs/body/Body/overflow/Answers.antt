@@ -33,6 +33,6 @@ returns c submit behind piece stood sending =
     let gave = state_gave c.args.size submit behind piece c.args.self.now c.give.new.self g in record {
       state = c.halts.ensures.state ∙ ap (λ (s : State). halts BulkIn s) gave;
       puts = c.halts.ensures.puts
-        ∙ ap (λ (o : Outbox). o.puts ++ halt_answers BulkIn (state_of c.give.new.self)) (same_outputs c.args.size submit behind piece c.args.self.now c.give.new.self g)
-        ∙ ap (λ (s : State). c.args.self.now.outputs.puts ++ halt_answers BulkIn s) gave;
+          ∙ ap (λ (o : Outbox). o.puts ++ halt_answers BulkIn (state_of c.give.new.self)) (same_outputs c.args.size submit behind piece c.args.self.now c.give.new.self g)
+          ∙ ap (λ (s : State). c.args.self.now.outputs.puts ++ halt_answers BulkIn s) gave;
     }
