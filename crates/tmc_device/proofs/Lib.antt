@@ -20,3 +20,4 @@ pub mod TakeSteps
 pub mod Unplugging
 pub mod Sounding
 pub mod Moves
+pub mod Driven
