@@ -21,3 +21,5 @@ pub mod Unplugging
 pub mod Sounding
 pub mod Unlinking
 pub mod Arriving
+pub mod Moves
+pub mod Driven

@@ -83,18 +83,7 @@ impl Device {
             return Drove::NotEnabled;
         }
         steps_rest_on_laws();
-        match event {
-            DevEvent::Take(packets) => self.body.take(packets),
-            DevEvent::Exec => self.body.exec(),
-            DevEvent::Begin(most) => self.body.begin(most),
-            DevEvent::Fill(packets) => self.body.fill(packets),
-            DevEvent::Answer => self.body.answer(),
-            DevEvent::Pending => self.body.postpone(),
-            DevEvent::Poll => self.body.poll(),
-            DevEvent::Notify => self.body.notify(),
-            DevEvent::Halt(ep) => self.body.halt(ep),
-            DevEvent::Unplug => self.body.unplug(),
-        }
+        self.body.drive(event)
     }
 
     /// The first answer that was put out and not yet dropped, with its data.
