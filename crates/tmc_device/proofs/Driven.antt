@@ -1,5 +1,5 @@
 -- what a call of drive did
-use Rattle.std.proofs.Common.{◌≡◌, ◌≢◌, refl, sym, ap, subst, List, [], ◌∷◌, ◌++◌}
+use Rattle.std.proofs.Common.{◌≡◌, ◌≢◌, refl, sym, ap, subst, List, [], ◌∷◌, ◌++◌, Result, Ok, Err, OnOk, OnErr}
 use Rattle.tmc_law.specs.declared.dev_event.DevEvent.{DevEvent}
 use Rattle.tmc_law.specs.State.{State}
 use Rattle.tmc_law.specs.Put.{Put}
@@ -67,3 +67,10 @@ pub still_lawful : ((s t : State) (move : Move) (puts : List Put) → IsReached 
 still_lawful goes fits e old Applied new before does = made_lawful goes fits (move_of e old.state) old new before does.1
 still_lawful goes fits e old NotEnabled new before does = subst (λ (z : Seen). Lawful z) (sym does.1) before
 still_lawful goes fits e old Memory new before does = subst (λ (z : Seen). Lawful z) (sym does.1) before
+
+-- the same behind what arrives
+pub came_lawful : {A E : Type 0} → ((s t : State) (move : Move) (puts : List Put) → IsReached s → Steps s move puts t → IsReached t)
+    → ((s t : State) (move : Move) (puts : List Put) → IsReached s → Steps s move puts t → AllAnswers FitsAsked puts)
+    → (move : Move) (old new : Seen) (result : Result A E) → Lawful old → OnOk result (Makes move old new) → OnErr result (new ≡ old) → Lawful new
+came_lawful goes fits move old new (Ok a) before ok err = made_lawful goes fits move old new before ok
+came_lawful goes fits move old new (Err e) before ok err = subst (λ (z : Seen). Lawful z) (sym err) before

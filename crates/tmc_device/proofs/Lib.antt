@@ -23,3 +23,4 @@ pub mod Unlinking
 pub mod Arriving
 pub mod Moves
 pub mod Driven
+pub mod Sending
