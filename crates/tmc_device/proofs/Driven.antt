@@ -14,6 +14,7 @@ use Rattle.tmc_device.proofs.Moves as moves
 pub record Driven (e : DevEvent) (old : Seen) (result : Drove) (new : Seen) : Type 0 where
   pub applied : result ≡ Applied → Applies e old new
   pub none : result ≡ NotEnabled → NoneLawful e old.state
+  pub declined : result ≡ NotEnabled → IsEnabled e old.state → ⊥
   pub enabled : result ≢ NotEnabled → IsEnabled e old.state
   pub kept : result ≢ Applied → new ≡ old
 
@@ -26,18 +27,21 @@ driven e old Applied new does = record {
     greatest = λ other puts t allows steps. moves.greatest e old.state t other puts allows steps;
   };
   none = λ is. absurd (cc);
+  declined = λ is. absurd (cc);
   enabled = λ some. does.0;
   kept = λ other. absurd (other refl);
 }
 driven e old NotEnabled new does = record {
   applied = λ is. absurd (cc);
   none = λ is move puts t allows steps. does.0 (moves.enabled e old.state t move puts allows steps);
+  declined = λ is. does.0;
   enabled = λ some. absurd (some refl);
   kept = λ other. does.1;
 }
 driven e old Memory new does = record {
   applied = λ is. absurd (cc);
   none = λ is. absurd (cc);
+  declined = λ is. absurd (cc);
   enabled = λ some. does.0;
   kept = λ other. does.1;
 }

@@ -76,6 +76,7 @@ impl Device {
     pub fn drive(&mut self, event: DevEvent) -> Drove
         ensures applied { result ≡ Drove.Applied → Applies event self.old self.new }
         ensures none { result ≡ Drove.NotEnabled → NoneLawful event self.old.state }
+        ensures declined { result ≡ Drove.NotEnabled → IsEnabled event self.old.state → ⊥ }
         ensures enabled { result ≢ Drove.NotEnabled → IsEnabled event self.old.state }
         ensures kept { result ≢ Drove.Applied → self.new ≡ self.old }
     {

@@ -18,3 +18,9 @@ returns-clause-none c =
     let new = seen_of c.drive.new.self in
     (subst (λ (old : Seen). Driven c.args.event old c.drive.result new) c.self.view_is
       (driven c.args.event (seen_of c.self.inside.body) c.drive.result new c.drive.ensures)).none
+
+pub returns-clause-declined : goal.returns-clause-declined
+returns-clause-declined c =
+    let new = seen_of c.drive.new.self in
+    (subst (λ (old : Seen). Driven c.args.event old c.drive.result new) c.self.view_is
+      (driven c.args.event (seen_of c.self.inside.body) c.drive.result new c.drive.ensures)).declined
