@@ -1,7 +1,7 @@
 //! What a reader can check of a hub: sentences that follow from its laws. Each function does nothing, and its contract is the
 //! law.
 
-ghost use Rattle.std.specs.Prelude.{◌≡◌, ◌≢◌, ◌<◌, ◌≤◌, ℕ, true, Some, [], length};
+ghost use Rattle.std.specs.Prelude.{◌≡◌, ◌≢◌, ◌<◌, ◌≤◌, ◌++◌, ℕ, true, Some, [], length};
 ghost use Rattle.host_hub.specs.declared.kind.Kind.TheVariants as kind;
 ghost use Rattle.host_hub.specs.Order.{Setting};
 ghost use Rattle.host_hub.specs.Record.{Asking, Past};
@@ -15,6 +15,7 @@ ghost use Rattle.host_hub.specs.Letters.{letters};
 ghost use Rattle.host_hub.specs.Recovery.{running};
 ghost use Rattle.host_hub.specs.Law.{IsHandOver, Lawful};
 ghost use Rattle.host_hub.specs.Pieces.{got};
+ghost use Rattle.host_hub.specs.Plan.{message_end};
 
 use host_recover::{each_answer_goes_on, each_recovery_has_a_word};
 
@@ -48,4 +49,17 @@ pub fn tickets_begin_in_order()
         → start ticket past < start other past }
     ensures begun { (setting : Setting) (past : Past) (ticket : ℕ) → Lawful setting past → 1 ≤ setting.first → is_begun ticket past ≡ true → start ticket past ≢ 0 }
     ensures started { (past : Past) (ticket : ℕ) → start ticket past ≢ 0 → is_begun ticket past ≡ true }
+{}
+
+/// The view of a ticket that is settled never changes: what it asked for, its bytes, the number that ends its message, and its
+/// outcome.
+pub fn settled_views_stay()
+    ensures asking { (setting : Setting) (past more : Past) (ticket : ℕ) (asking : Asking) → Lawful setting (more ++ past)
+        → asking_of ticket past ≡ Some asking → asking_of ticket (more ++ past) ≡ Some asking }
+    ensures bytes { (setting : Setting) (past more : Past) (ticket : ℕ) (outcome : Outcome) → 1 ≤ setting.first → Lawful setting (more ++ past)
+        → settled ticket past ≡ Some outcome → got ticket (more ++ past) ≡ got ticket past }
+    ensures last { (setting : Setting) (past more : Past) (ticket : ℕ) (outcome : Outcome) → 1 ≤ setting.first → Lawful setting (more ++ past)
+        → settled ticket past ≡ Some outcome → message_end ticket (more ++ past) ≡ message_end ticket past }
+    ensures outcome { (setting : Setting) (past more : Past) (ticket : ℕ) (outcome : Outcome) → Lawful setting (more ++ past)
+        → settled ticket past ≡ Some outcome → settled ticket (more ++ past) ≡ Some outcome }
 {}
