@@ -26,3 +26,4 @@ pub mod Outcomes
 pub mod Fronts
 pub mod Starts
 pub mod Views
+pub mod Exact

@@ -1,9 +1,15 @@
 -- what each reader can check of a hub against its lists and marks alone
-use Rattle.std.specs.Prelude.{ℕ}
+use Rattle.std.specs.Prelude.{◌≡◌, ◌⊎◌, ℕ, List, [], ◌∷◌}
 use Rattle.host_hub.specs.declared.kind.Kind.{Kind}
 use Rattle.host_hub.specs.declared.kind.Kind.TheVariants as kind
 use Rattle.host_hub.specs.declared.outcome.Outcome.{Outcome}
 use Rattle.host_hub.specs.declared.outcome.Outcome.TheVariants as outcome
+use Rattle.host_hub.specs.Outstanding.{Sent}
+
+-- it is one of these
+abbrev pub IsAmong : Sent → List Sent → Type 0
+IsAmong x [] = ⊥
+IsAmong x (y ∷ ys) = (x ≡ y) ⊎ IsAmong x ys
 
 -- Which outcomes a settled ticket may have, by its kind. A cancel, a clear, a halt, a fault and each end of the hub come to
 -- any.

@@ -38,7 +38,10 @@ pub use limits::{
 };
 pub use outcome::{End, Outcome};
 pub use refusals::{AskFault, ClearFault};
-pub use sentences::{bytes_keep_the_limit, outcomes_go_by_kind, recoveries_begin_their_words, settled_views_stay, tickets_begin_in_order};
+pub use sentences::{
+    bytes_keep_the_limit, each_submit_is_unlinked, messages_are_in_a_row, outcomes_go_by_kind,
+    recoveries_begin_their_words, settled_views_stay, tickets_begin_in_order,
+};
 pub use service::Service;
 pub use steps::{
     a_hub_ends, a_hub_waits, a_status_read_goes_on, a_submit_is_due, a_submit_is_written, a_ticket_is_asked, a_ticket_stays_clean, an_answer_comes,

@@ -1,23 +1,28 @@
 //! What a reader can check of a hub: sentences that follow from its laws. Each function does nothing, and its contract is the
 //! law.
 
-ghost use Rattle.std.specs.Prelude.{◌≡◌, ◌≢◌, ◌<◌, ◌≤◌, ◌++◌, ℕ, true, Some, [], length};
+ghost use Rattle.std.specs.Prelude.{◌≡◌, ◌≢◌, ◌<◌, ◌≤◌, ◌∷◌, ◌++◌, ℕ, true, false, Some, [], length};
 ghost use Rattle.host_hub.specs.declared.kind.Kind.TheVariants as kind;
-ghost use Rattle.host_hub.specs.Order.{Setting};
-ghost use Rattle.host_hub.specs.Record.{Asking, Past};
-ghost use Rattle.host_hub.specs.Book.{asking_of, settled};
-ghost use Rattle.host_hub.specs.Sentences.{MaySettleAs};
+ghost use Rattle.host_hub.specs.Order.{Setting, is_unlink};
+ghost use Rattle.host_hub.specs.Outstanding.{Sent};
+ghost use Rattle.host_hub.specs.Status.{awaits};
+ghost use Rattle.host_urbs.specs.Unanswered.{AreInARow};
+ghost use Rattle.host_urbs.specs.Unlinks.{unlinks_of};
+ghost use Rattle.host_hub.specs.Record.{Asking, Cancelled, Cleared, Past, written};
+ghost use Rattle.host_hub.specs.Book.{active, asking_of, settled};
+ghost use Rattle.host_hub.specs.Sentences.{IsAmong, MaySettleAs};
 ghost use Rattle.host_hub.specs.declared.outcome.Outcome.{Outcome};
 ghost use Rattle.host_recover.specs.declared.need.Need.{Need};
 ghost use Rattle.host_recover.specs.Words.{Begins, words_of};
 ghost use Rattle.host_hub.specs.Hand.{in_hand, is_begun, start};
 ghost use Rattle.host_hub.specs.Letters.{letters};
 ghost use Rattle.host_hub.specs.Recovery.{running};
-ghost use Rattle.host_hub.specs.Law.{IsHandOver, Lawful};
+ghost use Rattle.host_hub.specs.Law.{IsHandOver, Kept, Lawful};
 ghost use Rattle.host_hub.specs.Pieces.{got};
 ghost use Rattle.host_hub.specs.Plan.{message_end};
 
 use host_recover::{each_answer_goes_on, each_recovery_has_a_word};
+use host_urbs::{each_submit_is_unlinked_once, numbers_are_in_a_row};
 
 /// The bytes of a ticket never pass its limit, and a ticket that is no ask has none.
 pub fn bytes_keep_the_limit()
@@ -63,3 +68,25 @@ pub fn settled_views_stay()
     ensures outcome { (setting : Setting) (past more : Past) (ticket : ℕ) (outcome : Outcome) → Lawful setting (more ++ past)
         → settled ticket past ≡ Some outcome → settled ticket (more ++ past) ≡ Some outcome }
 {}
+
+/// The messages written have the numbers from the first one on, in a row. Whatever held of a record holds behind each entry of
+/// it.
+pub fn messages_are_in_a_row()
+    ensures numbers { (setting : Setting) (past : Past) → Lawful setting past → AreInARow setting.first (written setting past) }
+    ensures before { (setting : Setting) (more past : Past) → Lawful setting (more ++ past) → Lawful setting past }
+{
+    numbers_are_in_a_row();
+}
+
+/// Where a cancel, or a clear while it is active, reaches a ticket that has begun, what was written has exactly one unlink of
+/// each submit that it waited for then.
+pub fn each_submit_is_unlinked()
+    ensures cancelled { (setting : Setting) (more past : Past) (ticket : ℕ) (sent : Sent) → Kept setting (more ++ Cancelled ticket ∷ past)
+        → is_begun ticket past ≡ true → IsAmong sent (awaits ticket past) → is_unlink sent.order ≡ false
+        → unlinks_of sent.number (written setting (more ++ Cancelled ticket ∷ past)) ≡ 1 }
+    ensures cleared { (setting : Setting) (more past : Past) (ticket session : ℕ) (sent : Sent) → Kept setting (more ++ Cleared session ∷ past)
+        → active past ≡ Some ticket → is_begun ticket past ≡ true → IsAmong sent (awaits ticket past) → is_unlink sent.order ≡ false
+        → unlinks_of sent.number (written setting (more ++ Cleared session ∷ past)) ≡ 1 }
+{
+    each_submit_is_unlinked_once();
+}
