@@ -91,7 +91,7 @@ done_now counts s t x q h plain o none =
     (same_named s x.number (outstanding q) ∙ named_all (awaits t q) (outstanding q) x (due_of s t x q o none) o.waits plain)))
 
 -- what was written stays
-more_unlinks : (n : ℕ) (ms : List up.Message) (m : up.Message) → unlinks.unlinks_of n ms ≤ unlinks.unlinks_of n (ms ++ m ∷ [])
+pub more_unlinks : (n : ℕ) (ms : List up.Message) (m : up.Message) → unlinks.unlinks_of n ms ≤ unlinks.unlinks_of n (ms ++ m ∷ [])
 more_unlinks n [] m = omega arith
 more_unlinks n (up.Submit head x ∷ ms) m = more_unlinks n ms m
 more_unlinks n (up.Unlink head ∷ ms) m = step (head.target == n) (more_unlinks n ms m)
@@ -101,7 +101,7 @@ more_unlinks n (up.Unlink head ∷ ms) m = step (head.target == n) (more_unlinks
     step true h = omega (arith, h)
     step false h = h
 
-last_unlink : (s : Setting) (n k : ℕ) (ms : List up.Message) → 1 ≤ unlinks.unlinks_of n (ms ++ message_of s k (Unlink n) ∷ [])
+pub last_unlink : (s : Setting) (n k : ℕ) (ms : List up.Message) → 1 ≤ unlinks.unlinks_of n (ms ++ message_of s k (Unlink n) ∷ [])
 last_unlink s n k [] = rw (own n) (omega arith)
 last_unlink s n k (up.Submit head x ∷ ms) = last_unlink s n k ms
 last_unlink s n k (up.Unlink head ∷ ms) = step (head.target == n) (last_unlink s n k ms)

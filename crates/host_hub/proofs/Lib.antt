@@ -27,3 +27,4 @@ pub mod Fronts
 pub mod Starts
 pub mod Views
 pub mod Exact
+pub mod Numbered

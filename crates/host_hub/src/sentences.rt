@@ -1,14 +1,16 @@
 //! What a reader can check of a hub: sentences that follow from its laws. Each function does nothing, and its contract is the
 //! law.
 
-ghost use Rattle.std.specs.Prelude.{◌≡◌, ◌≢◌, ◌<◌, ◌≤◌, ◌∷◌, ◌++◌, ℕ, true, false, Some, [], length};
+ghost use Rattle.std.specs.Prelude.{◌≡◌, ◌≢◌, ◌+◌, ◌<◌, ◌≤◌, ◌∷◌, ◌++◌, ℕ, true, false, Some, [], length};
 ghost use Rattle.host_hub.specs.declared.kind.Kind.TheVariants as kind;
 ghost use Rattle.host_hub.specs.Order.{Setting, is_unlink};
 ghost use Rattle.host_hub.specs.Outstanding.{Sent};
 ghost use Rattle.host_hub.specs.Status.{awaits};
 ghost use Rattle.host_urbs.specs.Unanswered.{AreInARow};
 ghost use Rattle.host_urbs.specs.Unlinks.{unlinks_of};
-ghost use Rattle.host_hub.specs.Record.{Asking, Cancelled, Cleared, Past, written};
+ghost use Rattle.host_hub.specs.Record.{Asking, Cancelled, Cleared, Past, next, written};
+ghost use Rattle.host_urbs.specs.declared.limits.TheConstants.{LAST_SUBMIT};
+ghost use Rattle.usbip_wire.specs.declared.dirs.TheConstants.{DIRS_MAX};
 ghost use Rattle.host_hub.specs.Book.{active, asking_of, settled};
 ghost use Rattle.host_hub.specs.Sentences.{IsAmong, MaySettleAs};
 ghost use Rattle.host_hub.specs.declared.outcome.Outcome.{Outcome};
@@ -76,6 +78,13 @@ pub fn messages_are_in_a_row()
     ensures before { (setting : Setting) (more past : Past) → Lawful setting (more ++ past) → Lawful setting past }
 {
     numbers_are_in_a_row();
+}
+
+/// An unlink always has a number: those above the greatest one of a submit suffice.
+pub fn numbers_suffice()
+    ensures { (setting : Setting) (past : Past) → setting.first ≤ LAST_SUBMIT + 1 → Lawful setting past → next setting.first past ≤ LAST_SUBMIT + 1 + DIRS_MAX }
+{
+    each_submit_is_unlinked_once();
 }
 
 /// Where a cancel, or a clear while it is active, reaches a ticket that has begun, what was written has exactly one unlink of
