@@ -28,3 +28,4 @@ pub mod Starts
 pub mod Views
 pub mod Exact
 pub mod Numbered
+pub mod Determined

@@ -158,7 +158,7 @@ pub record Above (s : Setting) (past : Past) : Type 0 where
 abbrev IsNumbered : Setting → Past → Type 0
 IsNumbered s past = (next s.first past ≤ LAST_SUBMIT + 1) ⊎ Above s past
 
-submit_last : (s : Setting) (past : Past) (n : ℕ) (order : Order) → is_unlink order ≡ false → urbs_law.MayWrite s.first (crossings s past) (message_of s n order) → n ≤ LAST_SUBMIT
+pub submit_last : (s : Setting) (past : Past) (n : ℕ) (order : Order) → is_unlink order ≡ false → urbs_law.MayWrite s.first (crossings s past) (message_of s n order) → n ≤ LAST_SUBMIT
 submit_last s past n (Unlink target) plain may = clash (sym plain)
 submit_last s past n (Part tag text eom) plain may = may.last
 submit_last s past n (Request tag size) plain may = may.last

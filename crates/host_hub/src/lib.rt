@@ -39,7 +39,7 @@ pub use limits::{
 pub use outcome::{End, Outcome};
 pub use refusals::{AskFault, ClearFault};
 pub use sentences::{
-    bytes_keep_the_limit, each_submit_is_unlinked, messages_are_in_a_row, numbers_suffice,
+    bytes_keep_the_limit, each_submit_is_unlinked, hubs_are_determined, messages_are_in_a_row, numbers_suffice,
     outcomes_go_by_kind,    recoveries_begin_their_words, settled_views_stay, tickets_begin_in_order,
 };
 pub use service::Service;

@@ -1,29 +1,31 @@
 //! What a reader can check of a hub: sentences that follow from its laws. Each function does nothing, and its contract is the
 //! law.
 
-ghost use Rattle.std.specs.Prelude.{◌≡◌, ◌≢◌, ◌+◌, ◌<◌, ◌≤◌, ◌∷◌, ◌++◌, ℕ, true, false, Some, [], length};
+ghost use Rattle.std.specs.Prelude.{◌≡◌, ◌≢◌, ◌+◌, ◌<◌, ◌≤◌, ◌∷◌, ◌++◌, ℕ, true, false, None, Some, [], length};
 ghost use Rattle.host_hub.specs.declared.kind.Kind.TheVariants as kind;
 ghost use Rattle.host_hub.specs.Order.{Setting, is_unlink};
 ghost use Rattle.host_hub.specs.Outstanding.{Sent};
 ghost use Rattle.host_hub.specs.Status.{awaits};
 ghost use Rattle.host_urbs.specs.Unanswered.{AreInARow};
 ghost use Rattle.host_urbs.specs.Unlinks.{unlinks_of};
-ghost use Rattle.host_hub.specs.Record.{Asking, Cancelled, Cleared, Past, next, written};
+ghost use Rattle.host_hub.specs.Record.{Asking, Cancelled, Cleared, Happening, Past, next, written};
 ghost use Rattle.host_urbs.specs.declared.limits.TheConstants.{LAST_SUBMIT};
 ghost use Rattle.usbip_wire.specs.declared.dirs.TheConstants.{DIRS_MAX};
 ghost use Rattle.host_hub.specs.Book.{active, asking_of, settled};
-ghost use Rattle.host_hub.specs.Sentences.{IsAmong, MaySettleAs};
+ghost use Rattle.host_hub.specs.Sentences.{IsAmong, IsItsOwn, MaySettleAs};
 ghost use Rattle.host_hub.specs.declared.outcome.Outcome.{Outcome};
 ghost use Rattle.host_recover.specs.declared.need.Need.{Need};
 ghost use Rattle.host_recover.specs.Words.{Begins, words_of};
-ghost use Rattle.host_hub.specs.Hand.{in_hand, is_begun, start};
+ghost use Rattle.host_hub.specs.Hand.{ended, in_hand, is_begun, start};
 ghost use Rattle.host_hub.specs.Letters.{letters};
 ghost use Rattle.host_hub.specs.Recovery.{running};
-ghost use Rattle.host_hub.specs.Law.{IsHandOver, Kept, Lawful};
+ghost use Rattle.host_hub.specs.Law.{Allowed, IsHandOver, Kept, Lawful};
 ghost use Rattle.host_hub.specs.Pieces.{got};
 ghost use Rattle.host_hub.specs.Plan.{message_end};
 
-use host_recover::{each_answer_goes_on, each_recovery_has_a_word};
+use host_recover::{
+    a_whole_word_ends, each_answer_goes_on, each_recovery_has_a_word, the_next_submit_is_one,
+};
 use host_urbs::{each_submit_is_unlinked_once, numbers_are_in_a_row};
 
 /// The bytes of a ticket never pass its limit, and a ticket that is no ask has none.
@@ -98,4 +100,14 @@ pub fn each_submit_is_unlinked()
         → unlinks_of sent.number (written setting (more ++ Cleared session ∷ past)) ≡ 1 }
 {
     each_submit_is_unlinked_once();
+}
+
+/// At each moment the laws allow at most one happening of the hub's own, and none where nothing is owed.
+pub fn hubs_are_determined()
+    ensures one { (setting : Setting) (past : Past) (one other : Happening) → Lawful setting past → Allowed setting past one → Allowed setting past other
+        → IsItsOwn past one → IsItsOwn past other → one ≡ other }
+    ensures none { (setting : Setting) (past : Past) (one : Happening) → Kept setting past → ended past ≡ None → Allowed setting past one → IsItsOwn past one → ⊥ }
+{
+    a_whole_word_ends();
+    the_next_submit_is_one();
 }
