@@ -135,7 +135,7 @@ fell_kept s past m e kept running may ends =
 
 -- it ends otherwise
 
-stop_settled : (s : Setting) (past : Past) (e : End) → StopLaw s past e → AreSettled s past
+pub stop_settled : (s : Setting) (past : Past) (e : End) → StopLaw s past e → AreSettled s past
 stop_settled s past e (ByFault is quiet) = quiet.settled
 stop_settled s past e (ByClosing is quiet) = quiet.settled
 stop_settled s past e (ByBytes f is quiet) = quiet.settled

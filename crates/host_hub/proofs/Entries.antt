@@ -28,6 +28,7 @@ use Rattle.host_hub.specs.Book.{is_live}
 use Rattle.host_hub.specs.Causes.{reached}
 use Rattle.host_hub.specs.Pieces.{pieces}
 use Rattle.host_hub.specs.Law.{Lawful}
+use Rattle.host_hub.specs.Sentences.{IsAmong}
 use Rattle.host_hub.specs.Steps.{MayWriteNext}
 use Rattle.host_hub.proofs.Lists.{clash, differ, neither, or_false, own, right_none}
 use Rattle.host_hub.proofs.Messages.{next_same}
@@ -148,8 +149,7 @@ submit_may s past order h plain last place = by order plain
 -- the first submit that an unlink is due for is outstanding, and no unlink names it
 
 abbrev pub IsIn : Sent → List Sent → Type 0
-IsIn x [] = ⊥
-IsIn x (y ∷ ys) = (x ≡ y) ⊎ IsIn x ys
+IsIn = IsAmong
 
 in_involved : (t : ℕ) (listens : Bool) (x : Sent) (xs : List Sent) → IsIn x (involved t listens xs) → IsIn x xs
 in_involved t listens x [] h = h

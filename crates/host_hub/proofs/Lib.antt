@@ -26,3 +26,6 @@ pub mod Outcomes
 pub mod Fronts
 pub mod Starts
 pub mod Views
+pub mod Exact
+pub mod Numbered
+pub mod Determined

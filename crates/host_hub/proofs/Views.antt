@@ -410,3 +410,135 @@ made_frozen s past t o (Cancelled u) h e = cc
 made_frozen s past t o (Cleared w) h e = cc
 made_frozen s past t o GaveUp h e = cc
 made_frozen s past t o (Settled u p) h e = cc
+
+-- ---- the cause of a ticket freezes it, or ended the hub
+
+still_over : (t : ℕ) (past : Past) (x : Happening) → IsOver t past → (IsFrozen t past → IsFrozen t (x ∷ past)) → (ended past ≢ None → ended (x ∷ past) ≢ None) → IsOver t (x ∷ past)
+still_over t past x (inl e) frozen over = inl (over e)
+still_over t past x (inr f) frozen over = inr (frozen f)
+
+ends_more : (x : Happening) (o : Option End) → o ≢ None → ended_by x o ≢ None
+ends_more (Fell m e) o h = λ k. by k
+  where
+    by : Some e ≡ None → ⊥
+    by k = cc
+ends_more (Stopped e) o h = λ k. by k
+  where
+    by : Some e ≡ None → ⊥
+    by k = cc
+ends_more x o h = h
+
+frozen_by : (s : Setting) (past : Past) (t : ℕ) (o : Outcome) (x : Happening) → 1 ≤ s.first → Lawful s (x ∷ past) → cause s t past ≡ Some o → IsFrozen t past → IsFrozen t (x ∷ past)
+frozen_by s past t o (Wrote n (Of u) k) one h e f = wrote_frozen s past n t u o k h.1.0 e h.1.2 f
+frozen_by s past t o (Wrote n Recovery k) one h e f = f
+frozen_by s past t o (Took m) one h e f = took_frozen s past t m one h.0 f
+frozen_by s past t o (Fell m d) one h e (inl none) = inl (reads_less t m (outstanding past) none)
+frozen_by s past t o (Fell m d) one h e (inr shut) = inr shut
+frozen_by s past t o (Stopped d) one h e f = f
+frozen_by s past t o Recovers one h e f = f
+frozen_by s past t o (Asked u a) one h e f = f
+frozen_by s past t o (Cancelled u) one h e f = f
+frozen_by s past t o (Cleared w) one h e f = f
+frozen_by s past t o GaveUp one h e f = f
+frozen_by s past t o (Settled u p) one h e f = f
+
+ends_over : (o : Outcome) (x : Happening) (q : Option End) → ends_as (ended_by x None) ≡ Some o → ended_by x q ≢ None
+ends_over o (Fell m e) q h = λ k. by k
+  where
+    by : Some e ≡ None → ⊥
+    by k = cc
+ends_over o (Stopped e) q h = λ k. by k
+  where
+    by : Some e ≡ None → ⊥
+    by k = cc
+ends_over o (Wrote n w k) q h = cc
+ends_over o (Took m) q h = cc
+ends_over o Recovers q h = cc
+ends_over o (Asked u a) q h = cc
+ends_over o (Cancelled u) q h = cc
+ends_over o (Cleared w) q h = cc
+ends_over o GaveUp q h = cc
+ends_over o (Settled u p) q h = cc
+
+stop_free : (o : Outcome) (r : Option Outcome) (xs : List Sent) → once_free r xs ≡ Some o → xs ≡ []
+stop_free o r [] h = refl
+stop_free o r (x ∷ xs) h = cc
+
+causes_over : (s : Setting) (past : Past) (t : ℕ) (o : Outcome) (x : Happening) → Lawful s (x ∷ past) → causes s t past x ≡ Some o → IsOver t (x ∷ past)
+causes_over s past t o x h e = by (made_at s t past x) refl e
+  where
+    ends : (k : Option Outcome) → ends_as (ended_by x None) ≡ k → or_else k (stops t (x ∷ past)) ≡ Some o → IsOver t (x ∷ past)
+    ends None f g = inr (inl (reads_free t (listens t (x ∷ past)) (outstanding (x ∷ past)) (stop_free o (reached t (x ∷ past)) (awaits t (x ∷ past)) g)))
+    ends (Some p) f g = inl (ends_over p x (ended past) f)
+
+    by : (k : Option Outcome) → made_at s t past x ≡ k → or_else k (or_else (ends_as (ended_by x None)) (stops t (x ∷ past))) ≡ Some o → IsOver t (x ∷ past)
+    by None f g = ends (ends_as (ended_by x None)) refl g
+    by (Some p) f g = inr (made_frozen s past t p x h f)
+
+cause_over : (s : Setting) (past : Past) → 1 ≤ s.first → Lawful s past → (t : ℕ) (o : Outcome) → cause s t past ≡ Some o → IsOver t past
+cause_over s [] one h t o e = cc
+cause_over s (x ∷ past) one h t o e = by (cause s t past) refl (cause_over s past one h.0 t) e
+  where
+    by : (k : Option Outcome) → cause s t past ≡ k → ((p : Outcome) → cause s t past ≡ Some p → IsOver t past) → or_else k (causes s t past x) ≡ Some o → IsOver t (x ∷ past)
+    by None f again g = causes_over s past t o x h g
+    by (Some p) f again g = still_over t past x (again p f) (frozen_by s past t p x one h f) (ends_more x (ended past))
+
+-- ---- so a settled view stays
+
+abbrev IsSameView : ℕ → Past → Past → Type 0
+IsSameView t past q = (got t q ≡ got t past) × (message_end t q ≡ message_end t past)
+
+same_view : (t : ℕ) (past : Past) → IsSameView t past past
+same_view t past = (refl, refl)
+
+settled_unlinks : (s : Setting) (past : Past) (t : ℕ) (o : Outcome) (order : Order) → Lawful s past → Works s past → settled t past ≡ Some o → WriteLaw s past (Of t) order
+    → (target : ℕ) × (order ≡ Unlink target)
+settled_unlinks s past t o order h works e law = caused_law s past t o order works (settled_cause s past h t o e) law
+
+wrote_view : (s : Setting) (past : Past) (n t u : ℕ) (o : Outcome) (order : Order) → Lawful s past → Works s past → settled t past ≡ Some o → WriteLaw s past (Of u) order
+    → IsSameView t past (Wrote n (Of u) order ∷ past)
+wrote_view s past n t u o order h works e law = step (u == t) refl
+  where
+    mine : (order : Order) → (target : ℕ) × (order ≡ Unlink target)
+        → (data_in (opened n order (pieces t past)) ≡ got t past) × (ended_at n order (message_end t past) ≡ message_end t past)
+    mine (Unlink k) is = (refl, refl)
+    mine (Part tag text eom) is = cc
+    mine (Request tag size) is = cc
+    mine (Trigger tag) is = cc
+    mine Read is = cc
+    mine Listen is = cc
+    mine (Class request) is = cc
+    mine (ClearHalt endpoint) is = cc
+
+    step : (b : Bool) → (u == t) ≡ b
+        → (data_in (if b then opened n order (pieces t past) else pieces t past) ≡ got t past) × ((if b then ended_at n order (message_end t past) else message_end t past) ≡ message_end t past)
+    step true f = mine order (settled_unlinks s past t o order h works e (subst (λ (v : ℕ). WriteLaw s past (Of v) order) (eqb-true u t f) law))
+    step false f = (refl, refl)
+
+took_view : (s : Setting) (past : Past) (t : ℕ) (o : Outcome) (m : down.Message) → 1 ≤ s.first → Lawful s past → ended past ≡ None → settled t past ≡ Some o → IsSameView t past (Took m ∷ past)
+took_view s past t o (down.RetUnlink head) one h runs e = ((lost_same t (lost_with head.seqnum (outstanding past)) (pieces t past)).0, refl)
+took_view s past t o (down.RetSubmit head bytes) one h runs e = by (cause_over s past one h t o (settled_cause s past h t o e))
+  where
+    by : IsOver t past → IsSameView t past (took past head bytes)
+    by (inl over) = absurd (over runs)
+    by (inr frozen) = ((took_same s past t head bytes frozen (λ x i. let low : s.first ≤ x.number = lows s past h x i in omega (arith, one, low))).0, refl)
+
+view_by : (s : Setting) (past : Past) (t : ℕ) (o : Outcome) (x : Happening) → 1 ≤ s.first → Lawful s (x ∷ past) → settled t past ≡ Some o → IsSameView t past (x ∷ past)
+view_by s past t o (Wrote n (Of u) k) one h e = wrote_view s past n t u o k h.0 h.1.0 e h.1.2
+view_by s past t o (Took m) one h e = took_view s past t o m one h.0 h.1.0.running e
+view_by s past t o (Wrote n Recovery k) one h e = (refl, refl)
+view_by s past t o (Fell m d) one h e = (refl, refl)
+view_by s past t o (Stopped d) one h e = (refl, refl)
+view_by s past t o Recovers one h e = (refl, refl)
+view_by s past t o (Asked u a) one h e = (refl, refl)
+view_by s past t o (Cancelled u) one h e = (refl, refl)
+view_by s past t o (Cleared w) one h e = (refl, refl)
+view_by s past t o GaveUp one h e = (refl, refl)
+view_by s past t o (Settled u p) one h e = (refl, refl)
+
+pub views_stay : (s : Setting) (more past : Past) → 1 ≤ s.first → Lawful s (more ++ past) → (t : ℕ) (o : Outcome) → settled t past ≡ Some o → IsSameView t past (more ++ past)
+views_stay s [] past one h t o e = same_view t past
+views_stay s (x ∷ more) past one h t o e =
+    let before : IsSameView t past (more ++ past) = views_stay s more past one h.0 t o e in
+    let now : IsSameView t (more ++ past) (x ∷ (more ++ past)) = view_by s (more ++ past) t o x one h (stays past more t o (lawful_book s (more ++ past) h.0) e) in
+    (now.0 ∙ before.0, now.1 ∙ before.1)

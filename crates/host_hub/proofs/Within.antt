@@ -55,6 +55,16 @@ asked_before s past (Asked u b) h t a low e =
     subst (λ (c : Bool). (if c then Some b else asking_of t past) ≡ Some a) (differ u t (λ k. omega (arith, k, low, h.1.1))) e
 asked_before s past x h t a low e = e
 
+asked_still : (s : Setting) (past : Past) (x : Happening) → Lawful s (x ∷ past) → (t : ℕ) (a : Asking) → asking_of t past ≡ Some a → asking_of t (x ∷ past) ≡ Some a
+asked_still s past (Asked u b) h t a e =
+    let low : t ≤ tickets past = asking_known s past h.0 t a e in
+    subst (λ (c : Bool). (if c then Some b else asking_of t past) ≡ Some a) (sym (differ u t (λ k. omega (arith, k, low, h.1.1)))) e
+asked_still s past x h t a e = e
+
+pub asking_stays : (s : Setting) (past more : Past) (t : ℕ) (a : Asking) → Lawful s (more ++ past) → asking_of t past ≡ Some a → asking_of t (more ++ past) ≡ Some a
+asking_stays s past [] t a h e = e
+asking_stays s past (x ∷ more) t a h e = asked_still s (more ++ past) x h t a (asking_stays s past more t a h.0 e)
+
 -- ---- a ticket that has not begun has no pieces
 
 none_answered : (t : ℕ) (o : Option Sent) (head : RetSubmitHead) (bytes : List ℕ) → ((x : Sent) → o ≡ Some x → is_of t x.owner ≡ false) → answered_for t o head bytes [] ≡ []
