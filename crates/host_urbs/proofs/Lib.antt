@@ -9,3 +9,5 @@ pub mod Numbers
 pub mod Following
 pub mod Keeping
 pub mod Patched
+pub mod Attachment
+pub mod Hearing

@@ -7,13 +7,18 @@
 //! nothing: their contracts say what holds of each lawful record of messages.
 #![tactic(auto)]
 
+mod attached;
 mod entries;
 mod entry;
+mod exchange;
+mod front;
 mod laws;
 mod limits;
 mod outbox;
+mod replies;
 mod urbs;
 
+pub use attached::{AttachFault, Attached};
 pub use laws::{
     a_read_is_unlinked, each_message_is_answered_once, each_submit_is_unlinked_once,
     few_are_outstanding, limits_are_the_products, numbers_are_in_a_row,
