@@ -1,5 +1,6 @@
 -- the steps of an attachment, in a row
-use Rattle.std.proofs.Common.{◌≡◌, ◌⊎◌, inl, inr, ℕ, ◌+◌, ◌-◌, ◌<◌, ◌≤◌, List, [], ◌∷◌, ◌++◌, length, take, drop, get_or, refl, sym, subst, ◌∙◌, ap, arith, append_assoc, length-append, length-drop}
+use Rattle.std.proofs.Common.{◌≡◌, ◌⊎◌, inl, inr, ℕ, ◌+◌, ◌-◌, ◌<◌, ◌≤◌, List, [], ◌∷◌, ◌++◌, length, take, drop, get_or, Result, Ok, Err, refl, sym, subst, ◌∙◌, ap, arith, append_assoc, length-append, length-drop}
+use Rattle.std.specs.Prelude.{Bool, true, false, if◌then◌else◌}
 use Rattle.std.proofs.lemmas.List.{append-nil, drop-drop, length-take-le, take_all, take_rest}
 use Rattle.std.proofs.Math.ListN.{drop_of_length-le}
 use Rattle.std.proofs.Math.Seq.{take-add}
@@ -15,11 +16,13 @@ use Rattle.usbip_wire.specs.declared.down.DownPhase.{DownPhase}
 use Rattle.usbip_wire.specs.declared.down.DownPhase.TheVariants.{Ops, Urbs}
 use Rattle.usbip_wire.specs.declared.dirs.Outstanding.{Outstanding}
 use Rattle.usbip_wire.specs.Down.{RetSubmit, RetUnlink}
-use Rattle.usbip_wire.specs.DownFed.{Means, NoneWhole}
+use Rattle.usbip_wire.specs.declared.ret_submit.RetSubmitHead.{RetSubmitHead}
+use Rattle.usbip_wire.specs.DownFed.{Held, Means, NoneWhole, data_in, data_of}
+use Rattle.usbip_wire.specs.Urb.{Fits32, message_max}
 use Rattle.host_urbs.specs.declared.attached.AttachFault.{AttachFault}
 use Rattle.host_urbs.specs.declared.attached.AttachFault.TheVariants as fault
-use Rattle.host_urbs.specs.Attaching.{took_byte}
-use Rattle.host_urbs.specs.Attach.{Stage, Importing, Describing, Configuring, phase_of, entries_at, Undecided, Awaits, At, SendGoes, PollGoes, Step, Sent, SentNone, Took, TookNone, Path, here, on, IsOpen, Last, SendFailed, PollFailed, PollClosed, SendWants, PollWants, Spent, Stops}
+use Rattle.host_urbs.specs.Attaching.{Goes, took_byte}
+use Rattle.host_urbs.specs.Attach.{Stage, Importing, Describing, Configuring, phase_of, entries_at, IsAnswer, Undecided, Awaits, At, SendGoes, PollGoes, Step, Sent, SentNone, Took, TookNone, Path, here, on, IsOpen, Last, SendFailed, PollFailed, PollClosed, SendWants, PollWants, Wants, Spent, Stops}
 
 -- ---- what is awaited
 
@@ -47,6 +50,23 @@ pub first_of_one : (buf : List ℕ) (n : ℕ) → length buf ≡ 1 → 0 < n →
 first_of_one [] n e h k = absurd (omega (arith, e))
 first_of_one (x ∷ []) n e h k = take_all n (x ∷ []) h
 first_of_one (x ∷ (y ∷ ys)) n e h k = absurd (omega (arith, e))
+
+-- a status is what it is read as
+pub status_is : (stage : Stage) (head : RetSubmitHead) (bytes : List ℕ) → phase_of stage ≡ Urbs → IsAnswer stage head bytes → Fits32 head.status
+status_is Importing head bytes e a = absurd (apart e)
+  where
+    apart : Ops 0 0 ≡ Urbs → ⊥
+    apart h = cc
+status_is (Describing devid) head bytes e a = a.2.status
+status_is (Configuring devid ends) head bytes e a = a.2.status
+
+pub data_short : (held : Held) → length held.rest ≤ message_max → length (data_of held) ≤ message_max
+data_short held h = step held.phase held.whole
+  where
+    step : (phase : DownPhase) (whole : Bool) → length (if whole then data_in phase held.rest else []) ≤ message_max
+    step (Ops devices interfaces) true = omega arith
+    step Urbs true = omega (arith, h, length-drop 48 held.rest)
+    step phase false = omega arith
 
 abbrev pub sending : At → List ℕ → ℕ → ℕ → At
 sending s request at calls = record s { unsent = drop at request; sent = s.sent ++ take at request; calls = calls }
@@ -140,3 +160,13 @@ module _ {A : Type 0} (told : A → Told) (counts : A → Counts) (sends : A →
         (q.3 ∙ ap (λ (x : List ℕ). record s { rest = r ++ byte ∷ []; taken = x; calls = q.0.calls }) (append_assoc s.taken r (byte ∷ []))) all,
         q.2,
       )
+
+  -- ---- one exchange behind another
+
+  pub after : {X : Type 0} (Q R : X → At → Type 0) (t : At) (mid new : A) (left : ℕ) (r : Result X AttachFault) → Path told counts sends polls busid s old t mid
+      → ((x : X) (u : At) → Q x u → R x u) → Goes told counts sends polls turns busid t mid left new Q r → Goes told counts sends polls turns busid s old left new R r
+  after {X} Q R t mid new left (Ok x) p f g = (g.0, joined_path t mid g.0 new p g.1, g.2, f x g.0 g.3)
+  after {X} Q R t mid new left (Err why) p f g = joined_stop t mid new why p g
+
+  pub wants : Stops told counts sends polls turns busid s old fault.Memory old
+  wants = record { at = s; mid = old; path = here; last = Wants refl refl }

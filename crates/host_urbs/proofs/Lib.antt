@@ -11,3 +11,4 @@ pub mod Keeping
 pub mod Patched
 pub mod Attachment
 pub mod Hearing
+pub mod Went

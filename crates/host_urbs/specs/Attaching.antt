@@ -1,5 +1,5 @@
 -- what the parts of an attachment do: for the contracts of its own functions, no public one
-use Rattle.std.specs.Prelude.{◌≡◌, ℕ, ◌+◌, false, true, Option, Some, None, List, [], ◌∷◌, ◌++◌, take, Result, Ok, Err}
+use Rattle.std.specs.Prelude.{◌≡◌, ℕ, pos, ◌+◌, drop, false, true, Option, Some, None, List, [], ◌∷◌, ◌++◌, take, Result, Ok, Err}
 use Rattle.tmc_base.specs.declared.link.SendStep.{SendStep}
 use Rattle.tmc_base.specs.declared.link.PollStep.{PollStep}
 use Rattle.tmc_base.specs.Link.{Counts}
@@ -14,7 +14,11 @@ use Rattle.host_urbs.specs.declared.replies.Import.TheVariants as import
 use Rattle.host_urbs.specs.declared.replies.Answer.{Answer}
 use Rattle.host_urbs.specs.declared.replies.Answer.TheVariants as answer
 use Rattle.usbip_wire.specs.declared.device.DeviceRecord.{DeviceRecord}
-use Rattle.host_urbs.specs.Attach.{At, Stage, Importing, Path, Stops, Undecided, IsBad, IsAnswer}
+use Rattle.usb_setup.specs.declared.ends.Ends.{Ends}
+use Rattle.usb_setup.specs.Interface.{Finds}
+use Rattle.usbip_wire.specs.declared.ret_submit.RetSubmitHead.{RetSubmitHead}
+use Rattle.usbip_wire.specs.declared.urb.TheConstants.{URB_HEADER}
+use Rattle.host_urbs.specs.Attach.{At, Stage, Importing, Describing, Path, Stops, Undecided, IsBad, IsAnswer}
 
 -- it went on to here, with so many calls left, or it stopped
 abbrev pub Goes : {A X : Type 0} → (A → Told) → (A → Counts) → (A → List ℕ → SendStep → A → Type 0) → (A → ℕ → PollStep → List ℕ → A → Type 0)
@@ -55,3 +59,16 @@ HearsAnswer stage bytes (answer.Bad f) reader = IsBad stage bytes f
 -- the answer was taken whole
 abbrev pub took_rest : At → At → Type 0
 took_rest s t = t ≡ record s { rest = t.rest; taken = s.taken ++ t.rest; calls = t.calls }
+
+-- ---- what the three exchanges give
+
+-- the answer to an import was taken, with this device
+abbrev pub IsImported : DeviceRecord → At → Type 0
+IsImported device t = (t.stage ≡ Importing) × (t.unsent ≡ []) × SpellsImport 0 (Some device) t.rest
+
+-- the answer to the stage's submit was taken, with status 0
+abbrev pub IsGood : At → Type 0
+IsGood t = (t.unsent ≡ []) × (head : RetSubmitHead) × IsAnswer t.stage head t.rest × (head.status ≡ pos 0)
+
+abbrev pub IsDescribed : ℕ → Ends → At → Type 0
+IsDescribed devid ends t = (t.stage ≡ Describing devid) × IsGood t × Finds (drop URB_HEADER t.rest) ends

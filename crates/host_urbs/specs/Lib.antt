@@ -8,3 +8,4 @@ pub mod Held
 pub mod Kept
 pub mod Attach
 pub mod Attaching
+pub mod Attached

@@ -8,6 +8,7 @@
 #![tactic(auto)]
 
 mod attached;
+mod attaching;
 mod entries;
 mod entry;
 mod exchange;
@@ -19,6 +20,7 @@ mod replies;
 mod urbs;
 
 pub use attached::{AttachFault, Attached};
+pub use attaching::attach;
 pub use laws::{
     a_read_is_unlinked, each_message_is_answered_once, each_submit_is_unlinked_once,
     few_are_outstanding, limits_are_the_products, numbers_are_in_a_row,

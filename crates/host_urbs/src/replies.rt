@@ -1,7 +1,8 @@
-ghost use Rattle.std.specs.Prelude.{◌≡◌, ℕ, ◌+◌, ◌++◌, ◌∷◌, [], List, take, true, None};
+ghost use Rattle.std.specs.Prelude.{◌≡◌, ℕ, ◌+◌, ◌≤◌, ◌++◌, ◌∷◌, [], List, length, take, true, None, IfOk};
 ghost use Rattle.usbip_wire.specs.declared.dirs.Outstanding.TheVariants as entry;
 ghost use Rattle.usbip_wire.specs.declared.down.DownPhase.TheVariants.{Ops, Urbs};
 ghost use Rattle.usbip_wire.specs.ImportReply.{SpellsImport};
+ghost use Rattle.usbip_wire.specs.Urb.{message_max};
 ghost use Rattle.host_urbs.specs.Attach.{At, Stage, Importing, phase_of, entries_at, Undecided, IsAnswer};
 ghost use Rattle.host_urbs.specs.Attaching.{Goes, HearsImport, HearsAnswer, is_imported, holding, took_rest};
 
@@ -101,6 +102,7 @@ pub(crate) fn take_answer<L: Link>(
     ensures goes { (turns : ℕ) (busid : List ℕ) (s : At) → phase_of s.stage ≡ Urbs → entries_at s.stage ≡ dirs.now → s.unsent ≡ [] → s.rest ≡ []
         → s.calls + left.old ≡ turns → Goes L.told L.counts L.sends L.polls turns busid s link.old left.new link.new
           (λ head t. took_rest s t × IsAnswer s.stage head t.rest × (reader.new ≡ record { phase = Urbs; rest = t.rest; whole = true; bad = None })) result }
+    ensures held { IfOk result (λ _. length reader.new.rest ≤ message_max) }
 {
     'bytes: loop {
         let byte = take_byte(link, left)?;
@@ -114,8 +116,9 @@ pub(crate) fn take_answer<L: Link>(
 
 /// The next byte of the answer to the one submit in `dirs`.
 fn hear_answer(reader: &mut DownReader, dirs: &Dirs, byte: u8) -> Answer
-    ensures { (stage : Stage) (bytes : List ℕ) → phase_of stage ≡ Urbs → entries_at stage ≡ dirs.now → reader.old ≡ holding Urbs bytes
+    ensures hears { (stage : Stage) (bytes : List ℕ) → phase_of stage ≡ Urbs → entries_at stage ≡ dirs.now → reader.old ≡ holding Urbs bytes
         → Undecided stage bytes → HearsAnswer stage (bytes ++ byte ∷ []) result reader.new }
+    ensures held { length reader.new.rest ≤ message_max }
 {
     match reader.feed(&[byte], dirs).what {
         Down::RetSubmit(head) => Answer::Whole(head),

@@ -20,17 +20,17 @@ answers c stage bytes what p d e u is =
     fed_answers Urbs (entries_at stage) bytes c.args.byte c.args.reader.now c.feed.result c.feed.new.self what e (none stage bytes p u)
     (subst (λ (l : List Outstanding). Fed c.args.reader.now l (c.args.byte ∷ []) c.feed.result c.feed.new.self) (sym d) c.feed.ensures) is
 
-pub returns-in-RetSubmit : goal.returns-in-RetSubmit
-returns-in-RetSubmit c = λ stage bytes p d e u.
+pub returns-in-RetSubmit-clause-hears : goal.returns-in-RetSubmit-clause-hears
+returns-in-RetSubmit-clause-hears c = λ stage bytes p d e u.
     hears_whole stage bytes c.args.byte c.feed.result.used c.feed.new.self p (none stage bytes p u) c.in-RetSubmit.head
-    (answers (goal.at.returns-in-RetSubmit c).After-feed stage bytes (down.RetSubmit c.in-RetSubmit.head) p d e u c.in-RetSubmit.is)
+    (answers (goal.at.returns-in-RetSubmit-clause-hears c).After-feed stage bytes (down.RetSubmit c.in-RetSubmit.head) p d e u c.in-RetSubmit.is)
 
-pub returns-in-Bad : goal.returns-in-Bad
-returns-in-Bad c = λ stage bytes p d e u.
+pub returns-in-Bad-clause-hears : goal.returns-in-Bad-clause-hears
+returns-in-Bad-clause-hears c = λ stage bytes p d e u.
     hears_bad stage bytes c.args.byte c.feed.result.used c.feed.new.self p (none stage bytes p u) c.in-Bad.field
-    (answers (goal.at.returns-in-Bad c).After-feed stage bytes (down.Bad c.in-Bad.field) p d e u c.in-Bad.is)
+    (answers (goal.at.returns-in-Bad-clause-hears c).After-feed stage bytes (down.Bad c.in-Bad.field) p d e u c.in-Bad.is)
 
-pub returns-in_default : goal.returns-in_default
-returns-in_default c = λ stage bytes p d e u.
+pub returns-in_default-clause-hears : goal.returns-in_default-clause-hears
+returns-in_default-clause-hears c = λ stage bytes p d e u.
     hears_more stage bytes c.args.byte c.feed.result.used c.feed.new.self p (none stage bytes p u) c.feed.result.what c.in_default.not-RetSubmit c.in_default.not-Bad
-    (answers (goal.at.returns-in_default c).After-feed stage bytes c.feed.result.what p d e u refl)
+    (answers (goal.at.returns-in_default-clause-hears c).After-feed stage bytes c.feed.result.what p d e u refl)

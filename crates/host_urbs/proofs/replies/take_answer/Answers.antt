@@ -20,17 +20,17 @@ bytes-init g c =
       undecided = λ stage ep ed. subst (λ (r : List ℕ). Undecided stage r) (sym e) (undecided_start stage);
     }
 
-pub returns-in_err-byte : goal.returns-in_err-byte
-returns-in_err-byte g c = let q = err_from_is_err_and c.from_residual.result c.from_residual.ensures.1 in rw (q.1, q.2) (record { goes = λ turns busid s ep ed eu er count.
+pub returns-in_err-byte-clause-goes : goal.returns-in_err-byte-clause-goes
+returns-in_err-byte-clause-goes g c = let q = err_from_is_err_and c.from_residual.result c.from_residual.ensures.1 in rw (q.1, q.2) (λ turns busid s ep ed eu er count.
     let p = c.bytes.invariant.path turns busid s ep ed eu er count in
     let path = subst (λ (t : At). Path g.L.Link.told g.L.Link.counts g.L.Link.sends g.L.Link.polls busid s c.args.link.now t c.bytes.link) p.3 p.1 in
     let u : Undecided s.stage c.bytes.reader.rest = c.bytes.invariant.undecided s.stage ep ed in
     joined_stop g.L.Link.told g.L.Link.counts g.L.Link.sends g.L.Link.polls turns busid s c.args.link.now (taking s c.bytes.reader.rest p.0.calls) c.bytes.link c.take_byte.new.link c.in_err-byte.field-0.0 path
-    (c.in_err-byte.ensures.goes turns busid (taking s c.bytes.reader.rest p.0.calls) eu u p.2) })
+    (c.in_err-byte.ensures.goes turns busid (taking s c.bytes.reader.rest p.0.calls) eu u p.2))
 
 pub bytes-preserved : goal.bytes-preserved
 bytes-preserved g c =
-    let heard = λ (stage : Stage) (ep : phase_of stage ≡ Urbs) (ed : entries_at stage ≡ c.args.dirs.now). c.in-More.ensures stage c.bytes.reader.rest ep ed (c.bytes.invariant.reader stage ep ed) (c.bytes.invariant.undecided stage ep ed) in
+    let heard = λ (stage : Stage) (ep : phase_of stage ≡ Urbs) (ed : entries_at stage ≡ c.args.dirs.now). c.in-More.ensures.hears stage c.bytes.reader.rest ep ed (c.bytes.invariant.reader stage ep ed) (c.bytes.invariant.undecided stage ep ed) in
     let longer = λ (stage : Stage) (ep : phase_of stage ≡ Urbs) (ed : entries_at stage ≡ c.args.dirs.now). ap (λ (x : Held). x.rest) (heard stage ep ed).1 in
     record {
       path = λ turns busid s ep ed eu er count.
@@ -44,21 +44,21 @@ bytes-preserved g c =
       undecided = λ stage ep ed. subst (λ (r : List ℕ). Undecided stage r) (sym (longer stage ep ed)) (heard stage ep ed).0;
     }
 
-pub returns-in-Whole : goal.returns-in-Whole
-returns-in-Whole g c = record { goes = λ turns busid s ep ed eu er count.
+pub returns-in-Whole-clause-goes : goal.returns-in-Whole-clause-goes
+returns-in-Whole-clause-goes g c = λ turns busid s ep ed eu er count.
     let p = c.bytes.invariant.path turns busid s ep ed eu er count in
     let path = subst (λ (t : At). Path g.L.Link.told g.L.Link.counts g.L.Link.sends g.L.Link.polls busid s c.args.link.now t c.bytes.link) p.3 p.1 in
     let u : Undecided s.stage c.bytes.reader.rest = c.bytes.invariant.undecided s.stage ep ed in
     let n = taken_next g.L.Link.told g.L.Link.counts g.L.Link.sends g.L.Link.polls turns busid s c.args.link.now c.bytes.reader.rest c.in_ok-byte.byte p.0.calls c.take_byte.new.left c.bytes.link c.take_byte.new.link path
         (c.in_ok-byte.ensures.goes turns busid (taking s c.bytes.reader.rest p.0.calls) eu u p.2) in
-    let h = c.in-Whole.ensures s.stage c.bytes.reader.rest ep ed (c.bytes.invariant.reader s.stage ep ed) u in
-    (taking s (c.bytes.reader.rest ++ c.in_ok-byte.byte ∷ []) n.0, n.1, n.2, (refl, h.0, h.1)) }
+    let h = c.in-Whole.ensures.hears s.stage c.bytes.reader.rest ep ed (c.bytes.invariant.reader s.stage ep ed) u in
+    (taking s (c.bytes.reader.rest ++ c.in_ok-byte.byte ∷ []) n.0, n.1, n.2, (refl, h.0, h.1))
 
-pub returns-in-Bad : goal.returns-in-Bad
-returns-in-Bad g c = record { goes = λ turns busid s ep ed eu er count.
+pub returns-in-Bad-clause-goes : goal.returns-in-Bad-clause-goes
+returns-in-Bad-clause-goes g c = λ turns busid s ep ed eu er count.
     let p = c.bytes.invariant.path turns busid s ep ed eu er count in
     let path = subst (λ (t : At). Path g.L.Link.told g.L.Link.counts g.L.Link.sends g.L.Link.polls busid s c.args.link.now t c.bytes.link) p.3 p.1 in
     let u : Undecided s.stage c.bytes.reader.rest = c.bytes.invariant.undecided s.stage ep ed in
     let n = taken_next g.L.Link.told g.L.Link.counts g.L.Link.sends g.L.Link.polls turns busid s c.args.link.now c.bytes.reader.rest c.in_ok-byte.byte p.0.calls c.take_byte.new.left c.bytes.link c.take_byte.new.link path
         (c.in_ok-byte.ensures.goes turns busid (taking s c.bytes.reader.rest p.0.calls) eu u p.2) in
-    record { at = taking s (c.bytes.reader.rest ++ c.in_ok-byte.byte ∷ []) n.0; mid = c.take_byte.new.link; path = n.1; last = Refused c.in-Bad.field eu (c.in-Bad.ensures s.stage c.bytes.reader.rest ep ed (c.bytes.invariant.reader s.stage ep ed) u) refl refl } }
+    record { at = taking s (c.bytes.reader.rest ++ c.in_ok-byte.byte ∷ []) n.0; mid = c.take_byte.new.link; path = n.1; last = Refused c.in-Bad.field eu (c.in-Bad.ensures.hears s.stage c.bytes.reader.rest ep ed (c.bytes.invariant.reader s.stage ep ed) u) refl refl }
