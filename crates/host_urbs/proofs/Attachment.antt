@@ -21,8 +21,11 @@ use Rattle.usbip_wire.specs.DownFed.{Held, Means, NoneWhole, data_in, data_of}
 use Rattle.usbip_wire.specs.Urb.{Fits32, message_max}
 use Rattle.host_urbs.specs.declared.attached.AttachFault.{AttachFault}
 use Rattle.host_urbs.specs.declared.attached.AttachFault.TheVariants as fault
-use Rattle.host_urbs.specs.Attaching.{Goes, took_byte}
-use Rattle.host_urbs.specs.Attach.{Stage, Importing, Describing, Configuring, phase_of, entries_at, IsAnswer, Undecided, Awaits, At, SendGoes, PollGoes, Step, Sent, SentNone, Took, TookNone, Path, here, on, IsOpen, Last, SendFailed, PollFailed, PollClosed, SendWants, PollWants, Wants, Spent, Stops}
+use Rattle.host_urbs.specs.declared.attached.Attached.{Attached}
+use Rattle.usb_setup.specs.declared.ends.Ends.{Ends}
+use Rattle.usbip_wire.specs.declared.device.DeviceRecord.{DeviceRecord}
+use Rattle.host_urbs.specs.Attaching.{Goes, took_byte, IsImported, IsGood, IsDescribed}
+use Rattle.host_urbs.specs.Attach.{Stage, Importing, Describing, Configuring, phase_of, entries_at, IsAnswer, Undecided, Awaits, At, SendGoes, PollGoes, Step, Sent, SentNone, Took, TookNone, Path, here, on, IsOpen, Last, SendFailed, PollFailed, PollClosed, SendWants, PollWants, Wants, Spent, Stops, Attaches, Imported, Described, request_of, devid_of}
 
 -- ---- what is awaited
 
@@ -67,6 +70,14 @@ data_short held h = step held.phase held.whole
     step (Ops devices interfaces) true = omega arith
     step Urbs true = omega (arith, h, length-drop 48 held.rest)
     step phase false = omega arith
+
+-- no call is made yet
+pub none_made : (turns : ℕ) → 0 + turns ≡ turns
+none_made turns = omega arith
+
+-- the next stage begins
+abbrev pub asking : List ℕ → Stage → At → At
+asking busid stage t = record t { stage = stage; unsent = request_of busid stage; rest = [] }
 
 abbrev pub sending : At → List ℕ → ℕ → ℕ → At
 sending s request at calls = record s { unsent = drop at request; sent = s.sent ++ take at request; calls = calls }
@@ -157,7 +168,7 @@ module _ {A : Type 0} (told : A → Told) (counts : A → Counts) (sends : A →
       let all = joined_path (taking s r k) mid q.0 new p q.1 in (
         q.0.calls,
         subst (λ (t : At). Path told counts sends polls busid s old t new)
-        (q.3 ∙ ap (λ (x : List ℕ). record s { rest = r ++ byte ∷ []; taken = x; calls = q.0.calls }) (append_assoc s.taken r (byte ∷ []))) all,
+            (q.3 ∙ ap (λ (x : List ℕ). record s { rest = r ++ byte ∷ []; taken = x; calls = q.0.calls }) (append_assoc s.taken r (byte ∷ []))) all,
         q.2,
       )
 
@@ -167,6 +178,25 @@ module _ {A : Type 0} (told : A → Told) (counts : A → Counts) (sends : A →
       → ((x : X) (u : At) → Q x u → R x u) → Goes told counts sends polls turns busid t mid left new Q r → Goes told counts sends polls turns busid s old left new R r
   after {X} Q R t mid new left (Ok x) p f g = (g.0, joined_path t mid g.0 new p g.1, g.2, f x g.0 g.3)
   after {X} Q R t mid new left (Err why) p f g = joined_stop t mid new why p g
+
+  -- ---- one stage behind another
+
+  pub to_describe : (device : DeviceRecord) (devid : ℕ) (t : At) (new : A) → Path told counts sends polls busid s old t new → IsImported device t → devid ≡ devid_of device
+      → Path told counts sends polls busid s old (asking busid (Describing devid) t) new
+  to_describe device devid t new p i e =
+      subst (λ (x : ℕ). Path told counts sends polls busid s old (asking busid (Describing x) t) new) (sym e)
+      (on t new (asking busid (Describing (devid_of device)) t) new p (Imported device i.0 i.1 i.2 refl refl))
+
+  pub to_configure : (devid : ℕ) (ends : Ends) (t : At) (new : A) → Path told counts sends polls busid s old t new → IsDescribed devid ends t
+      → Path told counts sends polls busid s old (asking busid (Configuring devid ends) t) new
+  to_configure devid ends t new p i =
+      on t new (asking busid (Configuring devid ends) t) new p
+      (Described devid i.1.1 ends i.0 i.1.0 i.1.2 i.1.3 i.2 refl refl)
+
+  pub attaches : (attached : Attached) (t : At) (new : A) → Path told counts sends polls busid s old t new → t.stage ≡ Configuring attached.devid attached.ends → IsGood t
+      → attached.next ≡ 3 → t.calls ≤ turns → Attaches told counts sends polls turns busid s old attached new
+  attaches attached t new p stage good next few =
+      record { at = t; path = p; configured = stage; whole = good.0; head = good.1; answer = good.2; status = good.3; next = next; calls = few }
 
   pub wants : Stops told counts sends polls turns busid s old fault.Memory old
   wants = record { at = s; mid = old; path = here; last = Wants refl refl }

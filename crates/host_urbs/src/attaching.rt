@@ -22,7 +22,8 @@ use std::alloc::Global;
 use tmc_base::{Link, Memory};
 use usb_setup::{Ends, Setup, find_interface};
 use usbip_wire::{
-    DeviceRecord, Dir, Dirs, DownReader, OpRequest, SubmitHead, URB_HEADER, put_op_request, put_submit,
+    DeviceRecord, Dir, Dirs, DownReader, OpRequest, SubmitHead, URB_HEADER, put_op_request,
+    put_submit,
 };
 
 /// The bytes of an import's request.
@@ -123,7 +124,7 @@ fn configure<L: Link>(
 ) -> Result<(), AttachFault>
     ensures goes { (turns : ℕ) (busid : List ℕ) (s : At) → s.stage ≡ Configuring devid ends → s.unsent ≡ request_of busid (Configuring devid ends) → s.rest ≡ []
         → s.calls + left.old ≡ turns → Goes L.told L.counts L.sends L.polls turns busid s link.old left.new link.new
-          (λ done t. (t.stage ≡ s.stage) × IsGood t) result }
+        (λ done t. (t.stage ≡ s.stage) × IsGood t) result }
 {
     let set_configuration = Setup {
         request_type: 0x00,
@@ -159,7 +160,7 @@ fn submit<L: Link>(
     ensures goes { (turns : ℕ) (busid : List ℕ) (s : At) → phase_of s.stage ≡ Urbs → entries_at s.stage ≡ entry.Submit head.seqnum head.dir head.length ∷ []
         → s.unsent ≡ bytes_of (up.Submit head []) → s.rest ≡ [] → s.calls + left.old ≡ turns
         → Goes L.told L.counts L.sends L.polls turns busid s link.old left.new link.new
-          (λ done t. (t.stage ≡ s.stage) × IsGood t × (reader.new ≡ record { phase = Urbs; rest = t.rest; whole = true; bad = None })) result }
+        (λ done t. (t.stage ≡ s.stage) × IsGood t × (reader.new ≡ record { phase = Urbs; rest = t.rest; whole = true; bad = None })) result }
     ensures held { IfOk result (λ _. length (data_of reader.new) ≤ message_max) }
 {
     let request = submit_request(alloc, head)?;

@@ -6,7 +6,11 @@ use crate::attached::AttachFault;
 use tmc_base::{Link, PollStep, SendStep};
 
 /// Sends a request whole, by at most `left` calls on the link.
-pub(crate) fn send_all<L: Link>(link: &mut L, left: &mut u64, request: &[u8]) -> Result<(), AttachFault>
+pub(crate) fn send_all<L: Link>(
+    link: &mut L,
+    left: &mut u64,
+    request: &[u8],
+) -> Result<(), AttachFault>
     ensures goes { (turns : ℕ) (busid : List ℕ) (s : At) → s.unsent ≡ request.now → s.calls + left.old ≡ turns
         → Goes L.told L.counts L.sends L.polls turns busid s link.old left.new link.new (λ done t. sent_whole s request.now t) result }
 {

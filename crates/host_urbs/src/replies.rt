@@ -50,7 +50,7 @@ pub(crate) fn take_import<L: Link>(
     requires { reader.old ≡ holding (Ops 0 0) [] }
     ensures goes { (turns : ℕ) (busid : List ℕ) (s : At) → s.stage ≡ Importing → s.unsent ≡ [] → s.rest ≡ [] → s.calls + left.old ≡ turns
         → Goes L.told L.counts L.sends L.polls turns busid s link.old left.new link.new
-          (λ device t. took_rest s t × SpellsImport 0 (Some device) t.rest) result }
+        (λ device t. took_rest s t × SpellsImport 0 (Some device) t.rest) result }
 {
     let mut front = Front::new();
     'bytes: loop {
@@ -101,7 +101,7 @@ pub(crate) fn take_answer<L: Link>(
     requires { reader.old ≡ holding Urbs [] }
     ensures goes { (turns : ℕ) (busid : List ℕ) (s : At) → phase_of s.stage ≡ Urbs → entries_at s.stage ≡ dirs.now → s.unsent ≡ [] → s.rest ≡ []
         → s.calls + left.old ≡ turns → Goes L.told L.counts L.sends L.polls turns busid s link.old left.new link.new
-          (λ head t. took_rest s t × IsAnswer s.stage head t.rest × (reader.new ≡ record { phase = Urbs; rest = t.rest; whole = true; bad = None })) result }
+        (λ head t. took_rest s t × IsAnswer s.stage head t.rest × (reader.new ≡ record { phase = Urbs; rest = t.rest; whole = true; bad = None })) result }
     ensures held { IfOk result (λ _. length reader.new.rest ≤ message_max) }
 {
     'bytes: loop {

@@ -37,9 +37,12 @@ bytes-preserved g c =
           let p = c.bytes.invariant.path turns busid s ep ed eu er count in
           let path = subst (λ (t : At). Path g.L.Link.told g.L.Link.counts g.L.Link.sends g.L.Link.polls busid s c.args.link.now t c.bytes.link) p.3 p.1 in
           let n = taken_next g.L.Link.told g.L.Link.counts g.L.Link.sends g.L.Link.polls turns busid s c.args.link.now c.bytes.reader.rest c.in_ok-byte.byte p.0.calls c.take_byte.new.left c.bytes.link c.take_byte.new.link path
-              (c.in_ok-byte.ensures.goes turns busid (taking s c.bytes.reader.rest p.0.calls) eu (c.bytes.invariant.undecided s.stage ep ed) p.2) in
-          (taking s c.hear_answer.new.reader.rest n.0,
-          subst (λ (r : List ℕ). Path g.L.Link.told g.L.Link.counts g.L.Link.sends g.L.Link.polls busid s c.args.link.now (taking s r n.0) c.take_byte.new.link) (sym (longer s.stage ep ed)) n.1, n.2, refl);
+          (c.in_ok-byte.ensures.goes turns busid (taking s c.bytes.reader.rest p.0.calls) eu (c.bytes.invariant.undecided s.stage ep ed) p.2) in (
+            taking s c.hear_answer.new.reader.rest n.0,
+            subst (λ (r : List ℕ). Path g.L.Link.told g.L.Link.counts g.L.Link.sends g.L.Link.polls busid s c.args.link.now (taking s r n.0) c.take_byte.new.link) (sym (longer s.stage ep ed)) n.1,
+            n.2,
+            refl,
+          );
       reader = λ stage ep ed. (heard stage ep ed).1 ∙ ap (λ (r : List ℕ). holding Urbs r) (sym (longer stage ep ed));
       undecided = λ stage ep ed. subst (λ (r : List ℕ). Undecided stage r) (sym (longer stage ep ed)) (heard stage ep ed).0;
     }
@@ -50,7 +53,7 @@ returns-in-Whole-clause-goes g c = λ turns busid s ep ed eu er count.
     let path = subst (λ (t : At). Path g.L.Link.told g.L.Link.counts g.L.Link.sends g.L.Link.polls busid s c.args.link.now t c.bytes.link) p.3 p.1 in
     let u : Undecided s.stage c.bytes.reader.rest = c.bytes.invariant.undecided s.stage ep ed in
     let n = taken_next g.L.Link.told g.L.Link.counts g.L.Link.sends g.L.Link.polls turns busid s c.args.link.now c.bytes.reader.rest c.in_ok-byte.byte p.0.calls c.take_byte.new.left c.bytes.link c.take_byte.new.link path
-        (c.in_ok-byte.ensures.goes turns busid (taking s c.bytes.reader.rest p.0.calls) eu u p.2) in
+    (c.in_ok-byte.ensures.goes turns busid (taking s c.bytes.reader.rest p.0.calls) eu u p.2) in
     let h = c.in-Whole.ensures.hears s.stage c.bytes.reader.rest ep ed (c.bytes.invariant.reader s.stage ep ed) u in
     (taking s (c.bytes.reader.rest ++ c.in_ok-byte.byte ∷ []) n.0, n.1, n.2, (refl, h.0, h.1))
 
@@ -60,5 +63,5 @@ returns-in-Bad-clause-goes g c = λ turns busid s ep ed eu er count.
     let path = subst (λ (t : At). Path g.L.Link.told g.L.Link.counts g.L.Link.sends g.L.Link.polls busid s c.args.link.now t c.bytes.link) p.3 p.1 in
     let u : Undecided s.stage c.bytes.reader.rest = c.bytes.invariant.undecided s.stage ep ed in
     let n = taken_next g.L.Link.told g.L.Link.counts g.L.Link.sends g.L.Link.polls turns busid s c.args.link.now c.bytes.reader.rest c.in_ok-byte.byte p.0.calls c.take_byte.new.left c.bytes.link c.take_byte.new.link path
-        (c.in_ok-byte.ensures.goes turns busid (taking s c.bytes.reader.rest p.0.calls) eu u p.2) in
+    (c.in_ok-byte.ensures.goes turns busid (taking s c.bytes.reader.rest p.0.calls) eu u p.2) in
     record { at = taking s (c.bytes.reader.rest ++ c.in_ok-byte.byte ∷ []) n.0; mid = c.take_byte.new.link; path = n.1; last = Refused c.in-Bad.field eu (c.in-Bad.ensures.hears s.stage c.bytes.reader.rest ep ed (c.bytes.invariant.reader s.stage ep ed) u) refl refl }

@@ -22,12 +22,14 @@ bytes-init g c =
     }
 
 pub returns-in_err-byte : goal.returns-in_err-byte
-returns-in_err-byte g c = let q = err_from_is_err_and c.from_residual.result c.from_residual.ensures.1 in rw (q.1, q.2) (record { goes = λ turns busid s es eu er count.
-    let p = c.bytes.invariant.path turns busid s es eu er count in
-    let path = subst (λ (t : At). Path g.L.Link.told g.L.Link.counts g.L.Link.sends g.L.Link.polls busid s c.args.link.now t c.bytes.link) p.3 p.1 in
-    let u : Undecided s.stage c.bytes.reader.rest = subst (λ (x : Stage). Undecided x c.bytes.reader.rest) (sym es) c.bytes.invariant.undecided in
-    joined_stop g.L.Link.told g.L.Link.counts g.L.Link.sends g.L.Link.polls turns busid s c.args.link.now (taking s c.bytes.reader.rest p.0.calls) c.bytes.link c.take_byte.new.link c.in_err-byte.field-0.0 path
-    (c.in_err-byte.ensures.goes turns busid (taking s c.bytes.reader.rest p.0.calls) eu u p.2) })
+returns-in_err-byte g c = let q = err_from_is_err_and c.from_residual.result c.from_residual.ensures.1 in rw (q.1, q.2) (record {
+  goes = λ turns busid s es eu er count.
+      let p = c.bytes.invariant.path turns busid s es eu er count in
+      let path = subst (λ (t : At). Path g.L.Link.told g.L.Link.counts g.L.Link.sends g.L.Link.polls busid s c.args.link.now t c.bytes.link) p.3 p.1 in
+      let u : Undecided s.stage c.bytes.reader.rest = subst (λ (x : Stage). Undecided x c.bytes.reader.rest) (sym es) c.bytes.invariant.undecided in
+      joined_stop g.L.Link.told g.L.Link.counts g.L.Link.sends g.L.Link.polls turns busid s c.args.link.now (taking s c.bytes.reader.rest p.0.calls) c.bytes.link c.take_byte.new.link c.in_err-byte.field-0.0 path
+      (c.in_err-byte.ensures.goes turns busid (taking s c.bytes.reader.rest p.0.calls) eu u p.2);
+})
 
 pub bytes-preserved : goal.bytes-preserved
 bytes-preserved g c =
@@ -35,11 +37,11 @@ bytes-preserved g c =
     let e : c.hear_import.new.reader.rest ≡ c.bytes.reader.rest ++ c.in_ok-byte.byte ∷ [] = ap (λ (x : Held). x.rest) h.1 in
     record {
       path = λ turns busid s es eu er count.
-    let p = c.bytes.invariant.path turns busid s es eu er count in
-    let path = subst (λ (t : At). Path g.L.Link.told g.L.Link.counts g.L.Link.sends g.L.Link.polls busid s c.args.link.now t c.bytes.link) p.3 p.1 in
-    let u : Undecided s.stage c.bytes.reader.rest = subst (λ (x : Stage). Undecided x c.bytes.reader.rest) (sym es) c.bytes.invariant.undecided in
-    let n = taken_next g.L.Link.told g.L.Link.counts g.L.Link.sends g.L.Link.polls turns busid s c.args.link.now c.bytes.reader.rest c.in_ok-byte.byte p.0.calls c.take_byte.new.left c.bytes.link c.take_byte.new.link path
-        (c.in_ok-byte.ensures.goes turns busid (taking s c.bytes.reader.rest p.0.calls) eu u p.2) in
+          let p = c.bytes.invariant.path turns busid s es eu er count in
+          let path = subst (λ (t : At). Path g.L.Link.told g.L.Link.counts g.L.Link.sends g.L.Link.polls busid s c.args.link.now t c.bytes.link) p.3 p.1 in
+          let u : Undecided s.stage c.bytes.reader.rest = subst (λ (x : Stage). Undecided x c.bytes.reader.rest) (sym es) c.bytes.invariant.undecided in
+          let n = taken_next g.L.Link.told g.L.Link.counts g.L.Link.sends g.L.Link.polls turns busid s c.args.link.now c.bytes.reader.rest c.in_ok-byte.byte p.0.calls c.take_byte.new.left c.bytes.link c.take_byte.new.link path
+          (c.in_ok-byte.ensures.goes turns busid (taking s c.bytes.reader.rest p.0.calls) eu u p.2) in
           (taking s c.hear_import.new.reader.rest n.0, subst (λ (r : List ℕ). Path g.L.Link.told g.L.Link.counts g.L.Link.sends g.L.Link.polls busid s c.args.link.now (taking s r n.0) c.take_byte.new.link) (sym e) n.1, n.2, refl);
       reader = h.1 ∙ ap (λ (r : List ℕ). holding (Ops 0 0) r) (sym e);
       front = h.2 ∙ ap (λ (r : List ℕ). take 4 r) (sym e);
@@ -47,28 +49,34 @@ bytes-preserved g c =
     }
 
 pub returns-in-Device : goal.returns-in-Device
-returns-in-Device g c = record { goes = λ turns busid s es eu er count.
-    let p = c.bytes.invariant.path turns busid s es eu er count in
-    let path = subst (λ (t : At). Path g.L.Link.told g.L.Link.counts g.L.Link.sends g.L.Link.polls busid s c.args.link.now t c.bytes.link) p.3 p.1 in
-    let u : Undecided s.stage c.bytes.reader.rest = subst (λ (x : Stage). Undecided x c.bytes.reader.rest) (sym es) c.bytes.invariant.undecided in
-    let n = taken_next g.L.Link.told g.L.Link.counts g.L.Link.sends g.L.Link.polls turns busid s c.args.link.now c.bytes.reader.rest c.in_ok-byte.byte p.0.calls c.take_byte.new.left c.bytes.link c.take_byte.new.link path
-        (c.in_ok-byte.ensures.goes turns busid (taking s c.bytes.reader.rest p.0.calls) eu u p.2) in
-    (taking s (c.bytes.reader.rest ++ c.in_ok-byte.byte ∷ []) n.0, n.1, n.2, (refl, c.in-Device.ensures c.bytes.reader.rest c.bytes.invariant.reader c.bytes.invariant.front c.bytes.invariant.undecided)) }
+returns-in-Device g c = record {
+  goes = λ turns busid s es eu er count.
+      let p = c.bytes.invariant.path turns busid s es eu er count in
+      let path = subst (λ (t : At). Path g.L.Link.told g.L.Link.counts g.L.Link.sends g.L.Link.polls busid s c.args.link.now t c.bytes.link) p.3 p.1 in
+      let u : Undecided s.stage c.bytes.reader.rest = subst (λ (x : Stage). Undecided x c.bytes.reader.rest) (sym es) c.bytes.invariant.undecided in
+      let n = taken_next g.L.Link.told g.L.Link.counts g.L.Link.sends g.L.Link.polls turns busid s c.args.link.now c.bytes.reader.rest c.in_ok-byte.byte p.0.calls c.take_byte.new.left c.bytes.link c.take_byte.new.link path
+      (c.in_ok-byte.ensures.goes turns busid (taking s c.bytes.reader.rest p.0.calls) eu u p.2) in
+      (taking s (c.bytes.reader.rest ++ c.in_ok-byte.byte ∷ []) n.0, n.1, n.2, (refl, c.in-Device.ensures c.bytes.reader.rest c.bytes.invariant.reader c.bytes.invariant.front c.bytes.invariant.undecided));
+}
 
 pub returns-in-NoDevice : goal.returns-in-NoDevice
-returns-in-NoDevice g c = record { goes = λ turns busid s es eu er count.
-    let p = c.bytes.invariant.path turns busid s es eu er count in
-    let path = subst (λ (t : At). Path g.L.Link.told g.L.Link.counts g.L.Link.sends g.L.Link.polls busid s c.args.link.now t c.bytes.link) p.3 p.1 in
-    let u : Undecided s.stage c.bytes.reader.rest = subst (λ (x : Stage). Undecided x c.bytes.reader.rest) (sym es) c.bytes.invariant.undecided in
-    let n = taken_next g.L.Link.told g.L.Link.counts g.L.Link.sends g.L.Link.polls turns busid s c.args.link.now c.bytes.reader.rest c.in_ok-byte.byte p.0.calls c.take_byte.new.left c.bytes.link c.take_byte.new.link path
-        (c.in_ok-byte.ensures.goes turns busid (taking s c.bytes.reader.rest p.0.calls) eu u p.2) in
-    record { at = taking s (c.bytes.reader.rest ++ c.in_ok-byte.byte ∷ []) n.0; mid = c.take_byte.new.link; path = n.1; last = NoDevice c.in-NoDevice.status es eu (c.in-NoDevice.ensures c.bytes.reader.rest c.bytes.invariant.reader c.bytes.invariant.front c.bytes.invariant.undecided) refl refl } }
+returns-in-NoDevice g c = record {
+  goes = λ turns busid s es eu er count.
+      let p = c.bytes.invariant.path turns busid s es eu er count in
+      let path = subst (λ (t : At). Path g.L.Link.told g.L.Link.counts g.L.Link.sends g.L.Link.polls busid s c.args.link.now t c.bytes.link) p.3 p.1 in
+      let u : Undecided s.stage c.bytes.reader.rest = subst (λ (x : Stage). Undecided x c.bytes.reader.rest) (sym es) c.bytes.invariant.undecided in
+      let n = taken_next g.L.Link.told g.L.Link.counts g.L.Link.sends g.L.Link.polls turns busid s c.args.link.now c.bytes.reader.rest c.in_ok-byte.byte p.0.calls c.take_byte.new.left c.bytes.link c.take_byte.new.link path
+      (c.in_ok-byte.ensures.goes turns busid (taking s c.bytes.reader.rest p.0.calls) eu u p.2) in
+      record { at = taking s (c.bytes.reader.rest ++ c.in_ok-byte.byte ∷ []) n.0; mid = c.take_byte.new.link; path = n.1; last = NoDevice c.in-NoDevice.status es eu (c.in-NoDevice.ensures c.bytes.reader.rest c.bytes.invariant.reader c.bytes.invariant.front c.bytes.invariant.undecided) refl refl };
+}
 
 pub returns-in-Bad : goal.returns-in-Bad
-returns-in-Bad g c = record { goes = λ turns busid s es eu er count.
-    let p = c.bytes.invariant.path turns busid s es eu er count in
-    let path = subst (λ (t : At). Path g.L.Link.told g.L.Link.counts g.L.Link.sends g.L.Link.polls busid s c.args.link.now t c.bytes.link) p.3 p.1 in
-    let u : Undecided s.stage c.bytes.reader.rest = subst (λ (x : Stage). Undecided x c.bytes.reader.rest) (sym es) c.bytes.invariant.undecided in
-    let n = taken_next g.L.Link.told g.L.Link.counts g.L.Link.sends g.L.Link.polls turns busid s c.args.link.now c.bytes.reader.rest c.in_ok-byte.byte p.0.calls c.take_byte.new.left c.bytes.link c.take_byte.new.link path
-        (c.in_ok-byte.ensures.goes turns busid (taking s c.bytes.reader.rest p.0.calls) eu u p.2) in
-    record { at = taking s (c.bytes.reader.rest ++ c.in_ok-byte.byte ∷ []) n.0; mid = c.take_byte.new.link; path = n.1; last = Refused c.in-Bad.field eu (subst (λ (x : Stage). IsBad x (c.bytes.reader.rest ++ c.in_ok-byte.byte ∷ []) c.in-Bad.field) (sym es) (c.in-Bad.ensures c.bytes.reader.rest c.bytes.invariant.reader c.bytes.invariant.front c.bytes.invariant.undecided)) refl refl } }
+returns-in-Bad g c = record {
+  goes = λ turns busid s es eu er count.
+      let p = c.bytes.invariant.path turns busid s es eu er count in
+      let path = subst (λ (t : At). Path g.L.Link.told g.L.Link.counts g.L.Link.sends g.L.Link.polls busid s c.args.link.now t c.bytes.link) p.3 p.1 in
+      let u : Undecided s.stage c.bytes.reader.rest = subst (λ (x : Stage). Undecided x c.bytes.reader.rest) (sym es) c.bytes.invariant.undecided in
+      let n = taken_next g.L.Link.told g.L.Link.counts g.L.Link.sends g.L.Link.polls turns busid s c.args.link.now c.bytes.reader.rest c.in_ok-byte.byte p.0.calls c.take_byte.new.left c.bytes.link c.take_byte.new.link path
+      (c.in_ok-byte.ensures.goes turns busid (taking s c.bytes.reader.rest p.0.calls) eu u p.2) in
+      record { at = taking s (c.bytes.reader.rest ++ c.in_ok-byte.byte ∷ []) n.0; mid = c.take_byte.new.link; path = n.1; last = Refused c.in-Bad.field eu (subst (λ (x : Stage). IsBad x (c.bytes.reader.rest ++ c.in_ok-byte.byte ∷ []) c.in-Bad.field) (sym es) (c.in-Bad.ensures c.bytes.reader.rest c.bytes.invariant.reader c.bytes.invariant.front c.bytes.invariant.undecided)) refl refl };
+}
