@@ -100,7 +100,7 @@ module _ {A : Type 0} (told : A → Told) (counts : A → Counts) (sends : A →
 
   pub joined_stop : (t : At) (mid new : A) (why : AttachFault) → Path told counts sends polls busid s old t mid → Stops told counts sends polls turns busid t mid why new
       → Stops told counts sends polls turns busid s old why new
-  joined_stop t mid new why p stop = record { at = stop.at; mid = stop.mid; path = joined_path t mid stop.at stop.mid p stop.path; last = stop.last }
+  joined_stop t mid new why p stop = record { at = stop.at; mid = stop.mid; path = joined_path t mid stop.at stop.mid p stop.path; calls = stop.calls; last = stop.last }
 
   -- ---- sends
 
@@ -133,9 +133,9 @@ module _ {A : Type 0} (told : A → Told) (counts : A → Counts) (sends : A →
       same = ap (λ (x : List ℕ). record s { unsent = x; sent = s.sent ++ take at request; calls = calls }) (none request at h)
           ∙ ap (λ (x : List ℕ). record s { unsent = []; sent = s.sent ++ x; calls = calls }) (take_all at request h)
 
-  pub send_stops : (request : List ℕ) (at calls : ℕ) (mid new : A) (why : AttachFault) → Path told counts sends polls busid s old (sending s request at calls) mid
+  pub send_stops : (request : List ℕ) (at calls : ℕ) (mid new : A) (why : AttachFault) → Path told counts sends polls busid s old (sending s request at calls) mid → calls ≤ turns
       → Last told counts sends polls turns (sending s request at calls) mid why new → Stops told counts sends polls turns busid s old why new
-  send_stops request at calls mid new why p last = record { at = sending s request at calls; mid = mid; path = p; last = last }
+  send_stops request at calls mid new why p few last = record { at = sending s request at calls; mid = mid; path = p; calls = few; last = last }
 
   -- ---- polls
 
@@ -148,9 +148,9 @@ module _ {A : Type 0} (told : A → Told) (counts : A → Counts) (sends : A →
       → PollGoes told counts sends polls mid 1 poll.Idle [] new → Path told counts sends polls busid s old (counting s (calls + 1)) new
   on_none calls mid new p none u g = on (counting s calls) mid (counting s (calls + 1)) new p (TookNone 1 none (awaits_one s.stage s.rest u) g refl)
 
-  pub poll_stops : (calls : ℕ) (mid new : A) (why : AttachFault) → Path told counts sends polls busid s old (counting s calls) mid
+  pub poll_stops : (calls : ℕ) (mid new : A) (why : AttachFault) → Path told counts sends polls busid s old (counting s calls) mid → calls ≤ turns
       → Last told counts sends polls turns (counting s calls) mid why new → Stops told counts sends polls turns busid s old why new
-  poll_stops calls mid new why p last = record { at = counting s calls; mid = mid; path = p; last = last }
+  poll_stops calls mid new why p few last = record { at = counting s calls; mid = mid; path = p; calls = few; last = last }
 
   -- ---- an answer, byte by byte
 
@@ -198,5 +198,5 @@ module _ {A : Type 0} (told : A → Told) (counts : A → Counts) (sends : A →
   attaches attached t new p stage good next few =
       record { at = t; path = p; configured = stage; whole = good.0; head = good.1; answer = good.2; status = good.3; next = next; calls = few }
 
-  pub wants : Stops told counts sends polls turns busid s old fault.Memory old
-  wants = record { at = s; mid = old; path = here; last = Wants refl refl }
+  pub wants : (left : ℕ) → s.calls + left ≡ turns → Stops told counts sends polls turns busid s old fault.Memory old
+  wants left count = record { at = s; mid = old; path = here; calls = omega (arith, count); last = Wants refl refl }

@@ -192,6 +192,7 @@ module _ {A : Type 0} (told : A → Told) (counts : A → Counts) (sends : A →
     pub at : At
     pub mid : A
     pub path : Path busid s old at mid
+    pub calls : at.calls ≤ turns
     pub last : Last turns at mid why new
 
   -- the device was set to its configuration

@@ -28,3 +28,6 @@ pub use laws::{
 };
 pub use limits::{LAST_SUBMIT, OUTBOX_MAX};
 pub use urbs::Urbs;
+
+#[cfg(test)]
+mod tests;

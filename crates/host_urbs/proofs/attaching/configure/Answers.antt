@@ -13,7 +13,7 @@ use Rattle.host_urbs.proofs.Attachment.{after, wants}
 use Rattle.host_urbs.proofs.attaching.configure.Goals as goal
 
 pub returns-in_err-reader : goal.returns-in_err-reader
-returns-in_err-reader g c = let q = err_from_is_err_and c.from_residual.result c.from_residual.ensures.1 in rw (q.1, q.2) (record { goes = λ turns busid s es eu er count. wants g.L.Link.told g.L.Link.counts g.L.Link.sends g.L.Link.polls turns busid s c.args.link.now })
+returns-in_err-reader g c = let q = err_from_is_err_and c.from_residual.result c.from_residual.ensures.1 in rw (q.1, q.2) (record { goes = λ turns busid s es eu er count. wants g.L.Link.told g.L.Link.counts g.L.Link.sends g.L.Link.polls turns busid s c.args.link.now c.args.left.now count })
 
 pub returns : goal.returns
 returns g c = record {

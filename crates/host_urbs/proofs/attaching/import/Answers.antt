@@ -10,10 +10,10 @@ use Rattle.host_urbs.proofs.Attachment.{after, wants}
 use Rattle.host_urbs.proofs.attaching.import.Goals as goal
 
 pub returns-in_err-request : goal.returns-in_err-request
-returns-in_err-request g c = let q = err_from_is_err_and c.from_residual.result c.from_residual.ensures.1 in rw (q.1, q.2) (record { goes = λ turns s es eu er count. wants g.L.Link.told g.L.Link.counts g.L.Link.sends g.L.Link.polls turns c.args.busid.now s c.args.link.now })
+returns-in_err-request g c = let q = err_from_is_err_and c.from_residual.result c.from_residual.ensures.1 in rw (q.1, q.2) (record { goes = λ turns s es eu er count. wants g.L.Link.told g.L.Link.counts g.L.Link.sends g.L.Link.polls turns c.args.busid.now s c.args.link.now c.args.left.now count })
 
 pub returns-in_err-reader : goal.returns-in_err-reader
-returns-in_err-reader g c = let q = err_from_is_err_and c.from_residual-in_err-reader.result c.from_residual-in_err-reader.ensures.1 in rw (q.1, q.2) (record { goes = λ turns s es eu er count. wants g.L.Link.told g.L.Link.counts g.L.Link.sends g.L.Link.polls turns c.args.busid.now s c.args.link.now })
+returns-in_err-reader g c = let q = err_from_is_err_and c.from_residual-in_err-reader.result c.from_residual-in_err-reader.ensures.1 in rw (q.1, q.2) (record { goes = λ turns s es eu er count. wants g.L.Link.told g.L.Link.counts g.L.Link.sends g.L.Link.polls turns c.args.busid.now s c.args.link.now c.args.left.now count })
 
 pub returns-in_err-send_all : goal.returns-in_err-send_all
 returns-in_err-send_all g c = let q = err_from_is_err_and c.from_residual-in_err-send_all.result c.from_residual-in_err-send_all.ensures.1 in rw (q.1, q.2) (record {

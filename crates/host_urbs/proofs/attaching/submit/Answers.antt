@@ -13,7 +13,7 @@ use Rattle.host_urbs.proofs.Attachment.{wants, joined_path, joined_stop, status_
 use Rattle.host_urbs.proofs.attaching.submit.Goals as goal
 
 pub returns-in_err-request-clause-goes : goal.returns-in_err-request-clause-goes
-returns-in_err-request-clause-goes g c = let q = err_from_is_err_and c.from_residual.result c.from_residual.ensures.1 in rw (q.1, q.2) (λ turns busid s ep ed eu er count. wants g.L.Link.told g.L.Link.counts g.L.Link.sends g.L.Link.polls turns busid s c.args.link.now)
+returns-in_err-request-clause-goes g c = let q = err_from_is_err_and c.from_residual.result c.from_residual.ensures.1 in rw (q.1, q.2) (λ turns busid s ep ed eu er count. wants g.L.Link.told g.L.Link.counts g.L.Link.sends g.L.Link.polls turns busid s c.args.link.now c.args.left.now count)
 
 pub returns-in_err-send_all-clause-goes : goal.returns-in_err-send_all-clause-goes
 returns-in_err-send_all-clause-goes g c = let q = err_from_is_err_and c.from_residual-in_err-send_all.result c.from_residual-in_err-send_all.ensures.1 in rw (q.1, q.2) (λ turns busid s ep ed eu er count.
@@ -45,7 +45,7 @@ returns-then-answer-ne0-clause-goes g c = λ turns busid s ep ed eu er count.
     let path = joined_path g.L.Link.told g.L.Link.counts g.L.Link.sends g.L.Link.polls turns busid s c.args.link.now sent.0 c.send_all.new.link took.0 c.take_answer.new.link sent.1 took.1 in
     let answer : IsAnswer took.0.stage c.in_ok-answer.answer took.0.rest = subst (λ (x : Stage). IsAnswer x c.in_ok-answer.answer took.0.rest) (stage ∙ sym t_stage) took.3.1 in
     let fits = status_is took.0.stage c.in_ok-answer.answer took.0.rest (ap phase_of t_stage ∙ ep) answer in
-    record { at = took.0; mid = c.take_answer.new.link; path = path; last = Faulty c.in_ok-answer.answer t_unsent answer (λ e. c.if-answer-ne0.true (ap (cast_unsigned w32) e)) refl (ap fault.DeviceFault fits) }
+    record { at = took.0; mid = c.take_answer.new.link; path = path; calls = omega (arith, took.2); last = Faulty c.in_ok-answer.answer t_unsent answer (λ e. c.if-answer-ne0.true (ap (cast_unsigned w32) e)) refl (ap fault.DeviceFault fits) }
 
 pub returns-clause-goes : goal.returns-clause-goes
 returns-clause-goes g c = λ turns busid s ep ed eu er count.

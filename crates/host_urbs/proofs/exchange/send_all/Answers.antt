@@ -18,7 +18,7 @@ returns-then-left-eq0 g c = record {
       let p = c.sends.invariant.path turns busid s e count in
       let some : 0 < length (drop c.sends.at c.args.request.now) = omega (arith, length-drop c.sends.at c.args.request.now, c.sends-test.true) in
       let path = subst (λ (t : At). Path g.L.Link.told g.L.Link.counts g.L.Link.sends g.L.Link.polls busid s c.args.link.now t c.sends.link) p.3 p.1 in
-      send_stops g.L.Link.told g.L.Link.counts g.L.Link.sends g.L.Link.polls turns busid s c.args.link.now c.args.request.now c.sends.at p.0.calls c.sends.link c.sends.link _ path
+      send_stops g.L.Link.told g.L.Link.counts g.L.Link.sends g.L.Link.polls turns busid s c.args.link.now c.args.request.now c.sends.at p.0.calls c.sends.link c.sends.link _ path (omega (arith, p.2))
       (Spent (inl some) (omega (arith, p.2, c.if-left-eq0.true)) refl refl);
 }
 
@@ -67,7 +67,7 @@ returns-in-Failed g c = record {
       let path = subst (λ (t : At). Path g.L.Link.told g.L.Link.counts g.L.Link.sends g.L.Link.polls busid s c.args.link.now t c.sends.link) p.3 p.1 in
       let goes = subst (λ (l : List ℕ). SendGoes g.L.Link.told g.L.Link.counts g.L.Link.sends g.L.Link.polls c.sends.link l send.Failed c.send.new.self) piece
       (record { goes = c.in-Failed.ensures.goes; told_so = c.in-Failed.ensures.told; counted = c.in-Failed.ensures.counts }) in
-      send_stops g.L.Link.told g.L.Link.counts g.L.Link.sends g.L.Link.polls turns busid s c.args.link.now c.args.request.now c.sends.at p.0.calls c.sends.link c.send.new.self _ path
+      send_stops g.L.Link.told g.L.Link.counts g.L.Link.sends g.L.Link.polls turns busid s c.args.link.now c.args.request.now c.sends.at p.0.calls c.sends.link c.send.new.self _ path (omega (arith, p.2))
       (SendFailed some (omega (arith, p.2, c.if-left-eq0.false)) goes refl);
 }
 
@@ -80,7 +80,7 @@ returns-in-Memory g c = record {
       let path = subst (λ (t : At). Path g.L.Link.told g.L.Link.counts g.L.Link.sends g.L.Link.polls busid s c.args.link.now t c.sends.link) p.3 p.1 in
       let goes = subst (λ (l : List ℕ). SendGoes g.L.Link.told g.L.Link.counts g.L.Link.sends g.L.Link.polls c.sends.link l send.Memory c.send.new.self) piece
       (record { goes = c.in-Memory.ensures.goes; told_so = c.in-Memory.ensures.told; counted = c.in-Memory.ensures.counts }) in
-      send_stops g.L.Link.told g.L.Link.counts g.L.Link.sends g.L.Link.polls turns busid s c.args.link.now c.args.request.now c.sends.at p.0.calls c.sends.link c.send.new.self _ path
+      send_stops g.L.Link.told g.L.Link.counts g.L.Link.sends g.L.Link.polls turns busid s c.args.link.now c.args.request.now c.sends.at p.0.calls c.sends.link c.send.new.self _ path (omega (arith, p.2))
       (SendWants some (omega (arith, p.2, c.if-left-eq0.false)) goes refl);
 }
 

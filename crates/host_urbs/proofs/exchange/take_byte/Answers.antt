@@ -49,7 +49,7 @@ returns-in-Closed-clause-goes g c = λ turns busid s none u count.
     let path = subst (λ (t : At). Path g.L.Link.told g.L.Link.counts g.L.Link.sends g.L.Link.polls busid s c.args.link.now t c.polls.link) p.3 p.1 in
     let goes : PollGoes g.L.Link.told g.L.Link.counts g.L.Link.sends g.L.Link.polls c.polls.link 1 poll.Closed [] c.poll.new.self =
     record { goes = subst (λ (n : ℕ). g.L.Link.polls c.polls.link n poll.Closed [] c.poll.new.self) c.polls.invariant.one c.in-Closed.ensures.goes; told_so = c.in-Closed.ensures.told; counted = c.in-Closed.ensures.counts } in
-    poll_stops g.L.Link.told g.L.Link.counts g.L.Link.sends g.L.Link.polls turns busid s c.args.link.now p.0.calls c.polls.link c.poll.new.self _ path
+    poll_stops g.L.Link.told g.L.Link.counts g.L.Link.sends g.L.Link.polls turns busid s c.args.link.now p.0.calls c.polls.link c.poll.new.self _ path (omega (arith, p.2))
     (PollClosed 1 none (awaits_one s.stage s.rest u) (omega (arith, p.2, c.polls-test.true)) goes refl)
 
 pub returns-in-Failed-clause-goes : goal.returns-in-Failed-clause-goes
@@ -58,7 +58,7 @@ returns-in-Failed-clause-goes g c = λ turns busid s none u count.
     let path = subst (λ (t : At). Path g.L.Link.told g.L.Link.counts g.L.Link.sends g.L.Link.polls busid s c.args.link.now t c.polls.link) p.3 p.1 in
     let goes : PollGoes g.L.Link.told g.L.Link.counts g.L.Link.sends g.L.Link.polls c.polls.link 1 poll.Failed [] c.poll.new.self =
     record { goes = subst (λ (n : ℕ). g.L.Link.polls c.polls.link n poll.Failed [] c.poll.new.self) c.polls.invariant.one c.in-Failed.ensures.goes; told_so = c.in-Failed.ensures.told; counted = c.in-Failed.ensures.counts } in
-    poll_stops g.L.Link.told g.L.Link.counts g.L.Link.sends g.L.Link.polls turns busid s c.args.link.now p.0.calls c.polls.link c.poll.new.self _ path
+    poll_stops g.L.Link.told g.L.Link.counts g.L.Link.sends g.L.Link.polls turns busid s c.args.link.now p.0.calls c.polls.link c.poll.new.self _ path (omega (arith, p.2))
     (PollFailed 1 none (awaits_one s.stage s.rest u) (omega (arith, p.2, c.polls-test.true)) goes refl)
 
 pub returns-in-Memory-clause-goes : goal.returns-in-Memory-clause-goes
@@ -67,12 +67,12 @@ returns-in-Memory-clause-goes g c = λ turns busid s none u count.
     let path = subst (λ (t : At). Path g.L.Link.told g.L.Link.counts g.L.Link.sends g.L.Link.polls busid s c.args.link.now t c.polls.link) p.3 p.1 in
     let goes : PollGoes g.L.Link.told g.L.Link.counts g.L.Link.sends g.L.Link.polls c.polls.link 1 poll.Memory [] c.poll.new.self =
     record { goes = subst (λ (n : ℕ). g.L.Link.polls c.polls.link n poll.Memory [] c.poll.new.self) c.polls.invariant.one c.in-Memory.ensures.goes; told_so = c.in-Memory.ensures.told; counted = c.in-Memory.ensures.counts } in
-    poll_stops g.L.Link.told g.L.Link.counts g.L.Link.sends g.L.Link.polls turns busid s c.args.link.now p.0.calls c.polls.link c.poll.new.self _ path
+    poll_stops g.L.Link.told g.L.Link.counts g.L.Link.sends g.L.Link.polls turns busid s c.args.link.now p.0.calls c.polls.link c.poll.new.self _ path (omega (arith, p.2))
     (PollWants 1 none (awaits_one s.stage s.rest u) (omega (arith, p.2, c.polls-test.true)) goes refl)
 
 pub returns-clause-goes : goal.returns-clause-goes
 returns-clause-goes g c = λ turns busid s none u count.
     let p = c.polls.invariant.path turns busid s none u count in
     let path = subst (λ (t : At). Path g.L.Link.told g.L.Link.counts g.L.Link.sends g.L.Link.polls busid s c.args.link.now t c.polls.link) p.3 p.1 in
-    poll_stops g.L.Link.told g.L.Link.counts g.L.Link.sends g.L.Link.polls turns busid s c.args.link.now p.0.calls c.polls.link c.polls.link _ path
+    poll_stops g.L.Link.told g.L.Link.counts g.L.Link.sends g.L.Link.polls turns busid s c.args.link.now p.0.calls c.polls.link c.polls.link _ path (omega (arith, p.2))
     (Spent (inr (none, u)) (omega (arith, p.2, c.polls-test.false)) refl refl)

@@ -64,4 +64,4 @@ returns-in-Bad-clause-goes g c = λ turns busid s ep ed eu er count.
     let u : Undecided s.stage c.bytes.reader.rest = c.bytes.invariant.undecided s.stage ep ed in
     let n = taken_next g.L.Link.told g.L.Link.counts g.L.Link.sends g.L.Link.polls turns busid s c.args.link.now c.bytes.reader.rest c.in_ok-byte.byte p.0.calls c.take_byte.new.left c.bytes.link c.take_byte.new.link path
     (c.in_ok-byte.ensures.goes turns busid (taking s c.bytes.reader.rest p.0.calls) eu u p.2) in
-    record { at = taking s (c.bytes.reader.rest ++ c.in_ok-byte.byte ∷ []) n.0; mid = c.take_byte.new.link; path = n.1; last = Refused c.in-Bad.field eu (c.in-Bad.ensures.hears s.stage c.bytes.reader.rest ep ed (c.bytes.invariant.reader s.stage ep ed) u) refl refl }
+    record { at = taking s (c.bytes.reader.rest ++ c.in_ok-byte.byte ∷ []) n.0; mid = c.take_byte.new.link; path = n.1; calls = omega (arith, n.2); last = Refused c.in-Bad.field eu (c.in-Bad.ensures.hears s.stage c.bytes.reader.rest ep ed (c.bytes.invariant.reader s.stage ep ed) u) refl refl }

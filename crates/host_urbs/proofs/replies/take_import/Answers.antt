@@ -67,7 +67,7 @@ returns-in-NoDevice g c = record {
       let u : Undecided s.stage c.bytes.reader.rest = subst (λ (x : Stage). Undecided x c.bytes.reader.rest) (sym es) c.bytes.invariant.undecided in
       let n = taken_next g.L.Link.told g.L.Link.counts g.L.Link.sends g.L.Link.polls turns busid s c.args.link.now c.bytes.reader.rest c.in_ok-byte.byte p.0.calls c.take_byte.new.left c.bytes.link c.take_byte.new.link path
       (c.in_ok-byte.ensures.goes turns busid (taking s c.bytes.reader.rest p.0.calls) eu u p.2) in
-      record { at = taking s (c.bytes.reader.rest ++ c.in_ok-byte.byte ∷ []) n.0; mid = c.take_byte.new.link; path = n.1; last = NoDevice c.in-NoDevice.status es eu (c.in-NoDevice.ensures c.bytes.reader.rest c.bytes.invariant.reader c.bytes.invariant.front c.bytes.invariant.undecided) refl refl };
+      record { at = taking s (c.bytes.reader.rest ++ c.in_ok-byte.byte ∷ []) n.0; mid = c.take_byte.new.link; path = n.1; calls = omega (arith, n.2); last = NoDevice c.in-NoDevice.status es eu (c.in-NoDevice.ensures c.bytes.reader.rest c.bytes.invariant.reader c.bytes.invariant.front c.bytes.invariant.undecided) refl refl };
 }
 
 pub returns-in-Bad : goal.returns-in-Bad
@@ -78,5 +78,5 @@ returns-in-Bad g c = record {
       let u : Undecided s.stage c.bytes.reader.rest = subst (λ (x : Stage). Undecided x c.bytes.reader.rest) (sym es) c.bytes.invariant.undecided in
       let n = taken_next g.L.Link.told g.L.Link.counts g.L.Link.sends g.L.Link.polls turns busid s c.args.link.now c.bytes.reader.rest c.in_ok-byte.byte p.0.calls c.take_byte.new.left c.bytes.link c.take_byte.new.link path
       (c.in_ok-byte.ensures.goes turns busid (taking s c.bytes.reader.rest p.0.calls) eu u p.2) in
-      record { at = taking s (c.bytes.reader.rest ++ c.in_ok-byte.byte ∷ []) n.0; mid = c.take_byte.new.link; path = n.1; last = Refused c.in-Bad.field eu (subst (λ (x : Stage). IsBad x (c.bytes.reader.rest ++ c.in_ok-byte.byte ∷ []) c.in-Bad.field) (sym es) (c.in-Bad.ensures c.bytes.reader.rest c.bytes.invariant.reader c.bytes.invariant.front c.bytes.invariant.undecided)) refl refl };
+      record { at = taking s (c.bytes.reader.rest ++ c.in_ok-byte.byte ∷ []) n.0; mid = c.take_byte.new.link; path = n.1; calls = omega (arith, n.2); last = Refused c.in-Bad.field eu (subst (λ (x : Stage). IsBad x (c.bytes.reader.rest ++ c.in_ok-byte.byte ∷ []) c.in-Bad.field) (sym es) (c.in-Bad.ensures c.bytes.reader.rest c.bytes.invariant.reader c.bytes.invariant.front c.bytes.invariant.undecided)) refl refl };
 }
