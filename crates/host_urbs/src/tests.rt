@@ -1,4 +1,4 @@
-ghost use Rattle.std.specs.Prelude.{◌<◌};
+ghost use Rattle.std.specs.Prelude.{◌≤◌, length};
 
 use super::*;
 use bytes::BytesMut;
@@ -57,7 +57,9 @@ const REQUESTS: &[u8] = &[
 
 /// The answers to the three requests: to the submits with these statuses, and with so many bytes of the configuration
 /// descriptor.
-fn answers(alloc: Global, first: i32, descriptor: &[u8], second: i32) -> Result<BytesMut, Memory> {
+fn answers(alloc: Global, first: i32, descriptor: &[u8], second: i32) -> Result<BytesMut, Memory>
+    requires { length descriptor.now ≤ 39 }
+{
     let mut bytes = BytesMut::with_capacity(alloc, 416 + descriptor.len())?;
     put_import_reply(0, Some(&DEVICE), &mut bytes);
     let head = RetSubmitHead {
@@ -77,10 +79,9 @@ fn answers(alloc: Global, first: i32, descriptor: &[u8], second: i32) -> Result<
 
 /// A link that gives these bytes and takes and gives at most `piece` bytes at a time. The send and the poll of these numbers
 /// fail.
-fn link(alloc: Global, gives: &[u8], piece: usize, send: u32, poll: u32) -> Result<MemLink, Memory>
-    requires { 0 < piece }
-{
+fn link(alloc: Global, gives: &[u8], piece: usize, send: u32, poll: u32) -> Result<MemLink, Memory> {
     let gives = gives.to_vec(alloc)?;
+    let piece = piece.max(1);
     MemLink::new(
         alloc,
         gives,
@@ -128,13 +129,13 @@ fn first_event_against_it(rt: HostRuntime) -> Result<(), Fail> {
     let list: [u8; 12] = [0x01, 0x11, 0x00, 0x05, 0, 0, 0, 0, 0, 0, 0, 0];
     let taken: [u8; 8] = [0x01, 0x11, 0x00, 0x03, 0, 0, 0, 1];
     let old: [u8; 2] = [0x01, 0x10];
-    let cases: [(&[u8], AttachFault); 12] = [
-        (&bytes[..0], AttachFault::Closed),
-        (&bytes[..319], AttachFault::Closed),
-        (&bytes[..320], AttachFault::Closed),
-        (&bytes[..406], AttachFault::Closed),
-        (&bytes[..407], AttachFault::Closed),
-        (&bytes[..454], AttachFault::Closed),
+    for cut in [0, 1, 319, 320, 406, 407, 454] {
+        let (gives, _) = bytes.split_at(cut.min(bytes.len()));
+        let mut server = link(rt.alloc(), gives, 7, 0, 0)?;
+        let attached = attach(rt.alloc(), &mut server, b"1-1", 1_000);
+        assert_eq!(rt; attached, Err(AttachFault::Closed), "behind {cut} bytes");
+    }
+    let cases: [(&[u8], AttachFault); 6] = [
         (&list, AttachFault::Bad(code)),
         (&taken, AttachFault::NoDevice(1)),
         (&old, AttachFault::Bad(version)),
@@ -174,17 +175,22 @@ fn failing_calls(rt: HostRuntime) -> Result<(), Fail> {
 fn messages_until_they_are_answered(rt: HostRuntime) -> Result<(), Fail> {
     let mut urbs = Urbs::new(rt.alloc(), 0x0001_0002, 3)?;
     assert_eq!(rt; urbs.submit(Dir::In, 2, 1_024, [0; 8], &[]), 3);
+    assert_eq!(rt; urbs.outbox().len(), 48);
     assert_eq!(rt; urbs.submit_pieces(1, b"ab", b"cd", b"e"), 4);
+    assert_eq!(rt; urbs.outbox().len(), 101);
     assert_eq!(rt; urbs.unlink(3), 5);
     assert_eq!(rt; urbs.next(), 6);
     assert_eq!(rt; urbs.outbox().len(), 149);
     assert_eq!(rt; &urbs.outbox()[96..101], b"abcde".as_slice());
     urbs.sent(47);
     assert_eq!(rt; urbs.dirs().len(), 0);
+    assert_eq!(rt; urbs.outbox().len(), 102);
     urbs.sent(1);
     assert!(rt; urbs.dirs().holds(3) && !urbs.dirs().holds(4));
+    assert_eq!(rt; urbs.outbox().len(), 101);
     urbs.sent(53);
     assert_eq!(rt; urbs.dirs().len(), 2);
+    assert_eq!(rt; urbs.outbox().len(), 48);
     urbs.sent(48);
     assert!(rt; urbs.dirs().holds(5) && urbs.outbox().is_empty());
     urbs.unlinked(RetUnlinkHead {
