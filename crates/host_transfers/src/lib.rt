@@ -23,3 +23,6 @@ pub use part::{Part, part_of};
 pub use piece::Piece;
 pub use tags::Tags;
 pub use transfer::submit_transfer;
+
+#[cfg(test)]
+mod tests;

@@ -9,3 +9,6 @@ pub mod Numbers
 pub mod Following
 pub mod Keeping
 pub mod Patched
+pub mod Attachment
+pub mod Hearing
+pub mod Went

@@ -6,3 +6,6 @@ pub mod Worked
 pub mod Entries
 pub mod Held
 pub mod Kept
+pub mod Attach
+pub mod Attaching
+pub mod Attached

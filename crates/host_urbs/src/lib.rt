@@ -7,13 +7,20 @@
 //! nothing: their contracts say what holds of each lawful record of messages.
 #![tactic(auto)]
 
+mod attached;
+mod attaching;
 mod entries;
 mod entry;
+mod exchange;
+mod front;
 mod laws;
 mod limits;
 mod outbox;
+mod replies;
 mod urbs;
 
+pub use attached::{AttachFault, Attached};
+pub use attaching::attach;
 pub use laws::{
     a_read_is_unlinked, each_message_is_answered_once, each_submit_is_unlinked_once,
     few_are_outstanding, limits_are_the_products, numbers_are_in_a_row,
@@ -21,3 +28,6 @@ pub use laws::{
 };
 pub use limits::{LAST_SUBMIT, OUTBOX_MAX};
 pub use urbs::Urbs;
+
+#[cfg(test)]
+mod tests;
