@@ -17,3 +17,4 @@ pub mod Plain
 pub mod Joined
 pub mod Client
 pub mod Parted
+pub mod Texts

@@ -5,3 +5,4 @@ pub mod Printed
 pub mod Shown
 pub mod Read
 pub mod Pieces
+pub mod Text

@@ -13,6 +13,7 @@ mod script;
 mod shown;
 #[cfg(test)]
 mod tests;
+mod text;
 mod words;
 
 pub use laws::{pieces_are_one_text, scripts_are_determined, words_spell_their_values};

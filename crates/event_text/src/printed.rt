@@ -1,164 +1,262 @@
-//! The line of each message, of a bad field, and of a rest.
+//! The line of each message, of a bad field, and of a rest. Each is appended to the text.
 
-ghost use Rattle.std.specs.Prelude.{◌≡◌, IfOk, string_bytes, List, ℕ};
-ghost use Rattle.event_text.specs.Printed.{busid_word, device_word, dir_word, asked_words, request_line, submit_line, unlink_line, count_line, interface_line, device_line, reply_line, ret_submit_line, ret_unlink_line, layer_word, name_word, field_words, bad_line, more_line};
+ghost use Rattle.std.specs.Prelude.{◌≡◌, ◌++◌, ◌==◌, OnOk, List, ℕ, codes};
+ghost use Rattle.std.specs.Fmt.{decimal, signed_decimal};
+ghost use Rattle.std.specs.List.{before_first};
+ghost use Rattle.event_text.specs.Printed.{device_word, dir_word, request_line, submit_line, unlink_line, count_line, interface_line, device_line, reply_line, ret_submit_line, ret_unlink_line, layer_word, name_word, bad_line, more_line};
 ghost use Rattle.event_text.specs.Read.{client_text, device_text};
+ghost use Rattle.event_text.specs.Words.{hex_word};
 
-use crate::words::{hex_text, place_of};
-use std::alloc::Global;
+use crate::text::{Part, put_parts};
+use crate::words::place_of;
 use tmc_base::{Field, Layer, Memory, Name};
 use usbip_wire::{
     DeviceRecord, Dir, Down, OpRequest, RetSubmitHead, RetUnlinkHead, SubmitHead, UnlinkHead, Up,
 };
 
 /// What is printed of an answer about a client's bytes.
-pub(crate) fn client_text(alloc: Global, what: &Up, carried: &[u8]) -> Result<String, Memory>
-    ensures { IfOk result (λ text. string_bytes text ≡ client_text what.now carried.now) }
+pub(crate) fn put_client(what: &Up, carried: &[u8], text: &mut Vec<u8>) -> Result<(), Memory>
+    ensures { OnOk result (text.new.items ≡ text.old.items ++ client_text what.now carried.now) }
 {
     match what {
-        Up::Op(request) => request_line(alloc, request),
-        Up::Submit(head) => submit_line(alloc, head, carried),
-        Up::Unlink(head) => unlink_line(alloc, head),
-        Up::More => Ok(String::new(alloc)),
-        Up::Bad(field) => bad_line(alloc, *field),
+        Up::Op(request) => put_request(request, text),
+        Up::Submit(head) => put_submit(head, carried, text),
+        Up::Unlink(head) => put_unlink(head, text),
+        Up::More => Ok(()),
+        Up::Bad(field) => put_bad(*field, text),
     }
 }
 
 /// What is printed of an answer about a device's bytes.
-pub(crate) fn device_text(alloc: Global, what: &Down, carried: &[u8]) -> Result<String, Memory>
-    ensures { IfOk result (λ text. string_bytes text ≡ device_text what.now carried.now) }
+pub(crate) fn put_device(what: &Down, carried: &[u8], text: &mut Vec<u8>) -> Result<(), Memory>
+    ensures { OnOk result (text.new.items ≡ text.old.items ++ device_text what.now carried.now) }
 {
     match what {
-        Down::Count { status, devices } => count_line(alloc, *status, *devices),
-        Down::Device(device) => device_line(alloc, device),
+        Down::Count { status, devices } => put_count(*status, *devices, text),
+        Down::Device(device) => put_record(device, text),
         Down::Interface {
             class,
             subclass,
             protocol,
-        } => interface_line(alloc, *class, *subclass, *protocol),
-        Down::Import { status, device } => reply_line(alloc, *status, device),
-        Down::RetSubmit(head) => ret_submit_line(alloc, head, carried),
-        Down::RetUnlink(head) => ret_unlink_line(alloc, head),
-        Down::More => Ok(String::new(alloc)),
-        Down::Bad(field) => bad_line(alloc, *field),
+        } => put_interface(*class, *subclass, *protocol, text),
+        Down::Import { status, device } => put_reply(*status, device, text),
+        Down::RetSubmit(head) => put_ret_submit(head, carried, text),
+        Down::RetUnlink(head) => put_ret_unlink(head, text),
+        Down::More => Ok(()),
+        Down::Bad(field) => put_bad(*field, text),
     }
 }
 
 /// The line of what is left where no more bytes come.
-pub(crate) fn more_line(alloc: Global, count: usize) -> Result<String, Memory>
-    ensures { IfOk result (λ text. string_bytes text ≡ more_line count) }
+pub(crate) fn put_more(count: usize, text: &mut Vec<u8>) -> Result<(), Memory>
+    ensures { OnOk result (text.new.items ≡ text.old.items ++ more_line count) }
 {
-    Ok(format!(in alloc; "more {count}\n")?)
+    put_parts(
+        &[
+            Part::Word("more "),
+            Part::Number(count as u64),
+            Part::Word("\n"),
+        ],
+        text,
+    )
 }
 
-fn bad_line(alloc: Global, field: Field) -> Result<String, Memory>
-    ensures { IfOk result (λ text. string_bytes text ≡ bad_line field) }
+fn put_bad(field: Field, text: &mut Vec<u8>) -> Result<(), Memory>
+    ensures { OnOk result (text.new.items ≡ text.old.items ++ bad_line field) }
 {
-    let layer = layer_word(field.layer);
-    let name = name_word(field.name);
-    let offset = field.offset;
-    Ok(format!(in alloc; "bad {layer} {name} {offset}\n")?)
+    put_parts(
+        &[
+            Part::Word("bad "),
+            Part::Word(layer_word(field.layer)),
+            Part::Word(" "),
+            Part::Word(name_word(field.name)),
+            Part::Word(" "),
+            Part::Number(u64::from(field.offset)),
+            Part::Word("\n"),
+        ],
+        text,
+    )
 }
 
-/// A bus id as one word: its bytes before the first zero.
-fn busid_text(alloc: Global, busid: &[u8; 32]) -> Result<String, Memory>
-    ensures { IfOk result (λ text. string_bytes text ≡ busid_word busid.now) }
+/// A bus id: its bytes before the first zero.
+fn busid_of(busid: &[u8; 32]) -> &[u8]
+    ensures { result.now ≡ before_first (λ byte. byte == 0) busid.now }
 {
     match place_of(busid, 0) {
-        Some(end) => hex_text(alloc, &busid[..end]),
-        None => hex_text(alloc, busid),
+        Some(end) => &busid[..end],
+        None => busid,
     }
 }
 
-fn request_line(alloc: Global, request: &OpRequest) -> Result<String, Memory>
-    ensures { IfOk result (λ text. string_bytes text ≡ request_line request.now) }
+fn put_request(request: &OpRequest, text: &mut Vec<u8>) -> Result<(), Memory>
+    ensures { OnOk result (text.new.items ≡ text.old.items ++ request_line request.now) }
 {
     match request {
-        OpRequest::DevList => Ok(String::from_str(alloc, "devlist\n")?),
-        OpRequest::Import { busid } => {
-            let busid = busid_text(alloc, busid)?;
-            Ok(format!(in alloc; "import {busid}\n")?)
-        }
+        OpRequest::DevList => put_parts(&[Part::Word("devlist\n")], text),
+        OpRequest::Import { busid } => put_parts(
+            &[
+                Part::Word("import "),
+                Part::Hex(busid_of(busid)),
+                Part::Word("\n"),
+            ],
+            text,
+        ),
     }
 }
 
-fn submit_line(alloc: Global, head: &SubmitHead, carried: &[u8]) -> Result<String, Memory>
-    ensures { IfOk result (λ text. string_bytes text ≡ submit_line head.now carried.now) }
-{
-    let asked = asked_words(alloc, head)?;
-    let setup = hex::encode(alloc, head.setup)?;
-    let carried = hex_text(alloc, carried)?;
-    Ok(format!(in alloc; "{asked} {setup} {carried}\n")?)
-}
-
-/// What a submit asks for.
-fn asked_words(alloc: Global, head: &SubmitHead) -> Result<String, Memory>
-    ensures { IfOk result (λ text. string_bytes text ≡ asked_words head.now) }
+fn put_submit<'a>(head: &'a SubmitHead, carried: &'a [u8], text: &mut Vec<u8>) -> Result<(), Memory>
+    ensures { OnOk result (text.new.items ≡ text.old.items ++ submit_line head.now carried.now) }
 {
     let SubmitHead {
         seqnum,
         dir,
         ep,
         length,
+        setup,
         ..
-    } = *head;
-    let dir = dir_word(dir);
-    Ok(format!(in alloc; "submit {seqnum} {dir} {ep} {length}")?)
+    } = head;
+    put_parts(
+        &[
+            Part::Word("submit "),
+            Part::Number(u64::from(*seqnum)),
+            Part::Word(" "),
+            Part::Word(dir_word(*dir)),
+            Part::Word(" "),
+            Part::Number(u64::from(*ep)),
+            Part::Word(" "),
+            Part::Number(u64::from(*length)),
+            Part::Word(" "),
+            Part::Digits(setup),
+            Part::Word(" "),
+            Part::Hex(carried),
+            Part::Word("\n"),
+        ],
+        text,
+    )
 }
 
-fn unlink_line(alloc: Global, head: &UnlinkHead) -> Result<String, Memory>
-    ensures { IfOk result (λ text. string_bytes text ≡ unlink_line head.now) }
+fn put_unlink(head: &UnlinkHead, text: &mut Vec<u8>) -> Result<(), Memory>
+    ensures { OnOk result (text.new.items ≡ text.old.items ++ unlink_line head.now) }
 {
     let UnlinkHead { seqnum, target, .. } = *head;
-    Ok(format!(in alloc; "unlink {seqnum} {target}\n")?)
+    put_parts(
+        &[
+            Part::Word("unlink "),
+            Part::Number(u64::from(seqnum)),
+            Part::Word(" "),
+            Part::Number(u64::from(target)),
+            Part::Word("\n"),
+        ],
+        text,
+    )
 }
 
-fn count_line(alloc: Global, status: u32, devices: u32) -> Result<String, Memory>
-    ensures { IfOk result (λ text. string_bytes text ≡ count_line status devices) }
+fn put_count(status: u32, devices: u32, text: &mut Vec<u8>) -> Result<(), Memory>
+    ensures { OnOk result (text.new.items ≡ text.old.items ++ count_line status devices) }
 {
-    Ok(format!(in alloc; "count {status} {devices}\n")?)
+    put_parts(
+        &[
+            Part::Word("count "),
+            Part::Number(u64::from(status)),
+            Part::Word(" "),
+            Part::Number(u64::from(devices)),
+            Part::Word("\n"),
+        ],
+        text,
+    )
 }
 
-fn device_line(alloc: Global, device: &DeviceRecord) -> Result<String, Memory>
-    ensures { IfOk result (λ text. string_bytes text ≡ device_line device.now) }
+fn put_record(device: &DeviceRecord, text: &mut Vec<u8>) -> Result<(), Memory>
+    ensures { OnOk result (text.new.items ≡ text.old.items ++ device_line device.now) }
 {
-    let busid = busid_text(alloc, &device.busid)?;
-    Ok(format!(in alloc; "device {busid}\n")?)
+    put_parts(
+        &[
+            Part::Word("device "),
+            Part::Hex(busid_of(&device.busid)),
+            Part::Word("\n"),
+        ],
+        text,
+    )
 }
 
-fn interface_line(alloc: Global, class: u8, subclass: u8, protocol: u8) -> Result<String, Memory>
-    ensures { IfOk result (λ text. string_bytes text ≡ interface_line class subclass protocol) }
+fn put_interface(class: u8, subclass: u8, protocol: u8, text: &mut Vec<u8>) -> Result<(), Memory>
+    ensures { OnOk result (text.new.items ≡ text.old.items ++ interface_line class subclass protocol) }
 {
-    Ok(format!(in alloc; "interface {class} {subclass} {protocol}\n")?)
+    put_parts(
+        &[
+            Part::Word("interface "),
+            Part::Number(u64::from(class)),
+            Part::Word(" "),
+            Part::Number(u64::from(subclass)),
+            Part::Word(" "),
+            Part::Number(u64::from(protocol)),
+            Part::Word("\n"),
+        ],
+        text,
+    )
 }
 
-fn reply_line(alloc: Global, status: u32, device: &Option<DeviceRecord>) -> Result<String, Memory>
-    ensures { IfOk result (λ text. string_bytes text ≡ reply_line status device.now) }
+fn put_reply(status: u32, device: &Option<DeviceRecord>, text: &mut Vec<u8>) -> Result<(), Memory>
+    ensures { OnOk result (text.new.items ≡ text.old.items ++ reply_line status device.now) }
 {
     let busid = match device {
-        Some(device) => busid_text(alloc, &device.busid)?,
-        None => String::from_str(alloc, "-")?,
+        Some(device) => Part::Hex(busid_of(&device.busid)),
+        None => Part::Word("-"),
     };
-    Ok(format!(in alloc; "reply {status} {busid}\n")?)
+    put_parts(
+        &[
+            Part::Word("reply "),
+            Part::Number(u64::from(status)),
+            Part::Word(" "),
+            busid,
+            Part::Word("\n"),
+        ],
+        text,
+    )
 }
 
-fn ret_submit_line(alloc: Global, head: &RetSubmitHead, carried: &[u8]) -> Result<String, Memory>
-    ensures { IfOk result (λ text. string_bytes text ≡ ret_submit_line head.now carried.now) }
+fn put_ret_submit(head: &RetSubmitHead, carried: &[u8], text: &mut Vec<u8>) -> Result<(), Memory>
+    ensures { OnOk result (text.new.items ≡ text.old.items ++ ret_submit_line head.now carried.now) }
 {
     let RetSubmitHead {
         seqnum,
         status,
         actual,
     } = *head;
-    let carried = hex_text(alloc, carried)?;
-    Ok(format!(in alloc; "ret_submit {seqnum} {status} {actual} {carried}\n")?)
+    put_answered("ret_submit ", seqnum, status, text)?;
+    put_parts(
+        &[
+            Part::Word(" "),
+            Part::Number(u64::from(actual)),
+            Part::Word(" "),
+            Part::Hex(carried),
+            Part::Word("\n"),
+        ],
+        text,
+    )
 }
 
-fn ret_unlink_line(alloc: Global, head: &RetUnlinkHead) -> Result<String, Memory>
-    ensures { IfOk result (λ text. string_bytes text ≡ ret_unlink_line head.now) }
+/// The number and the status of an answer.
+fn put_answered(name: &str, seqnum: u32, status: i32, text: &mut Vec<u8>) -> Result<(), Memory>
+    ensures { OnOk result (text.new.items ≡ text.old.items ++ (name.now ++ (decimal seqnum ++ (codes " " ++ signed_decimal status)))) }
+{
+    put_parts(
+        &[
+            Part::Word(name),
+            Part::Number(u64::from(seqnum)),
+            Part::Word(" "),
+            Part::Signed(status),
+        ],
+        text,
+    )
+}
+
+fn put_ret_unlink(head: &RetUnlinkHead, text: &mut Vec<u8>) -> Result<(), Memory>
+    ensures { OnOk result (text.new.items ≡ text.old.items ++ ret_unlink_line head.now) }
 {
     let RetUnlinkHead { seqnum, status } = *head;
-    Ok(format!(in alloc; "ret_unlink {seqnum} {status}\n")?)
+    put_answered("ret_unlink ", seqnum, status, text)?;
+    put_parts(&[Part::Word("\n")], text)
 }
 
 fn dir_word(dir: Dir) -> &'static str

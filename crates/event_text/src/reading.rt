@@ -1,6 +1,6 @@
 //! A stream that is shown, as far as it was read.
 
-ghost use Rattle.std.specs.Prelude.{◌≡◌, ◌≤◌, ◌+◌, ◌++◌, ◌∷◌, [], ℕ, List, None, Some, IfOk, IfErr, OnOk, string_bytes, length};
+ghost use Rattle.std.specs.Prelude.{◌≡◌, ◌≤◌, ◌+◌, ◌++◌, ◌∷◌, [], ℕ, List, None, Some, IfOk, IfErr, OnOk, length};
 ghost use Rattle.usbip_wire.specs.Dirs.{IsShort};
 ghost use Rattle.usbip_wire.specs.DownFed as down_fed;
 ghost use Rattle.usbip_wire.specs.UpFed as up_fed;
@@ -13,7 +13,7 @@ ghost use Rattle.event_text.specs.Script.{entry_fault};
 ghost use Rattle.event_text.specs.Shown.{begun, Prints, ending};
 
 use crate::line_fault::LineWhat;
-use crate::printed::{client_text, device_text, more_line};
+use crate::printed::{put_client, put_device, put_more};
 use crate::script::Phase;
 use std::alloc::Global;
 use tmc_base::Memory;
@@ -126,9 +126,9 @@ impl Reading {
 
     /// Reads a piece, and appends the lines of the messages that it completes. Behind a bad field nothing is
     /// read.
-    pub(crate) fn give(&mut self, piece: &[u8], text: &mut String) -> Result<(), Memory>
+    pub(crate) fn give(&mut self, piece: &[u8], text: &mut Vec<u8>) -> Result<(), Memory>
         requires { IsSound self.old.reader self.old.dirs self.old.rest }
-        ensures printed { OnOk result ((printed : List ℕ) × (string_bytes text.new ≡ string_bytes text.old ++ printed)
+        ensures printed { OnOk result ((printed : List ℕ) × (text.new.items ≡ text.old.items ++ printed)
             × Prints (standing_of self.old.reader self.old.dirs) (Bytes piece.now) printed (standing_of self.new.reader self.new.dirs)) }
         ensures sound { OnOk result (IsSound self.new.reader self.new.dirs self.new.rest) }
     {
@@ -143,22 +143,21 @@ impl Reading {
     }
 
     /// Appends what is printed behind the last line.
-    pub(crate) fn end(&self, text: &mut String) -> Result<(), Memory>
+    pub(crate) fn end(&self, text: &mut Vec<u8>) -> Result<(), Memory>
         requires { IsSound self.now.reader self.now.dirs self.now.rest }
-        ensures { OnOk result (string_bytes text.new ≡ string_bytes text.old ++ ending (standing_of self.now.reader self.now.dirs).bad (standing_of self.now.reader self.now.dirs).rest) }
+        ensures { OnOk result (text.new.items ≡ text.old.items ++ ending (standing_of self.now.reader self.now.dirs).bad (standing_of self.now.reader self.now.dirs).rest) }
     {
         let Some(rest) = self.rest else {
             return Ok(());
         };
-        let more = more_line(*text.allocator(), rest)?;
-        Ok(text.push_str(more.as_str())?)
+        put_more(rest, text)
     }
 
     /// Reads up to the end of the next message, and appends what is printed of it.
-    fn step(&mut self, piece: &[u8], text: &mut String) -> Result<Step, Memory>
+    fn step(&mut self, piece: &[u8], text: &mut Vec<u8>) -> Result<Step, Memory>
         requires good { (standing_of self.old.reader self.old.dirs).bad ≡ None }
         requires sound { IsSound self.old.reader self.old.dirs self.old.rest }
-        ensures stepped { IfOk result (λ step. (printed : List ℕ) × (string_bytes text.new ≡ string_bytes text.old ++ printed)
+        ensures stepped { IfOk result (λ step. (printed : List ℕ) × (text.new.items ≡ text.old.items ++ printed)
             × Stepped (standing_of self.old.reader self.old.dirs) piece.now step printed (standing_of self.new.reader self.new.dirs)) }
         ensures sound { OnOk result (IsSound self.new.reader self.new.dirs self.new.rest) }
     {
@@ -177,11 +176,11 @@ impl Reading {
         self.rest.unwrap_or(0)
     }
 
-    fn feed(&mut self, piece: &[u8], text: &mut String) -> Result<Step, Memory>
+    fn feed(&mut self, piece: &[u8], text: &mut Vec<u8>) -> Result<Step, Memory>
         requires good { (standing_of self.old.reader self.old.dirs).bad ≡ None }
         requires settled { IsSettled (standing_of self.old.reader self.old.dirs) }
         requires ours { IsOurReader self.old.reader }
-        ensures stepped { IfOk result (λ step. (printed : List ℕ) × (string_bytes text.new ≡ string_bytes text.old ++ printed)
+        ensures stepped { IfOk result (λ step. (printed : List ℕ) × (text.new.items ≡ text.old.items ++ printed)
             × Stepped (standing_of self.old.reader self.old.dirs) piece.now step printed (standing_of self.new.reader self.new.dirs)) }
         ensures ours { OnOk result (IsOurReader self.new.reader) }
         ensures few { IfOk result (λ _. length (standing_of self.new.reader self.new.dirs).rest ≤ message_max) }
@@ -194,14 +193,13 @@ impl Reading {
 }
 
 /// Feeds a client's bytes up to the end of the next message, and appends what is printed of it.
-fn feed_client(reader: &mut UpReader, piece: &[u8], text: &mut String) -> Result<Step, Memory>
+fn feed_client(reader: &mut UpReader, piece: &[u8], text: &mut Vec<u8>) -> Result<Step, Memory>
     ensures { IfOk result (λ step. (fed : UpStep) × up_fed.Fed reader.old piece.now fed reader.new
         × (step ≡ client_step fed)
-        × (string_bytes text.new ≡ string_bytes text.old ++ client_text fed.what (up_fed.data_of reader.new))) }
+        × (text.new.items ≡ text.old.items ++ client_text fed.what (up_fed.data_of reader.new))) }
 {
     let fed = reader.feed(piece);
-    let line = client_text(*text.allocator(), &fed.what, reader.data())?;
-    text.push_str(line.as_str())?;
+    put_client(&fed.what, reader.data(), text)?;
     Ok(match fed.what {
         Up::Op(_) | Up::Submit(_) | Up::Unlink(_) => Step::Message(fed.used),
         Up::More => Step::More,
@@ -215,18 +213,17 @@ fn feed_device(
     reader: &mut DownReader,
     dirs: &mut Dirs,
     piece: &[u8],
-    text: &mut String,
+    text: &mut Vec<u8>,
 ) -> Result<Step, Memory>
     requires good { reader.old.bad ≡ None }
     requires unread { down_fed.NoneWhole reader.old.phase dirs.old (down_fed.kept reader.old) }
     ensures { IfOk result (λ step. (fed : DownStep) × down_fed.Fed reader.old dirs.old piece.now fed reader.new
         × (step ≡ device_step fed)
         × (dirs.new ≡ answered dirs.old fed.what)
-        × (string_bytes text.new ≡ string_bytes text.old ++ device_text fed.what (down_fed.data_of reader.new))) }
+        × (text.new.items ≡ text.old.items ++ device_text fed.what (down_fed.data_of reader.new))) }
 {
     let fed = reader.feed(piece, dirs);
-    let line = device_text(*text.allocator(), &fed.what, reader.data())?;
-    text.push_str(line.as_str())?;
+    put_device(&fed.what, reader.data(), text)?;
     match fed.what {
         Down::RetSubmit(head) => dirs.remove(head.seqnum),
         Down::RetUnlink(head) => dirs.remove(head.seqnum),

@@ -1,6 +1,6 @@
 //! What is shown of a script.
 
-ghost use Rattle.std.specs.Prelude.{◌≡◌, ◌⊎◌, ◌++◌, Ok, Err, ℕ, List, IfOk, IfErr, OnOk, OnErr, string_bytes};
+ghost use Rattle.std.specs.Prelude.{◌≡◌, ◌⊎◌, ◌++◌, Ok, Err, ℕ, List, IfOk, IfErr, OnOk, OnErr};
 ghost use Rattle.event_text.specs.declared.line_fault.LineFault.TheVariants.{At, Memory};
 ghost use Rattle.event_text.specs.declared.line_fault.LineWhat.{LineWhat};
 ghost use Rattle.event_text.specs.Read.{LinePut, IsSound, standing_of};
@@ -28,13 +28,16 @@ pub fn put_shown(way: Dir, source: &[u8], out: &mut Vec<u8>) -> Result<(), LineF
 {
     scripts_are_determined();
     let text = text_of(*out.allocator(), way, source)?;
-    out.extend_from_slice(text.as_bytes())
-        .map_err(|_| LineFault::Memory)
+    if out.is_empty() {
+        *out = text;
+        return Ok(());
+    }
+    out.extend_from_slice(&text).map_err(|_| LineFault::Memory)
 }
 
 /// What is shown of a script.
-fn text_of(alloc: Global, way: Dir, source: &[u8]) -> Result<String, LineFault>
-    ensures shown { IfOk result (λ text. ShownOf way source.now (string_bytes text)) }
+fn text_of(alloc: Global, way: Dir, source: &[u8]) -> Result<Vec<u8>, LineFault>
+    ensures shown { IfOk result (λ text. ShownOf way source.now text.items) }
     ensures refused { IfErr result (IsFaultOf way source.now) }
 {
     if source.is_empty() {
@@ -49,7 +52,7 @@ fn text_of(alloc: Global, way: Dir, source: &[u8]) -> Result<String, LineFault>
         Err(stop) => return Err(stop.at(1)),
     };
     let mut reading = Reading::new(alloc, way, phase)?;
-    let mut text = String::new(alloc);
+    let mut text = Vec::new(alloc);
     let mut number = 2;
     'lines: while !rest.is_empty() {
         let (line, more) = first_line(rest);
@@ -70,11 +73,11 @@ fn put_line(
     way: Dir,
     number: u32,
     line: &[u8],
-    text: &mut String,
+    text: &mut Vec<u8>,
 ) -> Result<(), LineStop>
     requires { IsSound reading.old.reader reading.old.dirs reading.old.rest }
-    ensures put { LinePut way number line.now (standing_of reading.old.reader reading.old.dirs) (string_bytes text.old) result
-        (standing_of reading.new.reader reading.new.dirs) (string_bytes text.new) }
+    ensures put { LinePut way number line.now (standing_of reading.old.reader reading.old.dirs) text.old.items result
+        (standing_of reading.new.reader reading.new.dirs) text.new.items }
     ensures sound { OnOk result (IsSound reading.new.reader reading.new.dirs reading.new.rest) }
 {
     match read_later(*text.allocator(), way, number, line)? {

@@ -19,3 +19,7 @@ returns-in_err-text-clause-all_refused c = λ number what refused.
 pub returns-clause-all_refused : goal.returns-clause-all_refused
 returns-clause-all_refused c = λ number what refused.
     absurd (c.scripts_are_determined.ensures.either c.args.way c.args.source.now _ number what c.in_ok-text.ensures.shown refused)
+
+pub returns-then-is_empty-clause-all_refused : goal.returns-then-is_empty-clause-all_refused
+returns-then-is_empty-clause-all_refused c = λ number what refused.
+    absurd (c.scripts_are_determined.ensures.either c.args.way c.args.source.now _ number what c.in_ok-text.ensures.shown refused)

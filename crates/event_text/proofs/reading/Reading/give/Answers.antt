@@ -1,4 +1,4 @@
-use Rattle.std.proofs.Common.{subst, string_bytes}
+use Rattle.std.proofs.Common.{subst}
 use Rattle.event_text.specs.Read.{standing_of, Stepped}
 use Rattle.event_text.proofs.Given.{one_given, last_given}
 use Rattle.event_text.proofs.reading.Reading.give.Goals as goal
@@ -10,7 +10,7 @@ loop-used-preserved c =
     let new = standing_of c.step.new.self.reader c.step.new.self.dirs in
     record {
       given =
-          one_given _ c.args.piece.now c.loop-used.left.now now _ (string_bytes c.loop-used.text) c.in-Message.used stepped.0 new _ c.loop-used.invariant.given
+          one_given _ c.args.piece.now c.loop-used.left.now now _ c.loop-used.text.items c.in-Message.used stepped.0 new _ c.loop-used.invariant.given
           (subst (λ s. Stepped now c.loop-used.left.now s stepped.0 new) c.in-Message.is stepped.2) stepped.1;
       sound = c.in_ok-used.ensures.sound;
     }
@@ -22,7 +22,7 @@ returns c =
     let new = standing_of c.step.new.self.reader c.step.new.self.dirs in
     record {
       printed =
-          last_given _ c.args.piece.now c.loop-used.left.now now _ (string_bytes c.loop-used.text) c.in_ok-used.field-0 stepped.0 new _ c.in_default.not-Message
+          last_given _ c.args.piece.now c.loop-used.left.now now _ c.loop-used.text.items c.in_ok-used.field-0 stepped.0 new _ c.in_default.not-Message
           c.loop-used.invariant.given stepped.2 stepped.1;
       sound = c.in_ok-used.ensures.sound;
     }
