@@ -85,10 +85,13 @@ due_of s t x q o none = subst (λ (b : Bool). chosen b ≡ []) both now
 
 done_now : Counts → (s : Setting) (t : ℕ) (x : Sent) (q : Past) → Lawful s q → is_unlink x.order ≡ false → Owed s t x q → unlinks_due s (ended q) q ≡ [] → IsDone s x.number q
 done_now counts s t x q h plain o none =
-    omega (arith, ap (λ (l : List up.Message). unlinks.unlinks_of x.number l) (written_same s q)
-    ∙ counts.one s.first (crossings s q) x.number (lawful_crossings s q h)
-    (subst (λ (l : List Awaited). is_named x.number l ≡ true) (same_outstanding s q h)
-    (same_named s x.number (outstanding q) ∙ named_all (awaits t q) (outstanding q) x (due_of s t x q o none) o.waits plain)))
+    omega (
+      arith,
+      ap (λ (l : List up.Message). unlinks.unlinks_of x.number l) (written_same s q)
+          ∙ counts.one s.first (crossings s q) x.number (lawful_crossings s q h)
+          (subst (λ (l : List Awaited). is_named x.number l ≡ true) (same_outstanding s q h)
+          (same_named s x.number (outstanding q) ∙ named_all (awaits t q) (outstanding q) x (due_of s t x q o none) o.waits plain)),
+    )
 
 -- what was written stays
 pub more_unlinks : (n : ℕ) (ms : List up.Message) (m : up.Message) → unlinks.unlinks_of n ms ≤ unlinks.unlinks_of n (ms ++ m ∷ [])

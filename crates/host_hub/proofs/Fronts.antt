@@ -442,18 +442,21 @@ took_submit goes s past head bytes h runs f may good = by (f.out runs)
           the_need need k = let e : Some o.need ≡ Some need = sym o.now ∙ k in some_same o.need need e
 
     passed : (o : Out past) → is_recovery y.owner ≡ false → Fronts (took past head bytes)
-    passed o other = record { front = same_front (quiet other); out = λ e. inr (record {
-      sent = o.sent;
-      only = recoverers_others head.seqnum (outstanding past) ∙ rw o.only (not_here 0 head.seqnum o.sent elsewhere);
-      alone = busy_others head.seqnum (outstanding past) ∙ rw o.alone (not_here 0 head.seqnum o.sent elsewhere);
-      submit = o.submit;
-      is = o.is;
-      need = o.need;
-      now = o.now;
-      letter = o.letter;
-      of = o.of;
-      begins = subst (λ (ls : List Letter). Begins (words_of o.need) (ls ++ o.letter ∷ [])) (sym (quiet other)) o.begins;
-    }) } where
+    passed o other = record {
+      front = same_front (quiet other);
+      out = λ e. inr (record {
+        sent = o.sent;
+        only = recoverers_others head.seqnum (outstanding past) ∙ rw o.only (not_here 0 head.seqnum o.sent elsewhere);
+        alone = busy_others head.seqnum (outstanding past) ∙ rw o.alone (not_here 0 head.seqnum o.sent elsewhere);
+        submit = o.submit;
+        is = o.is;
+        need = o.need;
+        now = o.now;
+        letter = o.letter;
+        of = o.of;
+        begins = subst (λ (ls : List Letter). Begins (words_of o.need) (ls ++ o.letter ∷ [])) (sym (quiet other)) o.begins;
+      });
+    } where
       sent_in : IsIn o.sent (outstanding past)
       sent_in = from_busy o.sent (outstanding past) (subst (λ (l : List Sent). IsIn o.sent l) (sym o.alone) (inl refl))
 

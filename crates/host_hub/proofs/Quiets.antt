@@ -216,4 +216,3 @@ more s past t order e = rw e (some _ _)
 
 pub listens_wrote : (s : Setting) (past : Past) (t : ℕ) (order : Order) → is_begun t (wrote s past t order) ≡ true
 listens_wrote s past t order = or_left _ _ (own t)
-

@@ -292,12 +292,15 @@ pub packet_settles : (s : Setting) (past : Past) (t : ℕ) (x : Sent) (o : Outco
 packet_settles s past t x o head bytes kept running e made none unlinked = record {
   lawful = (
     (kept.lawful, (record { running = running; quiet = kept.quiet }, e.may, e.good)),
-    (first_has t (live past) e.turn, record {
-      caused = first_decides (cause s t past) (made_at s t past (Took (down.RetSubmit head bytes)))
-          (or_else (ends_as (ended_by (Took (down.RetSubmit head bytes)) None)) (stops t (took past head bytes))) o
-          (kept.quiet.settled t (first_has t (live past) e.turn)) made;
-      order = λ u few lives. packet_none s past t u x head bytes kept e lives (λ h. omega (arith, h, few));
-    }),
+    (
+      first_has t (live past) e.turn,
+      record {
+        caused = first_decides (cause s t past) (made_at s t past (Took (down.RetSubmit head bytes)))
+            (or_else (ends_as (ended_by (Took (down.RetSubmit head bytes)) None)) (stops t (took past head bytes))) o
+            (kept.quiet.settled t (first_has t (live past) e.turn)) made;
+        order = λ u few lives. packet_none s past t u x head bytes kept e lives (λ h. omega (arith, h, few));
+      },
+    ),
   );
   works = record { running = running; free = none; settled = settled };
   unlinked = unlinked;

@@ -142,11 +142,14 @@ now_due s t ks past running hand due = rw running (rw hand due)
 
 unlink_step : (s : Setting) (t k : ℕ) (ks : List ℕ) (past : Past) → Unlinking s t (k ∷ ks) past → Unlinking s t ks (wrote s past t (Unlink k))
 unlink_step s t k ks past h = record {
-  lawful = (h.lawful, (
-    record { running = h.running; free = h.going; settled = h.settled },
-    unlink_may s past k ks h.lawful (now_due s t (k ∷ ks) past h.running h.hand h.due) (omega (arith, h.place)),
-    (h.hand, ks, now_due s t (k ∷ ks) past h.running h.hand h.due),
-  ));
+  lawful = (
+    h.lawful,
+    (
+      record { running = h.running; free = h.going; settled = h.settled },
+      unlink_may s past k ks h.lawful (now_due s t (k ∷ ks) past h.running h.hand h.due) (omega (arith, h.place)),
+      (h.hand, ks, now_due s t (k ∷ ks) past h.running h.hand h.due),
+    ),
+  );
   running = h.running;
   going = h.going;
   hand = refl;
@@ -324,11 +327,14 @@ first_stops a b c d x e f g h = rw e (rw f (rw g h))
 pub stops_lawful : (s : Setting) (past : Past) (t : ℕ) (m : down.Message) (o : Outcome) → Kept s past → ended past ≡ None → StopsAt s past t m o → Lawful s (Settled t o ∷ Took m ∷ past)
 stops_lawful s past t m o kept running e = (
   (kept.lawful, (record { running = running; quiet = kept.quiet }, e.may, e.good)),
-  (lives, record {
-    caused = first_stops (cause s t past) (made_at s t past (Took m)) None (stops t (Took m ∷ past)) o (kept.quiet.settled t lives) (e.unmade t lives) refl
-        (rw e.none_left e.stop);
-    order = λ u few h. others u h (λ k. omega (arith, k, few));
-  }),
+  (
+    lives,
+    record {
+      caused = first_stops (cause s t past) (made_at s t past (Took m)) None (stops t (Took m ∷ past)) o (kept.quiet.settled t lives) (e.unmade t lives) refl
+          (rw e.none_left e.stop);
+      order = λ u few h. others u h (λ k. omega (arith, k, few));
+    },
+  ),
 )
   where
     lives : has t (live past) ≡ true

@@ -246,7 +246,7 @@ shut_within a n (piece ∷ earlier) h = step (is_some piece.over)
 opened_within : (a : Asking) (n : ℕ) (order : Order) (ps : List Piece) → IsWithin a ps → ((k size : ℕ) → order ≡ Request k size → AsksLeft a ps size) → IsWithin a (opened n order ps)
 opened_within a n (Request k size) ps h left =
     let l = left k size refl in
-    ((omega (arith, l.left, fits_within a.limit ps h.0), omega (arith, take_none (TransferSize []) ), h.0), l.ask)
+    ((omega (arith, l.left, fits_within a.limit ps h.0), omega (arith, take_none (TransferSize [])), h.0), l.ask)
 opened_within a n Read [] h left = h
 opened_within a n Read (piece ∷ earlier) h left = h
 opened_within a n (Part tag text eom) ps h left = h
@@ -262,8 +262,11 @@ read_by_within a head bytes (piece ∷ earlier) h fine = step (does_count head.s
   where
     step : (b : Bool) → does_count head.seqnum piece ≡ b → IsWithin a ((if b then extended head bytes piece else piece) ∷ earlier)
     step true e = (
-      (subst (λ (n : ℕ). length (data_in earlier) + n ≤ a.limit) (sym (same_size head bytes piece)) h.0.0,
-      subst (λ (n : ℕ). length (data_of (extended head bytes piece).bytes) ≤ n) (sym (same_size head bytes piece)) (read_within head bytes piece earlier fine e), h.0.2),
+      (
+        subst (λ (n : ℕ). length (data_in earlier) + n ≤ a.limit) (sym (same_size head bytes piece)) h.0.0,
+        subst (λ (n : ℕ). length (data_of (extended head bytes piece).bytes) ≤ n) (sym (same_size head bytes piece)) (read_within head bytes piece earlier fine e),
+        h.0.2,
+      ),
       h.1,
     )
     step false e = h

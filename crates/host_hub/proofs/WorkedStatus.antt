@@ -30,8 +30,8 @@ tell1_kept = asks start 1 (telling 0 enabling) (Part 1 enabling true) refl refl 
 told_kept : Kept setting told
 told_kept =
     idles (settles tell1_kept (head 1 28) []
-        (record { running = refl; turn = refl; found = refl; plain = refl; submits = refl; within = lit≤ tt; returned = refl; good = refl; free = refl })
-        outcome.Done refl)
+    (record { running = refl; turn = refl; found = refl; plain = refl; submits = refl; within = lit≤ tt; returned = refl; good = refl; free = refl })
+    outcome.Done refl)
     refl (refl, refl)
 
 -- it begins: both its submits are written
@@ -106,6 +106,6 @@ notified_kept =
 pub status_kept : Kept setting status_record
 status_kept =
     idles (settles notified_kept (head 3 3) (1 ∷ 2 ∷ 0x50 ∷ [])
-        (record { running = refl; turn = refl; found = refl; plain = refl; submits = refl; within = lit≤ tt; returned = refl; good = refl; free = refl })
-        (outcome.Status 0x50) refl)
+    (record { running = refl; turn = refl; found = refl; plain = refl; submits = refl; within = lit≤ tt; returned = refl; good = refl; free = refl })
+    (outcome.Status 0x50) refl)
     refl (refl, refl)

@@ -72,14 +72,14 @@ outrun = Settled 1 outcome.Complete ∷ took (unlinking complete_query) (head 3 
 outrun_kept : Kept setting outrun
 outrun_kept =
     idle_kept setting outrun (settles race_unlinking (head 3 16) (complete_text 2 0xfd)
-        (record { running = refl; turn = refl; found = refl; plain = refl; submits = refl; within = lit≤ tt; returned = refl; good = refl; free = refl })
-        outcome.Complete refl)
+    (record { running = refl; turn = refl; found = refl; plain = refl; submits = refl; within = lit≤ tt; returned = refl; good = refl; free = refl })
+    outcome.Complete refl)
     refl (λ e. absurd (some e))
 
 pub race_kept : Kept setting race_record
 race_kept =
     idles (unlink_answered setting outrun (unlink_head 4 success) outrun_kept refl refl
-        (unlink_answer setting outrun (unlink_sent 4 3) (unlink_head 4 success) outrun_kept.lawful refl refl) refl refl)
+    (unlink_answer setting outrun (unlink_sent 4 3) (unlink_head 4 success) outrun_kept.lawful refl refl) refl refl)
     refl (refl, refl)
 
 -- or it does not, and the response is aborted
@@ -116,7 +116,7 @@ cancel_draining = recovers_with setting (took cancel_aborting (head 5 2) (1 ∷ 
 cancel_draining_kept : Kept setting cancel_draining
 cancel_draining_kept =
     recovers (hears cancel_aborting_kept (head 5 2) (1 ∷ 2 ∷ [])
-        (record { running = refl; hand = refl; found = refl; alone = refl; plain = refl; submits = refl; within = lit≤ tt; returned = refl; good = refl; free = refl }))
+    (record { running = refl; hand = refl; found = refl; alone = refl; plain = refl; submits = refl; within = lit≤ tt; returned = refl; good = refl; free = refl }))
     letter.Read refl refl (record { letter = Drained Short; is = refl; begins = (Asked class.CheckIn Success ∷ [], in_word); halt = tt }) (lit≤ tt) (lit≤ tt)
 
 abbrev cancel_checking : Past
@@ -125,13 +125,13 @@ cancel_checking = recovers_with setting (took cancel_draining (head 6 0) []) (Cl
 cancel_checking_kept : Kept setting cancel_checking
 cancel_checking_kept =
     recovers (hears cancel_draining_kept (head 6 0) []
-        (record { running = refl; hand = refl; found = refl; alone = refl; plain = refl; submits = refl; within = lit≤ tt; returned = refl; good = refl; free = refl }))
+    (record { running = refl; hand = refl; found = refl; alone = refl; plain = refl; submits = refl; within = lit≤ tt; returned = refl; good = refl; free = refl }))
     (letter.Ask class.CheckIn) refl refl (record { letter = Asked class.CheckIn Success; is = refl; begins = ([], in_word); halt = tt }) (lit≤ tt) (lit≤ tt)
 
 cancel_recovered : Kept setting (recovered complete_query)
 cancel_recovered =
     idles (hears cancel_checking_kept (head 7 8) (1 ∷ 0 ∷ 0 ∷ 0 ∷ 2 ∷ 0 ∷ 0 ∷ 0 ∷ [])
-        (record { running = refl; hand = refl; found = refl; alone = refl; plain = refl; submits = refl; within = lit≤ tt; returned = refl; good = refl; free = refl }))
+    (record { running = refl; hand = refl; found = refl; alone = refl; plain = refl; submits = refl; within = lit≤ tt; returned = refl; good = refl; free = refl }))
     refl (in_word, refl)
 
 pub cancel_record_kept : Kept setting cancel_record
@@ -192,7 +192,7 @@ command_draining = recovers_with setting (took command_aborting (head 5 2) (1 �
 command_draining_kept : Kept setting command_draining
 command_draining_kept =
     recovers (hears command_aborting_kept (head 5 2) (1 ∷ 2 ∷ [])
-        (record { running = refl; hand = refl; found = refl; alone = refl; plain = refl; submits = refl; within = lit≤ tt; returned = refl; good = refl; free = refl }))
+    (record { running = refl; hand = refl; found = refl; alone = refl; plain = refl; submits = refl; within = lit≤ tt; returned = refl; good = refl; free = refl }))
     letter.Read refl refl (record { letter = Drained Short; is = refl; begins = (Asked class.CheckIn Success ∷ [], in_word); halt = tt }) (lit≤ tt) (lit≤ tt)
 
 abbrev command_checking : Past
@@ -201,13 +201,13 @@ command_checking = recovers_with setting (took command_draining (head 6 0) []) (
 command_checking_kept : Kept setting command_checking
 command_checking_kept =
     recovers (hears command_draining_kept (head 6 0) []
-        (record { running = refl; hand = refl; found = refl; alone = refl; plain = refl; submits = refl; within = lit≤ tt; returned = refl; good = refl; free = refl }))
+    (record { running = refl; hand = refl; found = refl; alone = refl; plain = refl; submits = refl; within = lit≤ tt; returned = refl; good = refl; free = refl }))
     (letter.Ask class.CheckIn) refl refl (record { letter = Asked class.CheckIn Success; is = refl; begins = ([], in_word); halt = tt }) (lit≤ tt) (lit≤ tt)
 
 command_recovered : Kept setting (recovered command)
 command_recovered =
     idles (hears command_checking_kept (head 7 8) (1 ∷ 0 ∷ 0 ∷ 0 ∷ 2 ∷ 0 ∷ 0 ∷ 0 ∷ [])
-        (record { running = refl; hand = refl; found = refl; alone = refl; plain = refl; submits = refl; within = lit≤ tt; returned = refl; good = refl; free = refl }))
+    (record { running = refl; hand = refl; found = refl; alone = refl; plain = refl; submits = refl; within = lit≤ tt; returned = refl; good = refl; free = refl }))
     refl (in_word, refl)
 
 abbrev events_asking : Asking
@@ -291,7 +291,7 @@ out_checking = recovers_with setting (took out_aborting (head 3 2) (1 ∷ 1 ∷ 
 out_checking_kept : Kept setting out_checking
 out_checking_kept =
     recovers (hears out_aborting_kept (head 3 2) (1 ∷ 1 ∷ [])
-        (record { running = refl; hand = refl; found = refl; alone = refl; plain = refl; submits = refl; within = lit≤ tt; returned = refl; good = refl; free = refl }))
+    (record { running = refl; hand = refl; found = refl; alone = refl; plain = refl; submits = refl; within = lit≤ tt; returned = refl; good = refl; free = refl }))
     (letter.Ask class.CheckOut) refl refl (record { letter = Asked class.CheckOut Success; is = refl; begins = (Cleared BulkOut ∷ [], out_word); halt = tt }) (lit≤ tt) (lit≤ tt)
 
 abbrev checked : List ℕ
@@ -303,7 +303,7 @@ out_clearing = recovers_with setting (took out_checking (head 4 8) checked) (Cle
 out_clearing_kept : Kept setting out_clearing
 out_clearing_kept =
     recovers (hears out_checking_kept (head 4 8) checked
-        (record { running = refl; hand = refl; found = refl; alone = refl; plain = refl; submits = refl; within = lit≤ tt; returned = refl; good = refl; free = refl }))
+    (record { running = refl; hand = refl; found = refl; alone = refl; plain = refl; submits = refl; within = lit≤ tt; returned = refl; good = refl; free = refl }))
     (letter.Clear BulkOut) refl refl (record { letter = Cleared BulkOut; is = refl; begins = ([], out_word); halt = refl }) (lit≤ tt) (lit≤ tt)
 
 abbrev out_recovered : Past
@@ -312,7 +312,7 @@ out_recovered = took out_clearing (head 5 0) []
 out_recovered_kept : Kept setting out_recovered
 out_recovered_kept =
     idles (hears out_clearing_kept (head 5 0) []
-        (record { running = refl; hand = refl; found = refl; alone = refl; plain = refl; submits = refl; within = lit≤ tt; returned = refl; good = refl; free = refl }))
+    (record { running = refl; hand = refl; found = refl; alone = refl; plain = refl; submits = refl; within = lit≤ tt; returned = refl; good = refl; free = refl }))
     refl (out_word, refl)
 
 abbrev next_asking : Asking
@@ -424,7 +424,7 @@ split_clearing = recovers_with setting (took split_aborting (head 4 2) (0x80 ∷
 split_clearing_kept : Kept setting split_clearing
 split_clearing_kept =
     recovers (hears split_aborting_kept (head 4 2) (0x80 ∷ 0 ∷ [])
-        (record { running = refl; hand = refl; found = refl; alone = refl; plain = refl; submits = refl; within = lit≤ tt; returned = refl; good = refl; free = refl }))
+    (record { running = refl; hand = refl; found = refl; alone = refl; plain = refl; submits = refl; within = lit≤ tt; returned = refl; good = refl; free = refl }))
     (letter.Ask class.Clear) refl refl (record { letter = Asked class.Clear Success; is = refl; begins = (Asked class.CheckClear Success ∷ Cleared BulkOut ∷ [], split_word); halt = tt }) (lit≤ tt) (lit≤ tt)
 
 abbrev split_checking : Past
@@ -433,7 +433,7 @@ split_checking = recovers_with setting (took split_clearing (head 5 1) (1 ∷ []
 split_checking_kept : Kept setting split_checking
 split_checking_kept =
     recovers (hears split_clearing_kept (head 5 1) (1 ∷ [])
-        (record { running = refl; hand = refl; found = refl; alone = refl; plain = refl; submits = refl; within = lit≤ tt; returned = refl; good = refl; free = refl }))
+    (record { running = refl; hand = refl; found = refl; alone = refl; plain = refl; submits = refl; within = lit≤ tt; returned = refl; good = refl; free = refl }))
     (letter.Ask class.CheckClear) refl refl (record { letter = Asked class.CheckClear Success; is = refl; begins = (Cleared BulkOut ∷ [], split_word); halt = tt }) (lit≤ tt) (lit≤ tt)
 
 abbrev split_halts : Past
@@ -442,7 +442,7 @@ split_halts = recovers_with setting (took split_checking (head 6 2) (1 ∷ 0 ∷
 split_halts_kept : Kept setting split_halts
 split_halts_kept =
     recovers (hears split_checking_kept (head 6 2) (1 ∷ 0 ∷ [])
-        (record { running = refl; hand = refl; found = refl; alone = refl; plain = refl; submits = refl; within = lit≤ tt; returned = refl; good = refl; free = refl }))
+    (record { running = refl; hand = refl; found = refl; alone = refl; plain = refl; submits = refl; within = lit≤ tt; returned = refl; good = refl; free = refl }))
     (letter.Clear BulkOut) refl refl (record { letter = Cleared BulkOut; is = refl; begins = ([], split_word); halt = refl }) (lit≤ tt) (lit≤ tt)
 
 abbrev split_recovered : Past
@@ -451,7 +451,7 @@ split_recovered = took split_halts (head 7 0) []
 split_recovered_kept : Kept setting split_recovered
 split_recovered_kept =
     idles (hears split_halts_kept (head 7 0) []
-        (record { running = refl; hand = refl; found = refl; alone = refl; plain = refl; submits = refl; within = lit≤ tt; returned = refl; good = refl; free = refl }))
+    (record { running = refl; hand = refl; found = refl; alone = refl; plain = refl; submits = refl; within = lit≤ tt; returned = refl; good = refl; free = refl }))
     refl (split_word, refl)
 
 abbrev last_asking : Asking
