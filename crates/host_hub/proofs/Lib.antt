@@ -29,3 +29,4 @@ pub mod Views
 pub mod Exact
 pub mod Numbered
 pub mod Determined
+pub mod Own

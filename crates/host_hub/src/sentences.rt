@@ -8,11 +8,11 @@ ghost use Rattle.host_hub.specs.Outstanding.{Sent};
 ghost use Rattle.host_hub.specs.Status.{awaits};
 ghost use Rattle.host_urbs.specs.Unanswered.{AreInARow};
 ghost use Rattle.host_urbs.specs.Unlinks.{unlinks_of};
-ghost use Rattle.host_hub.specs.Record.{Asking, Cancelled, Cleared, Happening, Past, next, written};
+ghost use Rattle.host_hub.specs.Record.{Asking, Cancelled, Cleared, Happening, Of, Past, next, written};
 ghost use Rattle.host_urbs.specs.declared.limits.TheConstants.{LAST_SUBMIT};
 ghost use Rattle.usbip_wire.specs.declared.dirs.TheConstants.{DIRS_MAX};
 ghost use Rattle.host_hub.specs.Book.{active, asking_of, settled};
-ghost use Rattle.host_hub.specs.Sentences.{IsAmong, IsItsOwn, MaySettleAs};
+ghost use Rattle.host_hub.specs.Sentences.{IsAmong, IsItsOwn, IsNumberedFor, MaySettleAs, wrote_at};
 ghost use Rattle.host_hub.specs.declared.outcome.Outcome.{Outcome};
 ghost use Rattle.host_recover.specs.declared.need.Need.{Need};
 ghost use Rattle.host_recover.specs.Words.{Begins, words_of};
@@ -24,7 +24,8 @@ ghost use Rattle.host_hub.specs.Pieces.{got};
 ghost use Rattle.host_hub.specs.Plan.{message_end};
 
 use host_recover::{
-    a_whole_word_ends, each_answer_goes_on, each_recovery_has_a_word, the_next_submit_is_one,
+    a_whole_word_ends, each_answer_goes_on, each_recovery_has_a_word,
+    the_next_submit_is_determined, the_next_submit_is_one,
 };
 use host_urbs::{each_submit_is_unlinked_once, numbers_are_in_a_row};
 
@@ -59,6 +60,18 @@ pub fn tickets_begin_in_order()
     ensures begun { (setting : Setting) (past : Past) (ticket : ℕ) → Lawful setting past → 1 ≤ setting.first → is_begun ticket past ≡ true → start ticket past ≢ 0 }
     ensures started { (past : Past) (ticket : ℕ) → start ticket past ≢ 0 → is_begun ticket past ≡ true }
 {}
+
+/// Which submits are a ticket's, by their numbers: those from its start up to the next greater start or the next INITIATE.
+pub fn submits_go_by_number()
+    ensures own { (setting : Setting) (past : Past) (ticket number : ℕ) (sent : Sent) → Lawful setting past → wrote_at number past ≡ Some sent
+        → is_unlink sent.order ≡ false → sent.owner ≡ Of ticket → IsNumberedFor past ticket number }
+    ensures alone { (setting : Setting) (past : Past) (ticket number : ℕ) (sent : Sent) → Lawful setting past → wrote_at number past ≡ Some sent
+        → is_unlink sent.order ≡ false → is_begun ticket past ≡ true → IsNumberedFor past ticket number → sent.owner ≡ Of ticket }
+{
+    the_next_submit_is_determined();
+    each_answer_goes_on();
+    each_recovery_has_a_word();
+}
 
 /// The view of a ticket that is settled never changes: what it asked for, its bytes, the number that ends its message, and its
 /// outcome.
