@@ -30,3 +30,4 @@ pub mod Exact
 pub mod Numbered
 pub mod Determined
 pub mod Own
+pub mod Polls

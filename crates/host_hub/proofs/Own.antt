@@ -53,10 +53,10 @@ wrote_low s (Wrote m o k ∷ past) h n x e = step (m == n) refl e (wrote_low s p
 wrote_low s (y ∷ past) h n x e = wrote_low s past h.0 n x e
 
 -- a message was written now, or before
-abbrev Now : ℕ → Owner → Order → ℕ → Sent → Past → Type 0
+abbrev pub Now : ℕ → Owner → Order → ℕ → Sent → Past → Type 0
 Now m o k n x past = ((m ≡ n) × (x ≡ record { number = m; owner = o; order = k })) ⊎ (wrote_at n past ≡ Some x)
 
-now : (m : ℕ) (o : Owner) (k : Order) (n : ℕ) (x : Sent) (past : Past) → wrote_at n (Wrote m o k ∷ past) ≡ Some x → Now m o k n x past
+pub now : (m : ℕ) (o : Owner) (k : Order) (n : ℕ) (x : Sent) (past : Past) → wrote_at n (Wrote m o k ∷ past) ≡ Some x → Now m o k n x past
 now m o k n x past e = step (m == n) refl e
   where
     step : (b : Bool) → (m == n) ≡ b → (if b then Some (record { number = m; owner = o; order = k }) else wrote_at n past) ≡ Some x → Now m o k n x past
@@ -64,7 +64,7 @@ now m o k n x past e = step (m == n) refl e
     step false f g = inr g
 
 -- what was written before is still there
-kept_at : (s : Setting) (past : Past) (m : ℕ) (o : Owner) (k : Order) (n : ℕ) (x : Sent) → Lawful s (Wrote m o k ∷ past) → wrote_at n past ≡ Some x → wrote_at n (Wrote m o k ∷ past) ≡ Some x
+pub kept_at : (s : Setting) (past : Past) (m : ℕ) (o : Owner) (k : Order) (n : ℕ) (x : Sent) → Lawful s (Wrote m o k ∷ past) → wrote_at n past ≡ Some x → wrote_at n (Wrote m o k ∷ past) ≡ Some x
 kept_at s past m o k n x h e =
     let low : n < next s.first past = wrote_low s past h.0 n x e in
     let is : m ≡ next s.first past = may_next s past m k h.1.1 in
@@ -290,7 +290,7 @@ owner_is m v n t k x g of = by (sym (ap (λ (z : Sent). z.owner) g) ∙ of)
     by : Of v ≡ Of t → v ≡ t
     by e = cc
 
-order_is : (m : ℕ) (o : Owner) (k : Order) (x : Sent) → x ≡ record { number = m; owner = o; order = k } → x.order ≡ k
+pub order_is : (m : ℕ) (o : Owner) (k : Order) (x : Sent) → x ≡ record { number = m; owner = o; order = k } → x.order ≡ k
 order_is m o k x g = ap (λ (z : Sent). z.order) g
 
 -- its start is at most its number

@@ -13,7 +13,7 @@ use Rattle.host_hub.specs.Outstanding.{Sent}
 use Rattle.host_hub.specs.Ends.{end_due}
 
 -- it is one of these
-abbrev pub IsAmong : Sent → List Sent → Type 0
+abbrev pub IsAmong : {A : Type 0} → A → List A → Type 0
 IsAmong x [] = ⊥
 IsAmong x (y ∷ ys) = (x ≡ y) ⊎ IsAmong x ys
 

@@ -41,7 +41,7 @@ pub use refusals::{AskFault, ClearFault};
 pub use sentences::{
     bytes_keep_the_limit, each_submit_is_unlinked, hubs_are_determined, messages_are_in_a_row,
     numbers_suffice, outcomes_go_by_kind, recoveries_begin_their_words, settled_views_stay,
-    submits_go_by_number, tickets_begin_in_order,
+    status_reads_have_their_request, submits_go_by_number, tickets_begin_in_order,
 };
 pub use service::Service;
 pub use steps::{
