@@ -1,7 +1,6 @@
 -- a ticket in hand that had no trouble calls for no recovery
-use Rattle.std.proofs.Common.{◌≡◌, ◌≢◌, ℕ, pos, ◌||◌, ◌&&◌, not, Bool, true, false, List, [], ◌∷◌, ◌++◌, Option, Some, None, refl, sym, subst, ◌∙◌, ap}
-use Rattle.std.specs.Prelude.{◌==◌, is_some, if◌then◌else◌}
-use Rattle.std.specs.Ordering.{int_eq}
+use Rattle.std.proofs.Common.{◌≡◌, ℕ, pos, ◌||◌, Bool, true, false, List, [], ◌∷◌, ◌++◌, Option, Some, None, refl, sym, subst, ◌∙◌, ap}
+use Rattle.std.specs.Prelude.{◌==◌, if◌then◌else◌}
 use Rattle.usbip_wire.specs.declared.ret_submit.RetSubmitHead.{RetSubmitHead}
 use Rattle.usbip_wire.specs.declared.ret_unlink.RetUnlinkHead.{RetUnlinkHead}
 use Rattle.usbip_wire.specs.Down as down
@@ -11,16 +10,16 @@ use Rattle.host_recover.specs.declared.need.Need.{Need}
 use Rattle.host_recover.specs.declared.need.Need.TheVariants as need
 use Rattle.host_recover.specs.Letter.{Letter}
 use Rattle.host_hub.specs.declared.outcome.Outcome.{Outcome}
-use Rattle.host_hub.specs.Order.{Setting, Order, Part, Request, Trigger, Read, Listen, Class, ClearHalt, Unlink, is_listen, is_bulk, is_unlink}
-use Rattle.host_hub.specs.Record.{Asking, Happening, Past, Wrote, Took, Fell, Asked, Settled, Of, Owner, Recovery, next}
-use Rattle.host_hub.specs.Book.{active, is_active, asking_of, tickets}
+use Rattle.host_hub.specs.Order.{Setting, Order, Class, Unlink, is_listen, is_bulk, is_unlink}
+use Rattle.host_hub.specs.Record.{Asking, Past, Wrote, Took, Settled, Of}
+use Rattle.host_hub.specs.Book.{active, is_active, asking_of}
 use Rattle.host_hub.specs.Hand.{in_hand, is_begun, is_of}
 use Rattle.host_hub.specs.Outstanding.{Sent, find, lost_with, outstanding, involved}
-use Rattle.host_hub.specs.Pieces.{Piece, pieces}
-use Rattle.host_hub.specs.Status.{concerns, listens, is_status}
+use Rattle.host_hub.specs.Pieces.{pieces}
+use Rattle.host_hub.specs.Status.{is_status}
 use Rattle.host_hub.specs.Letters.{letters, letter_in, is_ticket_submit}
-use Rattle.host_hub.specs.Needs.{Over, over_of, overs, answered, taken_away, back, is_split, split_at, any_faulty, owed, need_of, needs, only, out_needs, in_needs, fault_needs, Back}
-use Rattle.host_hub.specs.Recovery.{AreRecovered, IsWholeFor, is_called, is_served, running, serves, wanted}
+use Rattle.host_hub.specs.Needs.{Over, over_of, overs, answered, taken_away, back, is_split, split_at, any_faulty, owed, need_of, only, out_needs, in_needs, fault_needs, Back}
+use Rattle.host_hub.specs.Recovery.{AreRecovered, IsWholeFor, is_called, is_served, serves, wanted}
 use Rattle.host_hub.specs.Steps.{Comes, IsClean, asked, took, wrote}
 use Rattle.host_hub.proofs.Lists.{clash, own, and_false, neither}
 use Rattle.host_hub.proofs.Pasts.{unbegun_free}

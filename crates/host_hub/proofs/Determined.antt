@@ -1,23 +1,20 @@
 -- at each moment the laws allow one happening of the hub's own
-use Rattle.std.proofs.Common.{◌≡◌, ◌≢◌, ◌⊎◌, ℕ, ◌+◌, ◌<◌, ◌≤◌, ◌&&◌, not, Bool, true, false, List, [], ◌∷◌, ◌++◌, Option, Some, None, inl, inr, refl, sym, subst, ◌∙◌, ap, arith}
-use Rattle.std.specs.Prelude.{◌==◌, is_some, nat_lt, if◌then◌else◌}
+use Rattle.std.proofs.Common.{◌≡◌, ◌⊎◌, ℕ, ◌<◌, ◌≤◌, Bool, true, false, List, [], ◌∷◌, ◌++◌, Option, Some, None, inl, inr, refl, sym, subst, ◌∙◌, ap, arith}
+use Rattle.std.specs.Prelude.{is_some, nat_lt}
 use Rattle.std.specs.Bool.{MatchBool}
 use Rattle.std.proofs.lemmas.Bool.{ltb-true, ltb-false}
 use Rattle.host_recover.specs.declared.need.Need.{Need}
 use Rattle.host_recover.specs.Letter.{Letter, Submit}
-use Rattle.host_recover.specs.Letter as letter
 use Rattle.host_recover.specs.Next.{IsNext}
 use Rattle.host_recover.specs.Words.{Begins, Has, words_of}
 use Rattle.host_urbs.specs.declared.limits.TheConstants.{LAST_SUBMIT}
-use Rattle.host_urbs.specs.Law.{MayWrite}
 use Rattle.host_hub.specs.declared.outcome.End.{End}
 use Rattle.host_hub.specs.declared.outcome.End.TheVariants as end
 use Rattle.host_hub.specs.declared.outcome.Outcome.{Outcome}
-use Rattle.host_hub.specs.Order.{Class, ClearHalt, Listen, Order, Part, Read, Request, Setting, Trigger, Unlink, is_unlink, message_of}
+use Rattle.host_hub.specs.Order.{Class, ClearHalt, Listen, Order, Part, Read, Request, Setting, Trigger, Unlink, is_unlink}
 use Rattle.host_hub.specs.Record.{Asked, Cancelled, Cleared, Fell, GaveUp, Happening, Of, Owner, Past, Recovers, Recovery, Settled, Stopped, Took, Wrote, next}
-use Rattle.host_hub.specs.Crossings.{crossings}
-use Rattle.host_hub.specs.Book.{active, asking_of, has, live}
-use Rattle.host_hub.specs.Hand.{ended, in_hand, is_begun}
+use Rattle.host_hub.specs.Book.{asking_of, has, live}
+use Rattle.host_hub.specs.Hand.{ended, in_hand}
 use Rattle.host_hub.specs.Outstanding.{busy, outstanding}
 use Rattle.host_hub.specs.Pieces.{pieces}
 use Rattle.host_hub.specs.Status.{awaits}
@@ -25,7 +22,7 @@ use Rattle.host_hub.specs.Causes.{AreSettled, SettleLaw, cause}
 use Rattle.host_hub.specs.Unlinks.{unlinks_due}
 use Rattle.host_hub.specs.Plan.{When, planned}
 use Rattle.host_hub.specs.Letters.{letters, order_of}
-use Rattle.host_hub.specs.Recovery.{IsWhole, IsWholeFor, MayCome, MayComeFor, in_halted, notify_halted, running, wanted}
+use Rattle.host_hub.specs.Recovery.{IsWhole, IsWholeFor, MayComeFor, in_halted, notify_halted, running}
 use Rattle.host_hub.specs.Ends.{end_due}
 use Rattle.host_hub.specs.Law as law
 use Rattle.host_hub.specs.Law.{Allowed, ByBytes, ByClosing, ByFault, ByItself, ByNumbers, IsDue, IsHandOver, Lawful, MayRecover, Planned, Quiet, Recovering, StopLaw, Works, WriteLaw, Kept}

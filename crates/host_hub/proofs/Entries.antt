@@ -1,19 +1,19 @@
 -- what may be written and what may come, by what is outstanding at a hub
-use Rattle.std.proofs.Common.{◌≡◌, ◌≢◌, ◌⊎◌, ℕ, ◌+◌, ◌<◌, ◌≤◌, ◌||◌, ◌&&◌, not, Bool, true, false, List, [], ◌∷◌, ◌++◌, length, Option, Some, None, inl, inr, refl, sym, subst, ◌∙◌, ap, arith}
+use Rattle.std.proofs.Common.{◌≡◌, ◌⊎◌, ℕ, ◌<◌, ◌≤◌, ◌||◌, ◌&&◌, not, Bool, true, false, List, [], ◌∷◌, ◌++◌, length, Option, Some, None, inl, inr, refl, sym, subst, ◌∙◌, ap, arith}
 use Rattle.std.specs.Prelude.{◌==◌, is_some, if◌then◌else◌}
-use Rattle.std.proofs.lemmas.Bool.{eqb-true, eqb-false}
+use Rattle.std.proofs.lemmas.Bool.{eqb-true}
 use Rattle.usbip_wire.specs.Awaited as wire
 use Rattle.usbip_wire.specs.Awaited.{Awaited, entry_of, entries_of, sent_by}
 use Rattle.usbip_wire.specs.Down as down
 use Rattle.usbip_wire.specs.Dirs as dirs
-use Rattle.usbip_wire.specs.RetSubmit.{Asked, Returns}
+use Rattle.usbip_wire.specs.RetSubmit.{Returns}
 use Rattle.usbip_wire.specs.declared.dirs.Outstanding.{Outstanding}
 use Rattle.usbip_wire.specs.declared.dirs.TheConstants.{DIRS_MAX}
 use Rattle.usbip_wire.specs.declared.ret_submit.RetSubmitHead.{RetSubmitHead}
 use Rattle.usbip_wire.specs.declared.ret_unlink.RetUnlinkHead.{RetUnlinkHead}
 use Rattle.usbip_wire.specs.declared.urb.Dir.{Dir}
 use Rattle.host_urbs.specs.declared.limits.TheConstants.{LAST_SUBMIT}
-use Rattle.host_urbs.specs.Law.{MayWrite, MayTake, is_named}
+use Rattle.host_urbs.specs.Law.{MayTake, is_named}
 use Rattle.host_urbs.specs.Record as urbs
 use Rattle.host_hub.specs.declared.outcome.End.{End}
 use Rattle.host_hub.specs.Order.{Setting, Order, Part, Request, Trigger, Read, Listen, Class, ClearHalt, Unlink, message_of, is_unlink, is_listen, is_bulk, way_of, size_of}

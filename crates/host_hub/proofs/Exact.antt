@@ -1,7 +1,7 @@
 -- each submit that a stopped ticket waits for is unlinked exactly once
-use Rattle.std.proofs.Common.{◌≡◌, ◌≢◌, ◌⊎◌, ℕ, ◌+◌, ◌<◌, ◌≤◌, suc, ◌||◌, ◌&&◌, not, Bool, true, false, List, [], ◌∷◌, ◌++◌, Option, Some, None, inl, inr, refl, sym, subst, ◌∙◌, ap, arith}
+use Rattle.std.proofs.Common.{◌≡◌, ◌⊎◌, ℕ, ◌≤◌, suc, ◌||◌, ◌&&◌, not, Bool, true, false, List, [], ◌∷◌, ◌++◌, Option, Some, None, inl, inr, refl, sym, subst, ◌∙◌, ap, arith}
 use Rattle.std.specs.Prelude.{◌==◌, is_some, if◌then◌else◌}
-use Rattle.std.proofs.lemmas.Bool.{eqb-true, eqb-false}
+use Rattle.std.proofs.lemmas.Bool.{eqb-true}
 use Rattle.usbip_wire.specs.Awaited.{Awaited}
 use Rattle.usbip_wire.specs.Up as up
 use Rattle.host_urbs.specs.Law as urbs_law
@@ -13,18 +13,18 @@ use Rattle.host_hub.specs.declared.outcome.Outcome.{Outcome}
 use Rattle.host_hub.specs.declared.outcome.Outcome.TheVariants as outcome
 use Rattle.host_recover.specs.declared.need.Need.{Need}
 use Rattle.host_hub.specs.Order.{Class, ClearHalt, Listen, Order, Part, Read, Request, Setting, Trigger, Unlink, is_unlink, message_of}
-use Rattle.host_hub.specs.Record.{Asked, Asking, Cancelled, Cleared, Fell, GaveUp, Happening, Of, Owner, Past, Recovers, Recovery, Settled, Stopped, Took, Wrote, next, written}
+use Rattle.host_hub.specs.Record.{Asked, Cancelled, Cleared, Fell, GaveUp, Happening, Of, Owner, Past, Recovers, Recovery, Settled, Stopped, Took, Wrote, next, written}
 use Rattle.host_hub.specs.Crossings.{crossings}
-use Rattle.host_hub.specs.Book.{active, first_of, has, is_live, live, or_else, remove}
+use Rattle.host_hub.specs.Book.{active, has, is_live, live, or_else}
 use Rattle.host_hub.specs.Hand.{ended, in_hand, is_begun}
 use Rattle.host_hub.specs.Outstanding.{Sent, is_unlinked, not_unlinked, outstanding, own_bulk}
 use Rattle.host_hub.specs.Pieces.{pieces}
-use Rattle.host_hub.specs.Status.{awaits, is_status, listens}
+use Rattle.host_hub.specs.Status.{awaits}
 use Rattle.host_hub.specs.Causes.{cause, once_free, reached}
 use Rattle.host_hub.specs.Unlinks.{is_deep, is_over, unlinks_due, unlinks_of}
 use Rattle.host_hub.specs.Ends.{end_due}
 use Rattle.host_hub.specs.Recovery.{MayComeFor, running}
-use Rattle.host_hub.specs.Law.{Allowed, ByBytes, ByClosing, ByFault, ByItself, ByNumbers, IsHandOver, Kept, Lawful, Quiet, Recovering, Runs, StopLaw, WriteLaw}
+use Rattle.host_hub.specs.Law.{ByBytes, ByClosing, ByFault, ByItself, ByNumbers, IsHandOver, Kept, Lawful, Recovering, Runs, StopLaw, WriteLaw}
 use Rattle.host_hub.proofs.Entries.{IsIn, same_named}
 use Rattle.host_hub.proofs.Fronts.{running_over}
 use Rattle.host_hub.proofs.Lawful.{lawful_crossings}
@@ -85,10 +85,13 @@ due_of s t x q o none = subst (λ (b : Bool). chosen b ≡ []) both now
 
 done_now : Counts → (s : Setting) (t : ℕ) (x : Sent) (q : Past) → Lawful s q → is_unlink x.order ≡ false → Owed s t x q → unlinks_due s (ended q) q ≡ [] → IsDone s x.number q
 done_now counts s t x q h plain o none =
-    omega (arith, ap (λ (l : List up.Message). unlinks.unlinks_of x.number l) (written_same s q)
-    ∙ counts.one s.first (crossings s q) x.number (lawful_crossings s q h)
-    (subst (λ (l : List Awaited). is_named x.number l ≡ true) (same_outstanding s q h)
-    (same_named s x.number (outstanding q) ∙ named_all (awaits t q) (outstanding q) x (due_of s t x q o none) o.waits plain)))
+    omega (
+      arith,
+      ap (λ (l : List up.Message). unlinks.unlinks_of x.number l) (written_same s q)
+          ∙ counts.one s.first (crossings s q) x.number (lawful_crossings s q h)
+          (subst (λ (l : List Awaited). is_named x.number l ≡ true) (same_outstanding s q h)
+          (same_named s x.number (outstanding q) ∙ named_all (awaits t q) (outstanding q) x (due_of s t x q o none) o.waits plain)),
+    )
 
 -- what was written stays
 pub more_unlinks : (n : ℕ) (ms : List up.Message) (m : up.Message) → unlinks.unlinks_of n ms ≤ unlinks.unlinks_of n (ms ++ m ∷ [])

@@ -1,8 +1,8 @@
 -- the letters of a recovery begin its word, whatever is answered
-use Rattle.std.proofs.Common.{◌≡◌, ◌≢◌, ◌⊎◌, ℕ, ℤ, pos, ◌+◌, ◌<◌, ◌≤◌, not, Bool, true, false, List, [], ◌∷◌, ◌++◌, ◌&&◌, ◌||◌, Option, Some, None, inl, inr, refl, sym, subst, ◌∙◌, ap, arith}
-use Rattle.std.specs.Prelude.{◌==◌, is_some, slice_index, if◌then◌else◌}
+use Rattle.std.proofs.Common.{◌≡◌, ◌⊎◌, ℕ, pos, ◌+◌, ◌≤◌, Bool, true, false, List, [], ◌∷◌, ◌++◌, ◌&&◌, ◌||◌, Option, Some, None, inl, inr, refl, sym, subst, ◌∙◌, ap, arith}
+use Rattle.std.specs.Prelude.{◌==◌, slice_index, if◌then◌else◌}
 use Rattle.std.specs.Ordering.{int_eq}
-use Rattle.std.proofs.lemmas.Bool.{eqb-true, eqb-false}
+use Rattle.std.proofs.lemmas.Bool.{eqb-true}
 use Rattle.std.proofs.lemmas.List.{append-nil}
 use Rattle.tmc_base.specs.declared.field.Field.{Field}
 use Rattle.usbip_wire.specs.declared.ret_submit.RetSubmitHead.{RetSubmitHead}
@@ -18,13 +18,13 @@ use Rattle.host_hub.specs.declared.outcome.End.{End}
 use Rattle.host_hub.specs.declared.outcome.End.TheVariants as end
 use Rattle.host_hub.specs.Order.{Class, ClearHalt, Listen, Order, Part, Read, Request, Setting, Trigger, Unlink, is_bulk, is_listen, is_unlink}
 use Rattle.host_hub.specs.Record.{Asked, Asking, Cancelled, Cleared, Fell, GaveUp, Happening, Of, Owner, Past, Recovers, Recovery, Settled, Stopped, Took, Wrote, next}
-use Rattle.host_hub.specs.Book.{active, has, is_live, live, remove, tickets}
+use Rattle.host_hub.specs.Book.{has, live, remove, tickets}
 use Rattle.host_hub.specs.Hand.{ended, in_hand, is_begun, is_of}
 use Rattle.host_hub.specs.Outstanding.{Sent, busy, find, less_unlink, others, outstanding, own_bulk, without_named}
-use Rattle.host_hub.specs.Letters.{ending_of, is_recovery, is_ticket_submit, letter_in, letter_of, letters, order_of}
-use Rattle.host_hub.specs.Recovery.{MayCome, MayComeFor, running, wanted}
+use Rattle.host_hub.specs.Letters.{ending_of, is_recovery, letter_in, letter_of, letters, order_of}
+use Rattle.host_hub.specs.Recovery.{MayComeFor, running}
 use Rattle.host_hub.specs.Faults.{answer_fault}
-use Rattle.host_hub.specs.Ends.{class_ends, ends_by, owned_ends, recovery_ends, stuck_end, submit_ends}
+use Rattle.host_hub.specs.Ends.{class_ends, ends_by, owned_ends, recovery_ends, submit_ends}
 use Rattle.host_hub.specs.Law as law
 use Rattle.host_hub.specs.Law.{IsHandOver, Lawful, Planned, Recovering}
 use Rattle.host_hub.specs.Unlinks.{unlinks_due}
@@ -38,15 +38,15 @@ use Rattle.std.specs.Bool.{MatchBool}
 use Rattle.host_hub.specs.declared.outcome.Outcome.{Outcome}
 use Rattle.host_hub.proofs.Clean.{submits}
 use Rattle.host_hub.proofs.Entries.{Answers, IsIn, answers_submit, answers_unlink, in_found}
-use Rattle.host_hub.proofs.Lists.{clash, differ, first_has, has_more, own, same}
-use Rattle.host_hub.proofs.Numbers.{Below, outstanding_falls}
+use Rattle.host_hub.proofs.Lists.{clash, differ, first_has, has_more, own}
+use Rattle.host_hub.proofs.Numbers.{outstanding_falls}
 use Rattle.host_hub.proofs.Pasts.{begun_known, hand_begun}
 use Rattle.host_hub.proofs.Recovering.{OutOf, no_unlinks_due, none_begun}
 use Rattle.host_hub.proofs.Within.{not_refused}
 
 -- ---- while a recovery runs, the ticket in hand is settled
 
-removed_too : (t u : ℕ) (ts : List ℕ) → has t ts ≡ false → has t (remove u ts) ≡ false
+pub removed_too : (t u : ℕ) (ts : List ℕ) → has t ts ≡ false → has t (remove u ts) ≡ false
 removed_too t u [] h = refl
 removed_too t u (x ∷ xs) h = step (x == u) (x == t) refl (removed_too t u xs) h
   where
@@ -68,7 +68,7 @@ over_same : (o : Option ℕ) (x : Happening) (past : Past) → live (x ∷ past)
 over_same None x past e h = tt
 over_same (Some t) x past e h = subst (λ (ts : List ℕ). has t ts ≡ false) (sym e) h
 
-none_runs : {A : Type 0} (need : Need) → None ≡ Some need → A
+pub none_runs : {A : Type 0} (need : Need) → None ≡ Some need → A
 none_runs need e = cc
 
 pub running_over : (s : Setting) (past : Past) → Lawful s past → (need : Need) → running past ≡ Some need → IsHandOver (in_hand past) past
@@ -124,14 +124,14 @@ busy_others n (x ∷ xs) = step (x.number == n) refl (is_listen x.order) refl (b
     step false e false f again = rw e (rw f (ap (λ (l : List Sent). x ∷ l) again))
 
 -- none is left where there was none
-none_others : (n : ℕ) (xs : List Sent) → recoverers xs ≡ [] → recoverers (others n xs) ≡ []
+pub none_others : (n : ℕ) (xs : List Sent) → recoverers xs ≡ [] → recoverers (others n xs) ≡ []
 none_others n xs h = recoverers_others n xs ∙ rw h refl
 
 none_named : (order : Order) (xs : List Sent) → recoverers xs ≡ [] → recoverers (without_named order xs) ≡ []
 none_named (Unlink target) xs h = none_others target xs h
 none_named order xs h = h
 
-none_unlink : (n : ℕ) (xs : List Sent) → recoverers xs ≡ [] → recoverers (less_unlink n xs) ≡ []
+pub none_unlink : (n : ℕ) (xs : List Sent) → recoverers xs ≡ [] → recoverers (less_unlink n xs) ≡ []
 none_unlink n [] h = refl
 none_unlink n (x ∷ xs) h = step (is_recovery x.owner) refl (x.number == n) h (none_unlink n xs)
   where
@@ -141,7 +141,7 @@ none_unlink n (x ∷ xs) h = step (is_recovery x.owner) refl (x.number == n) h (
     step false e true k again = none_named x.order xs k
     step false e false k again = rw e (again k)
 
-in_recoverers : (x : Sent) (xs : List Sent) → IsIn x xs → is_recovery x.owner ≡ true → IsIn x (recoverers xs)
+pub in_recoverers : (x : Sent) (xs : List Sent) → IsIn x xs → is_recovery x.owner ≡ true → IsIn x (recoverers xs)
 in_recoverers x [] h e = h
 in_recoverers x (y ∷ ys) (inl h) e = rw (sym (ap (λ (z : Sent). is_recovery z.owner) h) ∙ e) (inl h)
 in_recoverers x (y ∷ ys) (inr h) e = step (is_recovery y.owner) (in_recoverers x ys h e)
@@ -179,14 +179,14 @@ found_in n (y ∷ ys) x e = step (y.number == n) refl e (found_in n ys x)
     step true f k again = let g : y ≡ x = cc in (inl (sym g), subst (λ (z : Sent). z.number ≡ n) g (eqb-true y.number n f))
     step false f k again = let r = again k in (inr r.0, r.1)
 
-one_in : (x y : Sent) (xs : List Sent) → xs ≡ y ∷ [] → IsIn x xs → x ≡ y
+pub one_in : (x y : Sent) (xs : List Sent) → xs ≡ y ∷ [] → IsIn x xs → x ≡ y
 one_in x y xs e h = by (subst (λ (l : List Sent). IsIn x l) e h)
   where
     by : (x ≡ y) ⊎ ⊥ → x ≡ y
     by (inl k) = k
     by (inr k) = absurd k
 
-none_in : {P : Type 0} (x : Sent) (xs : List Sent) → xs ≡ [] → IsIn x xs → P
+pub none_in : {P : Type 0} (x : Sent) (xs : List Sent) → xs ≡ [] → IsIn x xs → P
 none_in x xs e h = absurd (subst (λ (l : List Sent). IsIn x l) e h)
 
 -- ---- what is known of the one that is out
@@ -265,7 +265,7 @@ order_submits letter.Read = refl
 
 -- nothing else is written while it is out
 
-out_ends : {P : Type 0} (past : Past) → Out past → busy (outstanding past) ≡ [] → P
+pub out_ends : {P : Type 0} (past : Past) → Out past → busy (outstanding past) ≡ [] → P
 out_ends past o e = let k : o.sent ∷ [] ≡ [] = sym o.alone ∙ e in cc
 
 no_submit : (s : Setting) (past : Past) (t : ℕ) (order : Order) → Lawful s past → Out past → Planned s past t order → ⊥
@@ -292,7 +292,7 @@ no_unlink s past target rest h runs o due = by (sym (no_unlinks_due s past runs 
 
 -- ---- a message is written
 
-still_none : (past : Past) → IsOut past → (Out past → ⊥) → recoverers (outstanding past) ≡ []
+pub still_none : (past : Past) → IsOut past → (Out past → ⊥) → recoverers (outstanding past) ≡ []
 still_none past (inl e) never = e
 still_none past (inr o) never = absurd (never o)
 
@@ -522,7 +522,7 @@ stays past q e f g k fr = record {
     by (inl none) = inl (ap recoverers e ∙ none)
     by (inr o) = inr (moved past q e f g o)
 
-over : {P : Type 0} (e : End) → Some e ≡ None → P
+pub over : {P : Type 0} (e : End) → Some e ≡ None → P
 over e h = cc
 
 pub fronts : GoesAlways → ((called : Need) → Begins (words_of called) []) → (s : Setting) (past : Past) → Lawful s past → Fronts past

@@ -29,3 +29,5 @@ pub mod Views
 pub mod Exact
 pub mod Numbered
 pub mod Determined
+pub mod Own
+pub mod Polls

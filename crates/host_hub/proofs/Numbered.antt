@@ -17,13 +17,12 @@ use Rattle.host_hub.specs.Order.{Class, ClearHalt, Listen, Order, Part, Read, Re
 use Rattle.host_hub.specs.Record.{Asked, Cancelled, Cleared, Fell, GaveUp, Owner, Past, Recovers, Settled, Stopped, Took, Wrote, next, written}
 use Rattle.host_hub.specs.Crossings.{crossings}
 use Rattle.host_hub.specs.Outstanding.{Sent, find, less, less_unlink, others, outstanding, without_named}
-use Rattle.host_hub.specs.Steps.{MayWriteNext}
 use Rattle.host_hub.specs.Law.{Lawful}
 use Rattle.host_hub.proofs.Entries.{IsIn, found_as, found_there}
 use Rattle.host_hub.proofs.Exact.{last_unlink, more_unlinks}
 use Rattle.host_hub.proofs.Fronts.{found_in}
 use Rattle.host_hub.proofs.Lawful.{lawful_crossings}
-use Rattle.host_hub.proofs.Lists.{clash, own}
+use Rattle.host_hub.proofs.Lists.{clash}
 use Rattle.host_hub.proofs.Messages.{written_same}
 use Rattle.host_hub.proofs.Numbers.{length_awaited, may_next, same_outstanding}
 

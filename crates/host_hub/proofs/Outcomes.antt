@@ -1,5 +1,5 @@
 -- which outcomes come of which kind
-use Rattle.std.proofs.Common.{◌≡◌, ◌≢◌, ◌⊎◌, ℕ, ℤ, pos, ◌+◌, ◌<◌, ◌≤◌, not, Bool, true, false, List, [], ◌∷◌, length, Option, Some, None, inl, inr, refl, sym, subst, ◌∙◌, ap, arith}
+use Rattle.std.proofs.Common.{◌≡◌, ℕ, ℤ, pos, not, Bool, true, false, List, [], ◌∷◌, length, Option, Some, None, refl, sym, subst}
 use Rattle.std.specs.Prelude.{◌==◌, nat_lt, is_some, slice_index, if◌then◌else◌}
 use Rattle.std.specs.Ordering.{int_eq}
 use Rattle.std.proofs.lemmas.Bool.{ltb-true, ltb-false}
@@ -14,17 +14,16 @@ use Rattle.host_hub.specs.declared.outcome.End.TheVariants as end
 use Rattle.host_hub.specs.declared.outcome.Outcome.{Outcome}
 use Rattle.host_hub.specs.declared.outcome.Outcome.TheVariants as outcome
 use Rattle.host_hub.specs.Order.{Class, ClearHalt, Listen, Order, Part, Read, Request, Setting, Trigger, Unlink, endpoint_of}
-use Rattle.host_hub.specs.Record.{Asked, Asking, Cancelled, Cleared, Fell, GaveUp, Happening, Past, Recovers, Settled, Stopped, Took, Wrote}
+use Rattle.host_hub.specs.Record.{Asked, Asking, Cancelled, Cleared, Happening, Past, Took}
 use Rattle.host_hub.specs.Book.{active, asking_of, is_active, or_else, settled, tickets}
 use Rattle.host_hub.specs.Hand.{ended_by}
 use Rattle.host_hub.specs.Outstanding.{Sent, find, outstanding}
 use Rattle.host_hub.specs.Pieces.{Piece, data_in}
 use Rattle.host_hub.specs.Status.{awaits, concerns}
-use Rattle.host_hub.specs.Made.{Standing, judged, made_at, made_by, piece_made, said, served, stalled, standing, status_made}
+use Rattle.host_hub.specs.Made.{Standing, judged, made_at, made_by, piece_made, served, stalled, standing, status_made}
 use Rattle.host_hub.specs.Causes.{cause, causes, ends_as, named, once_free, reached, stops}
 use Rattle.host_hub.specs.Law.{Lawful}
 use Rattle.host_hub.specs.Sentences.{MaySettleAs}
-use Rattle.host_hub.proofs.Lists.{clash}
 use Rattle.host_hub.proofs.Pasts.{settled_cause, unasked_cause}
 use Rattle.host_hub.proofs.Within.{asked_before}
 

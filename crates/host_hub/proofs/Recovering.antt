@@ -1,32 +1,28 @@
 -- the steps of a recovery keep the laws
-use Rattle.std.proofs.Common.{◌≡◌, ◌≢◌, ◌⊎◌, ℕ, ◌||◌, ◌&&◌, not, Bool, true, false, List, [], ◌∷◌, ◌++◌, Option, Some, None, inl, inr, refl, sym, subst, ◌∙◌, ap, arith}
-use Rattle.std.specs.Prelude.{◌==◌, if◌then◌else◌, is_some}
-use Rattle.std.proofs.lemmas.Bool.{eqb-true, eqb-false}
+use Rattle.std.proofs.Common.{◌≡◌, ◌≢◌, ◌⊎◌, ℕ, ◌&&◌, Bool, true, false, List, [], ◌∷◌, ◌++◌, Option, Some, None, inl, inr, refl, sym, subst, ◌∙◌, ap, arith}
+use Rattle.std.specs.Prelude.{◌==◌, if◌then◌else◌}
+use Rattle.std.proofs.lemmas.Bool.{eqb-true}
 use Rattle.usbip_wire.specs.declared.ret_submit.RetSubmitHead.{RetSubmitHead}
 use Rattle.usbip_wire.specs.declared.ret_unlink.RetUnlinkHead.{RetUnlinkHead}
 use Rattle.usbip_wire.specs.Down as down
 use Rattle.host_urbs.specs.Law.{MayTake}
-use Rattle.host_recover.specs.Letter.{Letter, Submit, Ask, Clear, Read}
-use Rattle.host_hub.specs.declared.outcome.Outcome.{Outcome}
-use Rattle.host_hub.specs.declared.outcome.End.{End}
+use Rattle.host_recover.specs.Letter.{Submit, Ask, Clear, Read}
 use Rattle.host_hub.specs.Order.{Setting, Order, Part, Request, Trigger, Listen, Class, ClearHalt, Unlink, is_listen, is_bulk}
 use Rattle.host_hub.specs.Order as order
-use Rattle.host_hub.specs.Record.{Asking, Of, Recovery, Happening, Past, Wrote, Took, Asked, Settled, Recovers, next}
+use Rattle.host_hub.specs.Record.{Asking, Of, Recovery, Past, Wrote, Took, Asked, Settled, Recovers, next}
 use Rattle.host_hub.specs.Crossings.{crossings}
 use Rattle.host_hub.specs.Ends.{ends_by}
-use Rattle.host_hub.specs.Outstanding.{Sent, busy, find, not_unlinked, others, outstanding, own_bulk}
-use Rattle.host_hub.specs.Book.{live, has, remove, first_of, active, asking_of, is_live}
+use Rattle.host_hub.specs.Outstanding.{Sent, busy, not_unlinked, others, outstanding, own_bulk}
+use Rattle.host_hub.specs.Book.{live, has, active, asking_of, is_live}
 use Rattle.host_hub.specs.Hand.{ended, in_hand, is_begun, is_of}
-use Rattle.host_hub.specs.Pieces.{Piece, pieces}
 use Rattle.host_hub.specs.Made.{Standing, standing, made_by}
 use Rattle.host_hub.specs.Causes.{AreSettled, reached}
-use Rattle.host_hub.specs.Unlinks.{is_deep, is_over, unlinks_due, unlinks_of, unwanted}
+use Rattle.host_hub.specs.Unlinks.{is_deep, unlinks_due, unlinks_of}
 use Rattle.host_hub.specs.Letters.{letter_in, letter_of, letters, order_of}
-use Rattle.host_hub.specs.Recovery.{MayCome}
 use Rattle.host_hub.specs.Law.{IsHandOver, Kept, Lawful, MayRecover, Planned, Recovering, Waits, WriteLaw}
 use Rattle.host_hub.specs.Steps.{HearsRecovery, MayWriteNext, Working, recovers_with, took}
-use Rattle.host_hub.proofs.Lists.{clash, differ, or_cases, own, same, first_has, has_added, has_removed, and_false}
-use Rattle.host_hub.proofs.Pasts.{begun_active, begun_known, hand_begun, still, unreached, writes_for}
+use Rattle.host_hub.proofs.Lists.{clash, or_cases, same, first_has, has_added, has_removed, and_false}
+use Rattle.host_hub.proofs.Pasts.{begun_active, begun_known, still, unreached}
 use Rattle.host_hub.proofs.Quiets.{none_planned_idle, none_planned_queued, waits_idle, waits_queued}
 use Rattle.host_hub.proofs.Stepping.{rests}
 

@@ -8,13 +8,13 @@ use Rattle.host_recover.specs.Letter.{Submit, Ask, Clear, Read}
 use Rattle.usbip_wire.specs.Down as down
 use Rattle.host_urbs.specs.declared.limits.TheConstants.{LAST_SUBMIT}
 use Rattle.host_hub.specs.declared.outcome.Outcome.{Outcome}
-use Rattle.host_hub.specs.Order.{Order, Setting, is_listen, is_unlink, size_of, way_of}
+use Rattle.host_hub.specs.Order.{Order, is_listen, is_unlink, size_of, way_of}
 use Rattle.host_hub.specs.Record.{Asking, Cancelled, Of, Past, Recovery, Settled, Took, next}
-use Rattle.host_hub.specs.Book.{active, asking_of, has, is_cancelled, live, remove, tickets}
+use Rattle.host_hub.specs.Book.{active, has, is_cancelled, live, remove, tickets}
 use Rattle.host_hub.specs.Hand.{ended, in_hand, is_begun}
 use Rattle.host_hub.specs.Outstanding.{Sent, busy, find, not_unlinked, others, outstanding}
 use Rattle.host_hub.specs.Pieces.{pieces}
-use Rattle.host_hub.specs.Status.{awaits, is_status_kind}
+use Rattle.host_hub.specs.Status.{awaits}
 use Rattle.host_hub.specs.Made.{made_at}
 use Rattle.host_hub.specs.Causes.{reached}
 use Rattle.host_hub.specs.Plan.{When, first_order, follows, last, next_tag, parts}

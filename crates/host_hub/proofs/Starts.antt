@@ -1,12 +1,12 @@
 -- tickets begin in their order, and their starts rise
-use Rattle.std.proofs.Common.{◌≡◌, ◌≢◌, ◌⊎◌, ℕ, ◌+◌, ◌<◌, ◌≤◌, ◌||◌, ◌&&◌, not, Bool, true, false, List, [], ◌∷◌, Option, Some, None, inl, inr, refl, sym, subst, ◌∙◌, ap, arith}
+use Rattle.std.proofs.Common.{◌≡◌, ◌≢◌, ◌⊎◌, ℕ, ◌+◌, ◌<◌, ◌≤◌, ◌||◌, ◌&&◌, not, Bool, true, false, List, [], ◌∷◌, Some, inl, inr, refl, sym, subst, ◌∙◌, arith}
 use Rattle.std.specs.Prelude.{◌==◌, if◌then◌else◌}
-use Rattle.std.proofs.lemmas.Bool.{eqb-true, eqb-false}
-use Rattle.host_hub.specs.Order.{Order, Setting}
-use Rattle.host_hub.specs.Record.{Asked, Asking, Of, Owner, Past, Recovery, Settled, Wrote, next}
+use Rattle.std.proofs.lemmas.Bool.{eqb-true}
+use Rattle.host_hub.specs.Order.{Setting}
+use Rattle.host_hub.specs.Record.{Asked, Of, Past, Recovery, Settled, Wrote, next}
 use Rattle.host_hub.specs.Book.{active, first_of, has, live, tickets}
 use Rattle.host_hub.specs.Hand.{is_begun, is_of, start}
-use Rattle.host_hub.specs.Law.{Lawful, WriteLaw}
+use Rattle.host_hub.specs.Law.{Lawful}
 use Rattle.host_hub.proofs.Endings.{AreRising, above_has, live_rising}
 use Rattle.host_hub.proofs.Lists.{clash, first_has, has_added, has_removed, neither, or_cases, same}
 use Rattle.host_hub.proofs.Numbers.{may_next}
@@ -52,7 +52,7 @@ first_next s [] = omega arith
 first_next s (Wrote n o k ∷ past) = omega (arith, first_next s past)
 first_next s (x ∷ past) = first_next s past
 
-start_below : (s : Setting) (past : Past) → Lawful s past → (t : ℕ) → is_begun t past ≡ true → (s.first ≤ start t past) × (start t past < next s.first past)
+pub start_below : (s : Setting) (past : Past) → Lawful s past → (t : ℕ) → is_begun t past ≡ true → (s.first ≤ start t past) × (start t past < next s.first past)
 start_below s [] h t begun = clash begun
 start_below s (Wrote n (Of v) k ∷ past) h t begun = step (v == t) refl (is_begun t past) refl (start_below s past h.0 t) begun
   where
@@ -100,7 +100,7 @@ starts_rise s (Wrote n Recovery k ∷ past) h t u less one two = starts_rise s p
 starts_rise s (x ∷ past) h t u less one two = starts_rise s past h.0 t u less one two
 
 -- a ticket has a start exactly where it has begun
-unbegun_start : (t : ℕ) (past : Past) → is_begun t past ≡ false → start t past ≡ 0
+pub unbegun_start : (t : ℕ) (past : Past) → is_begun t past ≡ false → start t past ≡ 0
 unbegun_start t [] h = refl
 unbegun_start t (Wrote n o k ∷ past) h =
     let both : (is_of t o ≡ false) × (is_begun t past ≡ false) = neither (is_of t o) (is_begun t past) h in

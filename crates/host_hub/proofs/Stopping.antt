@@ -1,27 +1,26 @@
 -- cancels with their unlinks keep the laws
-use Rattle.std.proofs.Common.{◌≡◌, ◌≢◌, ◌⊎◌, ℕ, ◌+◌, ◌<◌, ◌≤◌, ◌||◌, ◌&&◌, not, Bool, true, false, List, [], ◌∷◌, length, Option, Some, None, inl, inr, refl, sym, subst, ◌∙◌, ap, arith}
+use Rattle.std.proofs.Common.{◌≡◌, ◌≢◌, ℕ, ◌+◌, ◌<◌, ◌≤◌, ◌||◌, ◌&&◌, not, Bool, true, false, List, [], ◌∷◌, length, Option, Some, None, refl, sym, subst, ◌∙◌, ap, arith}
 use Rattle.std.specs.Prelude.{◌==◌, if◌then◌else◌, is_some}
 use Rattle.std.proofs.lemmas.Bool.{eqb-true, eqb-false, eq-eqb}
 use Rattle.usbip_wire.specs.Down as down
 use Rattle.usbip_wire.specs.declared.dirs.TheConstants.{DIRS_MAX}
 use Rattle.host_hub.specs.declared.outcome.Outcome.{Outcome}
 use Rattle.host_hub.specs.declared.outcome.Outcome.TheVariants as outcome
-use Rattle.host_hub.specs.declared.outcome.End.{End}
-use Rattle.host_hub.specs.Order.{Setting, Order, Unlink, is_listen, is_unlink, is_bulk}
+use Rattle.host_hub.specs.Order.{Setting, Order, Unlink, is_listen, is_unlink}
 use Rattle.host_hub.specs.Record.{Of, Past, Wrote, Took, Cancelled, Cleared, Settled, next}
 use Rattle.host_hub.specs.Outstanding.{Sent, busy, involved, outstanding, not_unlinked, is_unlinked, own_bulk}
 use Rattle.host_hub.specs.Book.{live, has, remove, first_of, active, is_active, is_live, is_cancelled, asking_of, or_else}
-use Rattle.host_hub.specs.Hand.{ended, ended_by, in_hand, is_begun, is_of}
+use Rattle.host_hub.specs.Hand.{ended, in_hand, is_begun, is_of}
 use Rattle.host_hub.specs.Pieces.{Piece, pieces}
 use Rattle.host_hub.specs.Status.{awaits, is_status, listens}
 use Rattle.host_hub.specs.Made.{made_at}
-use Rattle.host_hub.specs.Causes.{AreSettled, cause, causes, ends_as, once_free, reached, stops}
+use Rattle.host_hub.specs.Causes.{AreSettled, cause, once_free, reached, stops}
 use Rattle.host_hub.specs.Unlinks.{is_deep, is_over, unlinks_due, unlinks_of, unwanted}
-use Rattle.host_hub.specs.Ends.{end_due, ends_by}
-use Rattle.host_hub.specs.Law.{Lawful, Works, Kept, Planned, Runs}
-use Rattle.host_hub.specs.Steps.{StopsAt, Working, took, wrote, write_unlinks}
+use Rattle.host_hub.specs.Ends.{end_due}
+use Rattle.host_hub.specs.Law.{Lawful, Kept, Planned}
+use Rattle.host_hub.specs.Steps.{StopsAt, Working, wrote, write_unlinks}
 use Rattle.host_hub.proofs.Lists.{clash, own, differ, or_left, and_false, first_has, same, has_removed}
-use Rattle.host_hub.proofs.Pasts.{still, still_live, others_unreached, not_stopped, hand_begun, unreached}
+use Rattle.host_hub.proofs.Pasts.{still, still_live, others_unreached, hand_begun}
 use Rattle.host_hub.proofs.Quiets.{waits_begun}
 use Rattle.host_hub.proofs.Numbers.{Below, below_up, outstanding_falls}
 use Rattle.host_hub.proofs.Entries.{unlink_may}

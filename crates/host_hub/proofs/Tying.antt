@@ -8,7 +8,7 @@ use Rattle.usbip_wire.specs.Up as up
 use Rattle.host_urbs.specs.Record as urbs
 use Rattle.host_hub.specs.declared.outcome.End.{End}
 use Rattle.host_hub.specs.Order.{Order, Setting, message_of}
-use Rattle.host_hub.specs.Record.{Owner, Happening, Past, Wrote, Took, Fell, Stopped, Recovers, Asked, Cancelled, Cleared, GaveUp, Settled, written}
+use Rattle.host_hub.specs.Record.{Owner, Happening, Past, Wrote, Took, Fell, written}
 use Rattle.host_hub.specs.Crossings.{crossings}
 use Rattle.host_hub.specs.Tied.{bytes_of, spelled, Tied, MovesNothing}
 

@@ -1,23 +1,23 @@
 -- a settled view never changes
-use Rattle.std.proofs.Common.{◌≡◌, ◌≢◌, ◌⊎◌, ℕ, ℤ, pos, ◌+◌, ◌<◌, ◌≤◌, ◌||◌, ◌&&◌, not, Bool, true, false, List, [], ◌∷◌, ◌++◌, length, min, Option, Some, None, inl, inr, refl, sym, subst, ◌∙◌, ap, arith}
-use Rattle.std.specs.Prelude.{◌==◌, nat_lt, is_some, if◌then◌else◌}
+use Rattle.std.proofs.Common.{◌≡◌, ◌≢◌, ◌⊎◌, ℕ, pos, ◌≤◌, ◌||◌, ◌&&◌, not, Bool, true, false, List, [], ◌∷◌, ◌++◌, length, min, Option, Some, None, inl, inr, refl, sym, subst, ◌∙◌, ap, arith}
+use Rattle.std.specs.Prelude.{◌==◌, is_some, if◌then◌else◌}
 use Rattle.std.specs.Ordering.{int_eq}
-use Rattle.std.proofs.lemmas.Bool.{eqb-true, eqb-false, le-ltb}
+use Rattle.std.proofs.lemmas.Bool.{eqb-true, le-ltb}
 use Rattle.std.proofs.Math.Nat.{min-le_left, min-le_right}
 use Rattle.usbip_wire.specs.declared.ret_submit.RetSubmitHead.{RetSubmitHead}
 use Rattle.usbip_wire.specs.Down as down
-use Rattle.host_transfers.specs.Piece.{data_of, eom_of}
+use Rattle.host_transfers.specs.Piece.{eom_of}
 use Rattle.host_hub.specs.declared.kind.Kind.{Kind}
 use Rattle.host_hub.specs.declared.kind.Kind.TheVariants as kind
 use Rattle.host_hub.specs.declared.outcome.End.{End}
 use Rattle.host_hub.specs.declared.outcome.Outcome.{Outcome}
 use Rattle.host_hub.specs.declared.outcome.Outcome.TheVariants as outcome
 use Rattle.host_hub.specs.Order.{Class, ClearHalt, Listen, Order, Part, Read, Request, Setting, Trigger, Unlink, endpoint_of, is_listen, is_read}
-use Rattle.host_hub.specs.Record.{Asked, Asking, Cancelled, Cleared, Fell, GaveUp, Happening, Of, Owner, Past, Recovers, Recovery, Settled, Stopped, Took, Wrote, next}
-use Rattle.host_hub.specs.Book.{active, asking_of, first_of, has, is_active, live, or_else, settled}
-use Rattle.host_hub.specs.Hand.{ended, ended_by, is_begun, is_of}
+use Rattle.host_hub.specs.Record.{Asked, Asking, Cancelled, Cleared, Fell, GaveUp, Happening, Of, Past, Recovers, Recovery, Settled, Stopped, Took, Wrote, next}
+use Rattle.host_hub.specs.Book.{active, asking_of, is_active, live, or_else, settled}
+use Rattle.host_hub.specs.Hand.{ended, ended_by, is_of}
 use Rattle.host_hub.specs.Outstanding.{Sent, find, involved, less, less_unlink, lost_with, others, outstanding, without_named}
-use Rattle.host_hub.specs.Pieces.{Piece, answered, answered_for, data_in, does_count, extended, got, is_below, least, lost, lost_for, opened, pieces, read_by, shut_at}
+use Rattle.host_hub.specs.Pieces.{Piece, answered, answered_for, data_in, does_count, got, is_below, least, lost, lost_for, opened, pieces, read_by, shut_at}
 use Rattle.host_hub.specs.Status.{awaits, concerns, listens}
 use Rattle.host_hub.specs.Made.{Standing, judged, made_at, made_by, piece_made, served, stalled, standing}
 use Rattle.host_hub.specs.Causes.{cause, causes, ends_as, once_free, reached, stops}
@@ -25,12 +25,12 @@ use Rattle.host_hub.specs.Plan.{ended_at, message_end}
 use Rattle.host_hub.specs.Law.{Lawful, Planned, Works, WriteLaw}
 use Rattle.host_hub.proofs.Entries.{IsIn}
 use Rattle.host_hub.proofs.Fronts.{found_in}
-use Rattle.host_hub.proofs.Lists.{clash, differ, first_has, own, same}
+use Rattle.host_hub.proofs.Lists.{clash, first_has}
 use Rattle.host_hub.proofs.Lawful.{lawful_book}
 use Rattle.host_hub.proofs.Numbers.{may_next}
 use Rattle.host_hub.proofs.Pasts.{settled_cause}
 use Rattle.host_hub.proofs.Starts.{first_next}
-use Rattle.host_hub.proofs.Tickets.{dead, stays}
+use Rattle.host_hub.proofs.Tickets.{stays}
 use Rattle.host_hub.specs.Steps.{took}
 use Rattle.host_hub.proofs.Within.{OfAsk, within}
 

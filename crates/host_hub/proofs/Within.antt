@@ -1,5 +1,5 @@
 -- the bytes of a ticket never pass its limit, and only asks have bytes
-use Rattle.std.proofs.Common.{◌≡◌, ◌≢◌, ◌⊎◌, ℕ, pos, ◌+◌, ◌-◌, ◌<◌, ◌≤◌, ◌||◌, ◌&&◌, not, Bool, true, false, List, [], ◌∷◌, ◌++◌, length, take, drop, min, Option, Some, None, inl, inr, refl, sym, subst, ◌∙◌, ap, arith, length-append}
+use Rattle.std.proofs.Common.{◌≡◌, ℕ, pos, ◌+◌, ◌-◌, ◌<◌, ◌≤◌, ◌&&◌, not, Bool, true, false, List, [], ◌∷◌, ◌++◌, length, take, drop, min, Option, Some, None, refl, sym, subst, ◌∙◌, ap, arith, length-append}
 use Rattle.std.specs.Prelude.{◌==◌, nat_lt, is_some, if◌then◌else◌}
 use Rattle.std.specs.Ordering.{int_eq}
 use Rattle.std.proofs.lemmas.Bool.{eqb-true, ltb-true, ltb-false}
@@ -16,14 +16,13 @@ use Rattle.host_transfers.specs.declared.limits.TheConstants.{REQUEST_MAX}
 use Rattle.host_transfers.specs.Piece.{data_of}
 use Rattle.host_hub.specs.declared.kind.Kind.{Kind}
 use Rattle.host_hub.specs.declared.kind.Kind.TheVariants as kind
-use Rattle.host_hub.specs.declared.outcome.End.{End}
 use Rattle.host_hub.specs.declared.outcome.End.TheVariants as end
 use Rattle.host_hub.specs.Order.{Class, ClearHalt, Listen, Order, Part, Read, Request, Setting, Trigger, Unlink}
 use Rattle.host_hub.specs.Record.{Asked, Asking, Happening, Of, Owner, Past, Recovery, Took, Wrote}
 use Rattle.host_hub.specs.Book.{asking_of, tickets}
 use Rattle.host_hub.specs.Hand.{is_begun, is_of}
 use Rattle.host_hub.specs.Outstanding.{Sent, find, is_listening, lost_with, outstanding}
-use Rattle.host_hub.specs.Pieces.{Piece, answered, answered_for, data_in, does_count, extended, got, least, lost, lost_for, opened, pieces, read_by, requested, shut_at}
+use Rattle.host_hub.specs.Pieces.{Piece, answered, answered_for, data_in, does_count, extended, got, least, lost, lost_for, opened, pieces, read_by, shut_at}
 use Rattle.host_hub.specs.Status.{is_status_kind, next_status_tag, status_tag}
 use Rattle.host_hub.specs.Plan.{behind_message, behind_read, first_order, follows, last, next_tag, parts, planned, request_of, status_order}
 use Rattle.host_hub.specs.Faults.{Fault, first_fault, number_field, read_fault, transfer_faults}

@@ -1,6 +1,6 @@
 -- asks that are answered, and ends of the hub
 use Rattle.std.specs.Prelude.{ℕ, pos, neg_ℤ, true, List, codes}
-use Rattle.std.proofs.Common.{lit≤, ◌≡◌, ◌≢◌, [], ◌∷◌, ◌++◌, refl}
+use Rattle.std.proofs.Common.{lit≤, ◌≢◌, [], ◌∷◌, ◌++◌, refl}
 use Rattle.usbip_wire.specs.Down as down
 use Rattle.usbip_wire.specs.declared.ret_submit.RetSubmitHead.{RetSubmitHead}
 use Rattle.host_hub.specs.declared.outcome.End.TheVariants as end
@@ -12,7 +12,7 @@ use Rattle.host_hub.specs.Steps.{Comes, asked, took, wrote}
 use Rattle.host_hub.specs.Worked.{setting, success, query, telling, piece_header, identify, identity_text, query_record, read_values, values, values_text, full_record, events, limited_record, complete_query, unplugged_record, halted_record}
 use Rattle.host_hub.proofs.Endings.{fell_kept, stopped_kept}
 use Rattle.host_hub.proofs.Entries.{submit_answer}
-use Rattle.host_hub.proofs.Rows.{Answered, asks, goes, idles, queues, settles, start}
+use Rattle.host_hub.proofs.Rows.{asks, goes, idles, queues, settles, start}
 use Rattle.host_hub.proofs.Stepping.{settles_lawful, settles_settled}
 
 abbrev pub head : (seqnum actual : ℕ) → RetSubmitHead

@@ -1,22 +1,19 @@
 -- a status read whose packet comes before its answer
 use Rattle.std.specs.Prelude.{ℕ, true, List}
-use Rattle.std.proofs.Common.{lit≤, ◌≡◌, ◌≢◌, [], ◌∷◌, refl}
-use Rattle.usbip_wire.specs.declared.ret_submit.RetSubmitHead.{RetSubmitHead}
+use Rattle.std.proofs.Common.{lit≤, ◌≢◌, [], ◌∷◌, refl}
 use Rattle.tmc_wire.specs.declared.class_request.ClassRequest.TheVariants as class
 use Rattle.host_hub.specs.declared.outcome.Outcome.TheVariants as outcome
 use Rattle.host_hub.specs.Order.{Class, Listen, Part}
-use Rattle.host_hub.specs.Record.{Of, Past, Settled}
+use Rattle.host_hub.specs.Record.{Of, Past}
 use Rattle.host_hub.specs.Outstanding.{Sent}
 use Rattle.host_hub.specs.Law.{Kept}
 use Rattle.host_hub.specs.Steps.{Working, asked, took, wrote}
 use Rattle.host_hub.specs.Worked.{setting, telling}
 use Rattle.host_hub.specs.WorkedStatus.{enabling, poll_asking, status_record, told}
 use Rattle.host_hub.proofs.Entries.{submit_answer, submit_may}
-use Rattle.host_hub.proofs.Quiets.{unlinks_none}
 use Rattle.host_hub.proofs.Rows.{asks, idles, settles, start}
-use Rattle.host_hub.proofs.Stepping.{asked_works, idle_kept, no_unlinks_behind, packet_works, planned_kept, status_planned, wrote_works}
+use Rattle.host_hub.proofs.Stepping.{asked_works, no_unlinks_behind, packet_works, planned_kept, status_planned, wrote_works}
 use Rattle.host_hub.proofs.WorkedAsks.{head}
-use Rattle.host_hub.proofs.Lists.{clash, or_false}
 
 some : {A : Type 0} {x : A} {xs : List A} → x ∷ xs ≢ []
 some e = cc

@@ -1,6 +1,6 @@
 -- tickets that are cancelled, and the recoveries behind them
-use Rattle.std.specs.Prelude.{ℕ, ℤ, true, false, List, codes, replicate, Some}
-use Rattle.std.proofs.Common.{lit≤, ◌≡◌, ◌≢◌, [], ◌∷◌, ◌++◌, inl, inr, refl}
+use Rattle.std.specs.Prelude.{ℕ, ℤ, true, false, List, codes}
+use Rattle.std.proofs.Common.{lit≤, ◌≢◌, [], ◌∷◌, ◌++◌, inl, inr, refl}
 use Rattle.usbip_wire.specs.declared.ret_unlink.RetUnlinkHead.{RetUnlinkHead}
 use Rattle.usbip_wire.specs.Down as down
 use Rattle.tmc_wire.specs.declared.class_request.ClassRequest.TheVariants as class
@@ -15,7 +15,7 @@ use Rattle.host_hub.specs.Outstanding.{Sent}
 use Rattle.host_hub.specs.Law.{Kept}
 use Rattle.host_hub.specs.Steps.{Working, asked, recovers_with, took, wrote}
 use Rattle.host_hub.specs.Worked.{setting, success, query, piece_header, events, complete_query}
-use Rattle.host_hub.specs.WorkedStops.{unlinked, reading, unlinking, complete_text, race_record, cancelled, recovered, cancel_record, command, unanswered_record, long_query, aborted_record, split_query, first_part, second_part, split_record}
+use Rattle.host_hub.specs.WorkedStops.{unlinked, unlinking, complete_text, race_record, cancelled, recovered, cancel_record, command, unanswered_record, long_query, aborted_record, split_query, first_part, second_part, split_record}
 use Rattle.host_hub.proofs.Entries.{unlink_answer}
 use Rattle.host_hub.proofs.Lists.{clash}
 use Rattle.host_hub.proofs.Recovering.{recovery_begins, unlink_answered}

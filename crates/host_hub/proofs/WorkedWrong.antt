@@ -1,12 +1,11 @@
 -- wrong records are not lawful, or not kept
-use Rattle.std.specs.Prelude.{ℕ, true, List}
-use Rattle.std.proofs.Common.{◌≡◌, [], ◌∷◌, ◌++◌, Some, None, refl, sym, ◌∙◌, subst}
+use Rattle.std.specs.Prelude.{true, List}
+use Rattle.std.proofs.Common.{◌≡◌, [], ◌∷◌, ◌++◌, Some, None, refl}
 use Rattle.tmc_wire.specs.declared.class_request.ClassRequest.TheVariants as class
 use Rattle.host_recover.specs.declared.need.Need.{Need}
 use Rattle.host_recover.specs.declared.need.Need.TheVariants as need
 use Rattle.host_recover.specs.Letter.{Letter, Asked, Drained, Success, Short}
 use Rattle.host_recover.specs.Words.{Begins, Has, words_of}
-use Rattle.host_hub.specs.declared.outcome.Outcome.{Outcome}
 use Rattle.host_hub.specs.declared.outcome.Outcome.TheVariants as outcome
 use Rattle.host_hub.specs.Order.{Class, Part, Unlink}
 use Rattle.host_hub.specs.Record.{Cancelled, Of, Recovery, Settled, Wrote}

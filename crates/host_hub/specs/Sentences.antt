@@ -1,16 +1,19 @@
 -- what each reader can check of a hub against its lists and marks alone
-use Rattle.std.specs.Prelude.{◌≡◌, ◌⊎◌, Some, List, [], ◌∷◌}
+use Rattle.std.specs.Prelude.{◌≡◌, ◌⊎◌, ◌<◌, ◌≤◌, ◌==◌, ℕ, Bool, true, false, Option, Some, None, List, [], ◌∷◌, if◌then◌else◌}
+use Rattle.tmc_wire.specs.declared.class_request.ClassRequest.TheVariants as class
 use Rattle.host_hub.specs.declared.kind.Kind.{Kind}
 use Rattle.host_hub.specs.declared.kind.Kind.TheVariants as kind
 use Rattle.host_hub.specs.declared.outcome.Outcome.{Outcome}
 use Rattle.host_hub.specs.declared.outcome.Outcome.TheVariants as outcome
 use Rattle.host_hub.specs.declared.outcome.End.TheVariants as end
+use Rattle.host_hub.specs.Order.{Class, Order}
 use Rattle.host_hub.specs.Record.{Happening, Past, Recovers, Settled, Stopped, Wrote}
+use Rattle.host_hub.specs.Hand.{start}
 use Rattle.host_hub.specs.Outstanding.{Sent}
 use Rattle.host_hub.specs.Ends.{end_due}
 
 -- it is one of these
-abbrev pub IsAmong : Sent → List Sent → Type 0
+abbrev pub IsAmong : {A : Type 0} → A → List A → Type 0
 IsAmong x [] = ⊥
 IsAmong x (y ∷ ys) = (x ≡ y) ⊎ IsAmong x ys
 
@@ -37,3 +40,27 @@ IsItsOwn past Recovers = Unit {0}
 IsItsOwn past (Settled t o) = Unit {0}
 IsItsOwn past (Stopped e) = (end_due past ≡ Some e) ⊎ (e ≡ end.Exhausted)
 IsItsOwn past x = ⊥
+
+-- ---- which submits are a ticket's, by their numbers
+
+-- what was written with this number, and for whom
+abbrev pub wrote_by : ℕ → Happening → Option Sent → Option Sent
+wrote_by n (Wrote number owner order) before = if number == n then Some (record { number = number; owner = owner; order = order }) else before
+wrote_by n _ before = before
+
+abbrev pub wrote_at : ℕ → Past → Option Sent
+wrote_at n [] = None
+wrote_at n (x ∷ past) = wrote_by n x (wrote_at n past)
+
+-- an INITIATE request
+abbrev pub is_initiate : Order → Bool
+is_initiate (Class (class.AbortOut tag)) = true
+is_initiate (Class (class.AbortIn tag)) = true
+is_initiate (Class class.Clear) = true
+is_initiate order = false
+
+-- the number stands from the ticket's start on, before the next greater start and before the next INITIATE
+pub record IsNumberedFor (past : Past) (t n : ℕ) : Type 0 where
+  pub from : start t past ≤ n
+  pub starts : (u : ℕ) → start t past < start u past → n < start u past
+  pub initiates : (m : ℕ) (x : Sent) → wrote_at m past ≡ Some x → is_initiate x.order ≡ true → start t past ≤ m → n < m

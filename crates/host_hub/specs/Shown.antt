@@ -31,19 +31,19 @@ pub record ShowsBook (s : Setting) (past : Past) (seen : BookSeen) : Type 0 wher
   pub service : seen.service ≡ service past
 
 -- what a hub keeps beside its book: its setting, the marks, the start of each ticket, its end and its next number
-pub record Kept : Type 0 where
+pub record HubSeen : Type 0 where
   pub setting : Setting
   pub marked : List Marked
   pub starts : List ℕ
   pub ended : Option End
   pub next : ℕ
 
-pub record Shows (past : Past) (kept : Kept) : Type 0 where
-  pub marked : kept.marked ≡ book kept.setting past
-  pub count : length kept.starts ≡ tickets past
-  pub starts : (t : ℕ) (n : ℕ) → slice_get kept.starts t ≡ Some n → n ≡ start (t + 1) past
-  pub ended : kept.ended ≡ ended past
-  pub next : kept.next ≡ next kept.setting.first past
+pub record ShowsHub (past : Past) (hub : HubSeen) : Type 0 where
+  pub marked : hub.marked ≡ book hub.setting past
+  pub count : length hub.starts ≡ tickets past
+  pub starts : (t : ℕ) (n : ℕ) → slice_get hub.starts t ≡ Some n → n ≡ start (t + 1) past
+  pub ended : hub.ended ≡ ended past
+  pub next : hub.next ≡ next hub.setting.first past
 
 -- ---- births
 

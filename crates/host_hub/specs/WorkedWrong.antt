@@ -1,5 +1,5 @@
 -- what the wrong records stand behind
-use Rattle.std.specs.Prelude.{ℕ, true, List, [], ◌∷◌}
+use Rattle.std.specs.Prelude.{[], ◌∷◌}
 use Rattle.tmc_wire.specs.declared.class_request.ClassRequest.TheVariants as class
 use Rattle.host_hub.specs.declared.outcome.Outcome.TheVariants as outcome
 use Rattle.host_hub.specs.Order.{Class, Listen, Unlink}

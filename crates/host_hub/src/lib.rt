@@ -39,12 +39,14 @@ pub use limits::{
 pub use outcome::{End, Outcome};
 pub use refusals::{AskFault, ClearFault};
 pub use sentences::{
-    bytes_keep_the_limit, each_submit_is_unlinked, hubs_are_determined, messages_are_in_a_row, numbers_suffice,
-    outcomes_go_by_kind,    recoveries_begin_their_words, settled_views_stay, tickets_begin_in_order,
+    bytes_keep_the_limit, each_submit_is_unlinked, hubs_are_determined, messages_are_in_a_row,
+    numbers_suffice, outcomes_go_by_kind, recoveries_begin_their_words, settled_views_stay,
+    status_reads_have_their_request, submits_go_by_number, tickets_begin_in_order,
 };
 pub use service::Service;
 pub use steps::{
-    a_hub_ends, a_hub_waits, a_status_read_goes_on, a_submit_is_due, a_submit_is_written, a_ticket_is_asked, a_ticket_stays_clean, an_answer_comes,
+    a_hub_ends, a_hub_waits, a_status_read_goes_on, a_submit_is_due, a_submit_is_written,
+    a_ticket_is_asked, a_ticket_stays_clean, an_answer_comes,
 };
 pub use stops::{
     a_hand_is_over, a_recovery_goes_on, a_stopped_ticket_settles, an_active_ticket_is_stopped,

@@ -3,16 +3,17 @@
 
 ghost use Rattle.std.specs.Prelude.{◌≡◌, ◌≢◌, ◌+◌, ◌<◌, ◌≤◌, ◌∷◌, ◌++◌, ℕ, true, false, None, Some, [], length};
 ghost use Rattle.host_hub.specs.declared.kind.Kind.TheVariants as kind;
-ghost use Rattle.host_hub.specs.Order.{Setting, is_unlink};
+ghost use Rattle.host_hub.specs.Order.{Class, Setting, is_unlink, message_of};
 ghost use Rattle.host_hub.specs.Outstanding.{Sent};
-ghost use Rattle.host_hub.specs.Status.{awaits};
+ghost use Rattle.host_hub.specs.Status.{awaits, is_status, poll};
 ghost use Rattle.host_urbs.specs.Unanswered.{AreInARow};
 ghost use Rattle.host_urbs.specs.Unlinks.{unlinks_of};
-ghost use Rattle.host_hub.specs.Record.{Asking, Cancelled, Cleared, Happening, Past, next, written};
+ghost use Rattle.host_hub.specs.Record.{Asking, Cancelled, Cleared, Happening, Of, Past, next, written};
 ghost use Rattle.host_urbs.specs.declared.limits.TheConstants.{LAST_SUBMIT};
+ghost use Rattle.tmc_wire.specs.declared.class_request.ClassRequest.TheVariants.{ReadStatus};
 ghost use Rattle.usbip_wire.specs.declared.dirs.TheConstants.{DIRS_MAX};
-ghost use Rattle.host_hub.specs.Book.{active, asking_of, settled};
-ghost use Rattle.host_hub.specs.Sentences.{IsAmong, IsItsOwn, MaySettleAs};
+ghost use Rattle.host_hub.specs.Book.{active, asking_of, has, live, settled};
+ghost use Rattle.host_hub.specs.Sentences.{IsAmong, IsItsOwn, IsNumberedFor, MaySettleAs, wrote_at};
 ghost use Rattle.host_hub.specs.declared.outcome.Outcome.{Outcome};
 ghost use Rattle.host_recover.specs.declared.need.Need.{Need};
 ghost use Rattle.host_recover.specs.Words.{Begins, words_of};
@@ -24,7 +25,8 @@ ghost use Rattle.host_hub.specs.Pieces.{got};
 ghost use Rattle.host_hub.specs.Plan.{message_end};
 
 use host_recover::{
-    a_whole_word_ends, each_answer_goes_on, each_recovery_has_a_word, the_next_submit_is_one,
+    a_whole_word_ends, each_answer_goes_on, each_recovery_has_a_word,
+    the_next_submit_is_determined, the_next_submit_is_one,
 };
 use host_urbs::{each_submit_is_unlinked_once, numbers_are_in_a_row};
 
@@ -58,6 +60,28 @@ pub fn tickets_begin_in_order()
         → start ticket past < start other past }
     ensures begun { (setting : Setting) (past : Past) (ticket : ℕ) → Lawful setting past → 1 ≤ setting.first → is_begun ticket past ≡ true → start ticket past ≢ 0 }
     ensures started { (past : Past) (ticket : ℕ) → start ticket past ≢ 0 → is_begun ticket past ≡ true }
+{}
+
+/// Which submits are a ticket's, by their numbers: those from its start up to the next greater start or the next INITIATE.
+pub fn submits_go_by_number()
+    ensures own { (setting : Setting) (past : Past) (ticket number : ℕ) (sent : Sent) → Lawful setting past → wrote_at number past ≡ Some sent
+        → is_unlink sent.order ≡ false → sent.owner ≡ Of ticket → IsNumberedFor past ticket number }
+    ensures alone { (setting : Setting) (past : Past) (ticket number : ℕ) (sent : Sent) → Lawful setting past → wrote_at number past ≡ Some sent
+        → is_unlink sent.order ≡ false → is_begun ticket past ≡ true → IsNumberedFor past ticket number → sent.owner ≡ Of ticket }
+{
+    the_next_submit_is_determined();
+    each_answer_goes_on();
+    each_recovery_has_a_word();
+}
+
+/// While a hub runs, a live status read that has begun has made its request: its READ_STATUS_BYTE is in what was written, and
+/// this is its number. What was written with a number is in what was written.
+pub fn status_reads_have_their_request()
+    ensures request { (setting : Setting) (past : Past) (ticket : ℕ) → Kept setting past → ended past ≡ None → has ticket (live past) ≡ true
+        → start ticket past ≢ 0 → is_status (asking_of ticket past) ≡ true
+        → (tag : ℕ) × (wrote_at (poll ticket past) past ≡ Some (record { number = poll ticket past; owner = Of ticket; order = Class (ReadStatus tag) })) }
+    ensures message { (setting : Setting) (past : Past) (number : ℕ) (sent : Sent) → wrote_at number past ≡ Some sent
+        → IsAmong (message_of setting number sent.order) (written setting past) }
 {}
 
 /// The view of a ticket that is settled never changes: what it asked for, its bytes, the number that ends its message, and its
