@@ -124,12 +124,29 @@ answers s t puts (class.Unknown submit behind setup queue asks unknown put is) =
 
 postpones : (s t : State) (puts : List Put) → class.Postpones s puts t → Needs event.Pending s
 postpones s t puts (class.DoesPostpone submit behind setup request layout queue asks row stays put is) = record {
-  submit = submit; behind = behind; setup = setup; request = request; layout = layout; first = queue; asks = asks; row = row; stays = stays;
+  submit = submit;
+  behind = behind;
+  setup = setup;
+  request = request;
+  layout = layout;
+  first = queue;
+  asks = asks;
+  row = row;
+  stays = stays;
 }
 
 polls : (s t : State) → class.PollsFirst s t → Needs event.Poll s
 polls s t (class.DoesPollFirst submit behind setup tag queue asks row tagged unpolled free polling) = record {
-  submit = submit; behind = behind; setup = setup; tag = tag; first = queue; asks = asks; row = row; tagged = tagged; unpolled = unpolled; none_queued = free;
+  submit = submit;
+  behind = behind;
+  setup = setup;
+  tag = tag;
+  first = queue;
+  asks = asks;
+  row = row;
+  tagged = tagged;
+  unpolled = unpolled;
+  none_queued = free;
 }
 
 notifies : (s t : State) (puts : List Put) → status.Notifies s puts t → Needs event.Notify s
