@@ -1,4 +1,4 @@
-use Rattle.std.proofs.Common.{◌≡◌, ◌∙◌, List, ℕ, Some, ap, sym, subst}
+use Rattle.std.proofs.Common.{◌≡◌, ◌∙◌, List, ℕ, Some, ap, subst}
 use Rattle.tmc_wire.specs.declared.class_request.ClassRequest.{ClassRequest}
 use Rattle.tmc_wire.specs.declared.class_request.ClassRequest.TheVariants.{ReadStatus}
 use Rattle.tmc_law.specs.Control.{control_answer}
@@ -28,5 +28,5 @@ returns c submit behind first = record {
   asks = asked_asks (state_of c.args.self.now) c.in-Some.asked c.in-Some.ensures submit behind first;
   row = (c.read_class.ensures.some (ReadStatus c.in-ReadStatus.tag)).0 (c.in-Some-read_class.is ∙ ap (λ (r : ClassRequest). Some r) c.in-ReadStatus.is);
   replied = subst (λ (l : List ℕ). IsReplied behind (control_answer submit c.in-Some.asked.setup l) c.args.self.now c.reply.new.self) c.status_layout.ensures
-    (c.reply.ensures submit behind first);
+      (c.reply.ensures submit behind first);
 }

@@ -11,16 +11,16 @@ pub returns-clause-applied : goal.returns-clause-applied
 returns-clause-applied c =
     let new = seen_of c.drive.new.self in
     (subst (λ (old : Seen). Driven c.args.event old c.drive.result new) c.self.view_is
-      (driven c.args.event (seen_of c.self.inside.body) c.drive.result new c.drive.ensures)).applied
+    (driven c.args.event (seen_of c.self.inside.body) c.drive.result new c.drive.ensures)).applied
 
 pub returns-clause-none : goal.returns-clause-none
 returns-clause-none c =
     let new = seen_of c.drive.new.self in
     (subst (λ (old : Seen). Driven c.args.event old c.drive.result new) c.self.view_is
-      (driven c.args.event (seen_of c.self.inside.body) c.drive.result new c.drive.ensures)).none
+    (driven c.args.event (seen_of c.self.inside.body) c.drive.result new c.drive.ensures)).none
 
 pub returns-clause-declined : goal.returns-clause-declined
 returns-clause-declined c =
     let new = seen_of c.drive.new.self in
     (subst (λ (old : Seen). Driven c.args.event old c.drive.result new) c.self.view_is
-      (driven c.args.event (seen_of c.self.inside.body) c.drive.result new c.drive.ensures)).declined
+    (driven c.args.event (seen_of c.self.inside.body) c.drive.result new c.drive.ensures)).declined

@@ -13,11 +13,11 @@ unlink-requires-clause-sound c = c.steps_rest_on_laws.ensures.sound (state_of c.
 pub invariant_of-self : goal.invariant_of-self
 invariant_of-self c =
     let l = came_lawful c.steps_rest_on_laws.ensures.reached c.steps_rest_on_laws.ensures.fit (Comes (up.Submit c.in-Submit.head c.args.bytes.now)) (seen_of c.self.inside.body) (seen_of c.submit.new.self)
-        c.submit.result (record { reached = c.self.invariant.reached; fit = c.self.invariant.fit }) c.submit.ensures.ok c.submit.ensures.err in
+    c.submit.result (record { reached = c.self.invariant.reached; fit = c.self.invariant.fit }) c.submit.ensures.ok c.submit.ensures.err in
     record { reached = l.reached; fit = l.fit }
 
 pub invariant_of-self-in-Unlink : goal.invariant_of-self-in-Unlink
 invariant_of-self-in-Unlink c =
     let l = came_lawful c.steps_rest_on_laws.ensures.reached c.steps_rest_on_laws.ensures.fit (Comes (up.Unlink c.in-Unlink.head)) (seen_of c.self.inside.body) (seen_of c.unlink.new.self)
-        c.unlink.result (record { reached = c.self.invariant.reached; fit = c.self.invariant.fit }) c.unlink.ensures.ok c.unlink.ensures.err in
+    c.unlink.result (record { reached = c.self.invariant.reached; fit = c.self.invariant.fit }) c.unlink.ensures.ok c.unlink.ensures.err in
     record { reached = l.reached; fit = l.fit }
