@@ -79,7 +79,13 @@ fn answers(alloc: Global, first: i32, descriptor: &[u8], second: i32) -> Result<
 
 /// A link that gives these bytes and takes and gives at most `piece` bytes at a time. The send and the poll of these numbers
 /// fail.
-fn link(alloc: Global, gives: &[u8], piece: usize, send: u32, poll: u32) -> Result<MemLink, Memory> {
+fn link(
+    alloc: Global,
+    gives: &[u8],
+    piece: usize,
+    send: u32,
+    poll: u32,
+) -> Result<MemLink, Memory> {
     let gives = gives.to_vec(alloc)?;
     let piece = piece.max(1);
     MemLink::new(
