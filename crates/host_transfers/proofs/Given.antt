@@ -1,11 +1,9 @@
 -- the data that was given of all reads of a transfer
-use Rattle.std.proofs.Common.{◌≡◌, ◌⊎◌, ℕ, Bool, true, List, [], ◌∷◌, ◌++◌, refl, sym, subst, ◌∙◌, ap, append_assoc}
-use Rattle.std.specs.List.{slice_range}
+use Rattle.std.proofs.Common.{◌≡◌, ℕ, Bool, List, [], ◌∷◌, ◌++◌, sym, ◌∙◌, ap, append_assoc}
 use Rattle.std.proofs.lemmas.List.{append-nil}
 use Rattle.host_transfers.specs.declared.piece.Piece.{Piece}
 use Rattle.host_transfers.specs.declared.piece.Piece.TheVariants.{Data, Ended, Bad}
-use Rattle.host_transfers.specs.Answer.{Answers}
-use Rattle.host_transfers.specs.Assembly.{Gives, Says, Read, AreSaid, bytes_of, given_by, given, IsGood, AreGood}
+use Rattle.host_transfers.specs.Assembly.{Says, Read, AreSaid, bytes_of, given_by, given, IsGood, AreGood}
 use Rattle.host_transfers.specs.Piece.{data_of}
 
 adds : (tag size : ℕ) (all read : List ℕ) (short : Bool) (said : Piece) → IsGood said → Says tag size all read short said → data_of (all ++ read) ≡ data_of all ++ given_by said read

@@ -1,10 +1,10 @@
 -- the parts of a message by their numbers
 use Rattle.std.proofs.Common.{◌≡◌, ℕ, zero, suc, ◌+◌, ◌-◌, ◌*◌, ◌<◌, ◌≤◌, Bool, true, false, Some, List, [], ◌∷◌, ◌++◌, length, take, drop, refl, sym, subst, ◌∙◌, ap, arith, length-append, nat_le}
-use Rattle.std.specs.Prelude.{◌==◌, slice_get}
+use Rattle.std.specs.Prelude.{◌==◌}
 use Rattle.std.proofs.lemmas.Bool.{leb-true, le-leb, eqb-true, eq-eqb}
 use Rattle.std.proofs.lemmas.List.{take_all}
 use Rattle.std.proofs.Math.Seq.{drop-append-add}
-use Rattle.host_transfers.specs.Cut.{AreCut, AreParts}
+use Rattle.host_transfers.specs.Cut.{AreParts}
 use Rattle.host_transfers.specs.Part.{IsPart}
 use Rattle.host_transfers.proofs.Cuts.{long}
 use Rattle.host_transfers.proofs.Transfers.{front}

@@ -1,5 +1,5 @@
 -- a transfer as far as its reads came
-use Rattle.std.proofs.Common.{◌≡◌, ◌≢◌, ◌⊎◌, inl, inr, ℕ, zero, suc, ◌+◌, ◌-◌, ◌<◌, ◌≤◌, ◌^◌, min, Bool, true, false, List, [], ◌∷◌, ◌++◌, length, take, drop, replicate, refl, sym, subst, ◌∙◌, ap, arith, append_assoc, length-append, length-drop}
+use Rattle.std.proofs.Common.{◌≡◌, ◌⊎◌, inl, inr, ℕ, zero, suc, ◌+◌, ◌-◌, ◌<◌, ◌≤◌, min, Bool, List, [], ◌∷◌, ◌++◌, length, take, drop, replicate, refl, sym, subst, ◌∙◌, ap, arith, append_assoc, length-append, length-drop}
 use Rattle.std.specs.List.{slice_range}
 use Rattle.std.proofs.lemmas.Bool.{cases_lt}
 use Rattle.std.proofs.lemmas.List.{append-nil, drop-append-le, length-replicate, length-take, length-take-le, take_all, take_min, take-append-drop, take-append-le}
@@ -8,7 +8,6 @@ use Rattle.std.proofs.Math.Seq.{drop-append-add, take-append-add}
 use Rattle.tmc_wire.specs.declared.header.InHeader.{InHeader}
 use Rattle.tmc_wire.specs.Header.{IsInHeader, prefix, sized}
 use Rattle.tmc_wire.specs.HeaderFault.{TransferSize}
-use Rattle.tmc_wire.specs.Standard.{header_size}
 use Rattle.tmc_wire.specs.Transfer.{InText}
 use Rattle.host_transfers.specs.Answer.{Answers, GoesOn, Fits}
 use Rattle.host_transfers.specs.Assembly.{Gives, Held, Holds}

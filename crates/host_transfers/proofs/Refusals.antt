@@ -1,5 +1,5 @@
 -- where a read is refused no transfer goes on, and it is refused at one field
-use Rattle.std.proofs.Common.{◌≡◌, ◌⊎◌, inl, inr, ℕ, zero, suc, ◌+◌, ◌-◌, ◌<◌, ◌≤◌, ◌^◌, Bool, true, false, List, [], ◌∷◌, ◌++◌, length, take, drop, refl, sym, subst, ◌∙◌, ap, arith, length-append}
+use Rattle.std.proofs.Common.{◌≡◌, ◌⊎◌, inl, inr, ℕ, zero, suc, ◌+◌, ◌-◌, ◌<◌, ◌≤◌, Bool, true, false, List, [], ◌++◌, length, take, refl, sym, subst, ◌∙◌, ap, arith, length-append}
 use Rattle.std.proofs.lemmas.Bool.{cases_lt}
 use Rattle.std.proofs.lemmas.List.{append-nil, take-append-le}
 use Rattle.tmc_base.specs.declared.field.Field.{Field}
@@ -9,7 +9,7 @@ use Rattle.tmc_wire.specs.declared.header_fault.HeaderFault.TheVariants.{Length,
 use Rattle.tmc_wire.specs.Header.{IsInHeader, prefix, sized}
 use Rattle.tmc_wire.specs.HeaderFault.{MsgID, bTag, bTagInverse, TransferSize, is_in_message, HasFault, IsInFault, place_of}
 use Rattle.tmc_wire.specs.Transfer.{InText}
-use Rattle.host_transfers.specs.Answer.{Answers, GoesOn, Fits, Refuses, Faulty, OtherTag, TooMuch, EndsEarly, GoesFurther, field_of}
+use Rattle.host_transfers.specs.Answer.{Answers, GoesOn, Refuses, Faulty, OtherTag, TooMuch, EndsEarly, GoesFurther, field_of}
 use Rattle.host_transfers.proofs.Reading.{header_length, long}
 use Rattle.host_transfers.proofs.Transfers.{size_there, front}
 

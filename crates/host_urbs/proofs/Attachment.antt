@@ -1,7 +1,7 @@
 -- the steps of an attachment, in a row
-use Rattle.std.proofs.Common.{◌≡◌, ◌⊎◌, inl, inr, ℕ, ◌+◌, ◌-◌, ◌<◌, ◌≤◌, List, [], ◌∷◌, ◌++◌, length, take, drop, get_or, Result, Ok, Err, refl, sym, subst, ◌∙◌, ap, arith, append_assoc, length-append, length-drop}
+use Rattle.std.proofs.Common.{◌≡◌, ℕ, ◌+◌, ◌<◌, ◌≤◌, List, [], ◌∷◌, ◌++◌, length, take, drop, get_or, Result, Ok, Err, refl, sym, subst, ◌∙◌, ap, arith, append_assoc, length-drop}
 use Rattle.std.specs.Prelude.{Bool, true, false, if◌then◌else◌}
-use Rattle.std.proofs.lemmas.List.{append-nil, drop-drop, length-take-le, take_all, take_rest}
+use Rattle.std.proofs.lemmas.List.{append-nil, drop-drop, take_all}
 use Rattle.std.proofs.Math.ListN.{drop_of_length-le}
 use Rattle.std.proofs.Math.Seq.{take-add}
 use Rattle.tmc_base.specs.declared.link.SendStep.{SendStep}
@@ -25,7 +25,7 @@ use Rattle.host_urbs.specs.declared.attached.Attached.{Attached}
 use Rattle.usb_setup.specs.declared.ends.Ends.{Ends}
 use Rattle.usbip_wire.specs.declared.device.DeviceRecord.{DeviceRecord}
 use Rattle.host_urbs.specs.Attaching.{Goes, took_byte, IsImported, IsGood, IsDescribed}
-use Rattle.host_urbs.specs.Attach.{Stage, Importing, Describing, Configuring, phase_of, entries_at, IsAnswer, Undecided, Awaits, At, SendGoes, PollGoes, Step, Sent, SentNone, Took, TookNone, Path, here, on, IsOpen, Last, SendFailed, PollFailed, PollClosed, SendWants, PollWants, Wants, Spent, Stops, Attaches, Imported, Described, request_of, devid_of}
+use Rattle.host_urbs.specs.Attach.{Stage, Importing, Describing, Configuring, phase_of, entries_at, IsAnswer, Undecided, Awaits, At, SendGoes, PollGoes, Sent, SentNone, Took, TookNone, Path, here, on, Last, Wants, Stops, Attaches, Imported, Described, request_of, devid_of}
 
 -- ---- what is awaited
 

@@ -1,5 +1,5 @@
 -- what each call does to what is held, and to the record behind it
-use Rattle.std.proofs.Common.{◌≡◌, ℕ, suc, ◌+◌, ◌-◌, ◌<◌, ◌≤◌, ◌^◌, Bool, true, false, List, [], ◌∷◌, ◌++◌, length, take, drop, Option, Some, None, refl, sym, subst, ◌∙◌, ap, arith, append_assoc, length-append}
+use Rattle.std.proofs.Common.{◌≡◌, ℕ, ◌+◌, ◌-◌, ◌<◌, ◌≤◌, ◌^◌, Bool, true, false, List, [], ◌∷◌, ◌++◌, length, take, drop, Option, Some, None, refl, sym, subst, ◌∙◌, ap, arith, append_assoc, length-append}
 use Rattle.std.specs.Prelude.{◌==◌, if◌then◌else◌, is_some, leb}
 use Rattle.std.proofs.lemmas.Bool.{eqb-true, leb-true, le-leb}
 use Rattle.std.proofs.lemmas.List.{append-nil, length-take-le, take-append-drop}
@@ -12,14 +12,13 @@ use Rattle.usbip_wire.specs.Dirs as dirs
 use Rattle.usbip_wire.specs.Dirs.{find, submit_of, is_unlink, IsShort, AreShort}
 use Rattle.usbip_wire.specs.Down as down
 use Rattle.usbip_wire.specs.Down.{SpellsAnswer}
-use Rattle.usbip_wire.specs.RetSubmit.{Asked}
 use Rattle.usbip_wire.specs.Up as up
 use Rattle.usbip_wire.specs.Up.{Spells, SpellsAll}
 use Rattle.host_urbs.specs.declared.entry.Entry.{Entry}
 use Rattle.host_urbs.specs.declared.entry.Unanswered.{Unanswered}
 use Rattle.host_urbs.specs.declared.entry.Unanswered.TheVariants.{Submit, Unlink}
 use Rattle.host_urbs.specs.Record.{Past, Wrote, Took, written, taken, next, outstanding}
-use Rattle.host_urbs.specs.Law.{is_named, Lawful, MayTake, MayWrite}
+use Rattle.host_urbs.specs.Law.{is_named, MayTake, MayWrite}
 use Rattle.host_urbs.specs.Unanswered.{seqnum_of, AreInARow, AreRising, unanswered}
 use Rattle.host_urbs.specs.Entries.{awaited_of, number_of, unanswered_of, awaited, sent, moved, others, others_of, target_of, named_by, unlinked}
 use Rattle.host_urbs.specs.Held.{Held, bytes_of, all_bytes, wrote, up_to, AreUnsent, Follows}

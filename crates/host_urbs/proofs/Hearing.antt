@@ -1,5 +1,5 @@
 -- what one more byte makes of an answer
-use Rattle.std.proofs.Common.{◌≡◌, ◌⊎◌, inl, inr, ℕ, zero, suc, ◌+◌, ◌-◌, ◌<◌, ◌≤◌, Bool, true, false, Option, Some, None, List, [], ◌∷◌, ◌++◌, length, take, drop, refl, sym, subst, ◌∙◌, ap, arith, length-append}
+use Rattle.std.proofs.Common.{◌≡◌, ◌⊎◌, inl, inr, ℕ, zero, suc, ◌<◌, ◌≤◌, Bool, true, false, Option, Some, None, List, [], ◌∷◌, ◌++◌, length, take, refl, sym, subst, ◌∙◌, ap, arith, length-append}
 use Rattle.std.specs.Prelude.{◌==◌, if◌then◌else◌}
 use Rattle.std.proofs.lemmas.Bool.{cases_lt}
 use Rattle.std.proofs.lemmas.List.{append-nil, length-take-le, take_all, take-append-le}
@@ -25,7 +25,7 @@ use Rattle.usbip_wire.specs.DownFed.{Held, Fed, Answers, Means, NoneWhole, BadAt
 use Rattle.usbip_wire.specs.ImportReply.{SpellsImport}
 use Rattle.usbip_wire.specs.Op.{op_header}
 use Rattle.host_urbs.specs.declared.replies.Import.{Import}
-use Rattle.host_urbs.specs.Attach.{Stage, Importing, Describing, Configuring, phase_of, entries_at, Undecided, IsBad, IsList, IsAnswer, code}
+use Rattle.host_urbs.specs.Attach.{Stage, Importing, Describing, Configuring, phase_of, entries_at, Undecided, IsBad, IsList, IsAnswer}
 use Rattle.host_urbs.specs.Attaching.{holding, HearsImport, is_imported}
 use Rattle.host_urbs.proofs.Attachment.{not_whole}
 use Rattle.host_urbs.proofs.Basics.{clash}

@@ -1,22 +1,20 @@
 -- how far numbers go: behind the last submit come so many unlinks at most as submits were outstanding
-use Rattle.std.proofs.Common.{◌≡◌, ℕ, suc, ◌+◌, ◌<◌, ◌≤◌, ◌^◌, ◌||◌, ◌&&◌, Bool, true, false, List, [], ◌∷◌, ◌++◌, length, Option, Some, None, refl, sym, subst, ◌∙◌, ap, arith, length-append}
+use Rattle.std.proofs.Common.{◌≡◌, ℕ, suc, ◌+◌, ◌<◌, ◌≤◌, ◌^◌, ◌||◌, ◌&&◌, Bool, true, false, List, [], ◌∷◌, ◌++◌, length, Option, Some, refl, sym, subst, ◌∙◌, ap, arith}
 use Rattle.std.specs.Prelude.{◌==◌, if◌then◌else◌, is_some}
-use Rattle.usbip_wire.specs.declared.dirs.TheConstants.{DIRS_MAX}
 use Rattle.usbip_wire.specs.declared.dirs.Outstanding.{Outstanding}
 use Rattle.usbip_wire.specs.declared.ret_submit.RetSubmitHead.{RetSubmitHead}
 use Rattle.usbip_wire.specs.declared.ret_unlink.RetUnlinkHead.{RetUnlinkHead}
-use Rattle.usbip_wire.specs.Awaited.{Awaited, Submit, Unlink, entry_of, entries_of, number_of, sent_by, without, left_by}
+use Rattle.usbip_wire.specs.Awaited.{Awaited, Submit, Unlink, entry_of, entries_of, sent_by, without, left_by}
 use Rattle.usbip_wire.specs.Dirs.{find, submit_of, is_unlink}
 use Rattle.usbip_wire.specs.Down as down
 use Rattle.usbip_wire.specs.Up as up
-use Rattle.host_urbs.specs.declared.limits.TheConstants.{LAST_SUBMIT}
 use Rattle.host_urbs.specs.Record.{Past, Wrote, Took, written, taken, next, outstanding}
 use Rattle.host_urbs.specs.Law.{is_named, Lawful, MayTake}
 use Rattle.host_urbs.specs.Unanswered.{is_answered, unanswered}
 use Rattle.host_urbs.specs.Unlinks.{not_named, removed}
 use Rattle.host_urbs.proofs.Basics.{clash, differ, neither}
 use Rattle.host_urbs.proofs.Lists.{NoUnlink, names, found, skipped, submit_there, unlink_there, UnlinkThere, SubmitThere}
-use Rattle.host_urbs.proofs.Known.{Known, known, next_more, some_submit}
+use Rattle.host_urbs.proofs.Known.{known, next_more, some_submit}
 use Rattle.host_urbs.proofs.Once.{less_one, few}
 use Rattle.std.proofs.lemmas.Bool.{eqb-true}
 

@@ -1,5 +1,5 @@
 -- what the calls of an attachment did to the link, and what the bytes are that came
-use Rattle.std.proofs.Common.{◌≡◌, ℕ, ◌+◌, Some, List, [], ◌∷◌, ◌++◌, length, take, drop, Ok, Err, refl, sym, subst, ◌∙◌, ap, append_assoc}
+use Rattle.std.proofs.Common.{◌≡◌, ℕ, Some, List, [], ◌++◌, take, drop, Err, refl, sym, subst, ◌∙◌, ap, append_assoc}
 use Rattle.std.specs.Prelude.{pos}
 use Rattle.std.proofs.lemmas.List.{append-nil}
 use Rattle.tmc_base.specs.declared.link.SendStep.{SendStep}
@@ -14,7 +14,6 @@ use Rattle.usbip_wire.specs.declared.device.DeviceRecord.{DeviceRecord}
 use Rattle.usbip_wire.specs.declared.ret_submit.RetSubmitHead.{RetSubmitHead}
 use Rattle.usbip_wire.specs.ImportReply.{SpellsImport}
 use Rattle.host_urbs.specs.declared.attached.AttachFault.{AttachFault}
-use Rattle.host_urbs.specs.declared.attached.AttachFault.TheVariants as fault
 use Rattle.host_urbs.specs.declared.attached.Attached.{Attached}
 use Rattle.host_urbs.specs.Attach.{Stage, Importing, Describing, Configuring, At, IsAnswer, devid_of, begun, Step, Sent, SentNone, Took, TookNone, Imported, Described, Path, here, on, Last, SendFailed, PollFailed, PollClosed, SendWants, PollWants, Wants, Spent, Refused, NoDevice, Faulty, NoEnds, Stops, Attaches}
 use Rattle.host_urbs.specs.Attached.{IsAttached, AttachCounts, Exchanges}

@@ -1,5 +1,5 @@
 -- what a client keeps of a message until it is answered
-use Rattle.std.specs.Prelude.{ℕ, ◌+◌, ◌-◌, ◌==◌, Option, Some, None, List, [], ◌∷◌, ◌++◌, if◌then◌else◌}
+use Rattle.std.specs.Prelude.{ℕ, ◌-◌, ◌==◌, Option, Some, None, List, [], ◌∷◌, if◌then◌else◌}
 use Rattle.host_urbs.specs.declared.entry.Entry.{Entry}
 use Rattle.host_urbs.specs.declared.entry.Unanswered.{Unanswered}
 use Rattle.host_urbs.specs.declared.entry.Unanswered.TheVariants.{Submit, Unlink}

@@ -1,5 +1,4 @@
-use Rattle.std.proofs.Common.{◌≡◌, ◌≤◌, ◌⊎◌, inl, inr, ℕ, List, true, length, take, subst, sym, ap, refl, arith, length-take}
-use Rattle.tmc_wire.specs.declared.header_fault.HeaderFault.{HeaderFault}
+use Rattle.std.proofs.Common.{◌≡◌, inl, inr, ℕ, List, length, take, subst, ap, refl, arith, length-take}
 use Rattle.tmc_wire.specs.Header.{IsInHeader}
 use Rattle.tmc_wire.specs.HeaderFault.{IsInFault}
 use Rattle.host_transfers.specs.Answer.{Faulty}

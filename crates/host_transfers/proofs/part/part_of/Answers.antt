@@ -1,6 +1,5 @@
-use Rattle.std.proofs.Common.{◌≡◌, ◌+◌, ◌-◌, ◌*◌, min, nat_le, Some, ℕ, List, length, take, drop, refl, sym, subst, ◌∙◌, ap, arith, length-drop}
+use Rattle.std.proofs.Common.{◌≡◌, ◌+◌, ◌*◌, min, nat_le, Some, ℕ, List, length, take, drop, sym, ◌∙◌, ap, arith, length-drop}
 use Rattle.std.proofs.lemmas.List.{take_rest}
-use Rattle.host_transfers.specs.Part.{IsPart}
 use Rattle.host_transfers.proofs.Parting.{is_part, same_le}
 use Rattle.host_transfers.proofs.Reading.{take_same}
 use Rattle.host_transfers.proofs.part.part_of.Goals as goal

@@ -1,4 +1,4 @@
-use Rattle.std.proofs.Common.{◌≡◌, ℕ, ◌+◌, ◌≤◌, List, [], ◌∷◌, length, refl, ap, arith}
+use Rattle.std.proofs.Common.{◌≡◌, ℕ, [], ◌∷◌, length, refl, ap, arith}
 use Rattle.std.specs.Prelude.{true}
 use Rattle.host_transfers.specs.Part.{transfer}
 use Rattle.host_urbs.specs.Held.{Held}

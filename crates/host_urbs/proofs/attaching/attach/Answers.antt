@@ -1,7 +1,7 @@
-use Rattle.std.proofs.Common.{◌≡◌, ℕ, ◌+◌, ◌≤◌, List, refl, arith}
+use Rattle.std.proofs.Common.{refl, arith}
 use Rattle.std.proofs.lemmas.Result.{err_from_is_err_and}
 use Rattle.host_urbs.specs.declared.attached.Attached.{Attached}
-use Rattle.host_urbs.specs.Attach.{At, Describing, Configuring, begun, Attaches}
+use Rattle.host_urbs.specs.Attach.{At, Describing, Configuring, begun}
 use Rattle.host_urbs.proofs.Attachment.{none_made, asking, to_describe, to_configure, attaches, joined_path, joined_stop}
 use Rattle.host_urbs.proofs.Went.{spelled, counts_path, counts_stop}
 use Rattle.host_urbs.proofs.attaching.attach.Goals as goal

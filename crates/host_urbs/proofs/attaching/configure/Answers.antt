@@ -1,13 +1,11 @@
-use Rattle.std.proofs.Common.{◌≡◌, ◌≢◌, ℕ, ◌+◌, ◌<◌, ◌≤◌, ◌++◌, ◌∷◌, [], List, length, take, drop, refl, sym, subst, ◌∙◌, ap, arith}
-use Rattle.std.specs.Prelude.{pos}
+use Rattle.std.proofs.Common.{◌≡◌, ℕ, [], List, sym, ◌∙◌, ap}
 use Rattle.std.proofs.lemmas.Result.{err_from_is_err_and}
 use Rattle.usbip_wire.specs.declared.down.DownPhase.TheVariants.{Urbs}
-use Rattle.usbip_wire.specs.DownFed.{Held}
 use Rattle.std.specs.Prelude.{true, None}
 use Rattle.usbip_wire.specs.declared.urb.Dir.TheVariants.{Out}
 use Rattle.usbip_wire.specs.Submit.{submit_bytes, unused}
 use Rattle.usb_setup.specs.Setup.{setup_layout}
-use Rattle.host_urbs.specs.Attach.{At, Stage, Configuring, set_configuration, phase_of, entries_at, Path, here}
+use Rattle.host_urbs.specs.Attach.{set_configuration, phase_of, entries_at, here}
 use Rattle.host_urbs.specs.Attaching.{IsGood}
 use Rattle.host_urbs.proofs.Attachment.{after, wants}
 use Rattle.host_urbs.proofs.attaching.configure.Goals as goal

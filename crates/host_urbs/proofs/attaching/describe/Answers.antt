@@ -1,12 +1,10 @@
-use Rattle.std.proofs.Common.{◌≡◌, ◌≢◌, ℕ, ◌+◌, ◌<◌, ◌≤◌, ◌++◌, ◌∷◌, [], List, length, take, drop, refl, sym, subst, ◌∙◌, ap, arith}
-use Rattle.std.specs.Prelude.{pos}
+use Rattle.std.proofs.Common.{◌≡◌, ℕ, [], List, drop, refl, sym, subst, ◌∙◌, ap, arith}
 use Rattle.std.proofs.lemmas.Result.{err_from_is_err_and}
-use Rattle.usbip_wire.specs.declared.down.DownPhase.TheVariants.{Urbs}
-use Rattle.usbip_wire.specs.DownFed.{Held, data_of}
+use Rattle.usbip_wire.specs.DownFed.{data_of}
 use Rattle.usbip_wire.specs.declared.urb.Dir.TheVariants.{In}
 use Rattle.usbip_wire.specs.Submit.{submit_bytes, unused}
 use Rattle.usb_setup.specs.Interface.{Finds, FaultIs}
-use Rattle.host_urbs.specs.Attach.{At, Stage, Describing, phase_of, entries_at, Path, NoEnds}
+use Rattle.host_urbs.specs.Attach.{phase_of, entries_at, NoEnds}
 use Rattle.host_urbs.proofs.Attachment.{wants}
 use Rattle.host_urbs.proofs.attaching.describe.Goals as goal
 

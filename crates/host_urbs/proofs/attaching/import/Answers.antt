@@ -1,9 +1,7 @@
-use Rattle.std.proofs.Common.{◌≡◌, ◌≢◌, ℕ, ◌+◌, ◌<◌, ◌≤◌, ◌++◌, ◌∷◌, [], List, length, take, drop, refl, sym, subst, ◌∙◌, ap, arith}
-use Rattle.std.specs.Prelude.{pos}
+use Rattle.std.proofs.Common.{◌≡◌, [], sym, ◌∙◌, ap}
 use Rattle.std.proofs.lemmas.Result.{err_from_is_err_and}
-use Rattle.host_urbs.specs.Attach.{At, Stage, Importing, Path}
+use Rattle.host_urbs.specs.Attach.{At}
 use Rattle.host_urbs.specs.Attaching.{IsImported, took_rest}
-use Rattle.usbip_wire.specs.declared.device.DeviceRecord.{DeviceRecord}
 use Rattle.usbip_wire.specs.ImportReply.{SpellsImport}
 use Rattle.std.specs.Prelude.{Some}
 use Rattle.host_urbs.proofs.Attachment.{after, wants}

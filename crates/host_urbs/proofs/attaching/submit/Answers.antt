@@ -1,14 +1,10 @@
-use Rattle.std.proofs.Common.{◌≡◌, ◌≢◌, ℕ, ◌+◌, ◌<◌, ◌≤◌, ◌++◌, ◌∷◌, [], List, length, take, drop, refl, sym, subst, ◌∙◌, ap, arith}
+use Rattle.std.proofs.Common.{◌≡◌, ◌++◌, ◌∷◌, [], List, refl, sym, subst, ◌∙◌, ap, arith}
 use Rattle.std.specs.Int.{w32, cast_signed, cast_unsigned}
 use Rattle.std.proofs.lemmas.Result.{err_from_is_err_and}
 use Rattle.usbip_wire.specs.declared.dirs.Outstanding.{Outstanding}
 use Rattle.usbip_wire.specs.declared.dirs.Outstanding.TheVariants as entry
-use Rattle.usbip_wire.specs.declared.down.DownPhase.TheVariants.{Urbs}
-use Rattle.usbip_wire.specs.DownFed.{data_of}
-use Rattle.usbip_wire.specs.Urb.{message_max}
 use Rattle.host_urbs.specs.declared.attached.AttachFault.TheVariants as fault
-use Rattle.host_urbs.specs.Attach.{At, Stage, phase_of, entries_at, Path, IsAnswer, Faulty, Stops}
-use Rattle.host_urbs.specs.Attaching.{holding}
+use Rattle.host_urbs.specs.Attach.{At, Stage, phase_of, entries_at, IsAnswer, Faulty}
 use Rattle.host_urbs.proofs.Attachment.{wants, joined_path, joined_stop, status_is, data_short}
 use Rattle.host_urbs.proofs.attaching.submit.Goals as goal
 

@@ -1,6 +1,5 @@
-use Rattle.std.proofs.Common.{◌≡◌, ℕ, ◌+◌, ◌-◌, ◌<◌, ◌≤◌, ◌++◌, [], List, length, take, drop, inl, refl, sym, subst, ◌∙◌, ap, arith, length-drop}
+use Rattle.std.proofs.Common.{ℕ, ◌+◌, ◌<◌, ◌≤◌, ◌++◌, [], List, length, drop, inl, refl, subst, arith, length-drop}
 use Rattle.std.proofs.lemmas.List.{take_rest}
-use Rattle.tmc_base.specs.declared.link.SendStep.{SendStep}
 use Rattle.tmc_base.specs.declared.link.SendStep.TheVariants as send
 use Rattle.host_urbs.specs.Attach.{At, Path, SendGoes, SendFailed, SendWants, Spent}
 use Rattle.host_urbs.proofs.Attachment.{sending, begin_sending, on_sent, on_idle, end_sending, send_stops}

@@ -1,5 +1,4 @@
-use Rattle.std.proofs.Common.{◌≡◌, ℕ, ◌+◌, ◌<◌, ◌∷◌, [], List, length, take, get_or, inr, refl, sym, subst, ◌∙◌, ap, arith}
-use Rattle.tmc_base.specs.declared.link.PollStep.{PollStep}
+use Rattle.std.proofs.Common.{◌≡◌, ℕ, ◌+◌, ◌∷◌, [], List, length, take, get_or, inr, refl, subst, ◌∙◌, arith}
 use Rattle.tmc_base.specs.declared.link.PollStep.TheVariants as poll
 use Rattle.tmc_base.specs.Told.{CameIn}
 use Rattle.host_urbs.specs.Attach.{At, Path, here, PollGoes, PollFailed, PollClosed, PollWants, Spent}

@@ -1,5 +1,4 @@
-use Rattle.std.proofs.Common.{◌≡◌, ◌+◌, ◌++◌, [], length, refl, sym, ap, ◌∙◌, arith, length-append, List, ℕ, take, drop}
-use Rattle.usbip_wire.specs.declared.submit.SubmitHead.{SubmitHead}
+use Rattle.std.proofs.Common.{◌≡◌, ◌++◌, [], length, ap, ◌∙◌, arith, length-append, List, ℕ, take, drop}
 use Rattle.usbip_wire.specs.Submit.{submit_bytes, unused}
 use Rattle.host_urbs.proofs.Patched.{length_set, put_back, wide_set}
 use Rattle.host_urbs.proofs.Sizes.{submit_size}

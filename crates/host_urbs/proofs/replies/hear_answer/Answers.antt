@@ -4,7 +4,7 @@ use Rattle.usbip_wire.specs.declared.down.Down.{Down}
 use Rattle.usbip_wire.specs.declared.down.Down.TheVariants as down
 use Rattle.usbip_wire.specs.declared.down.DownPhase.{DownPhase}
 use Rattle.usbip_wire.specs.declared.down.DownPhase.TheVariants.{Urbs}
-use Rattle.usbip_wire.specs.DownFed.{Held, Fed, Answers, NoneWhole}
+use Rattle.usbip_wire.specs.DownFed.{Fed, Answers, NoneWhole}
 use Rattle.host_urbs.specs.Attach.{Stage, phase_of, entries_at, Undecided}
 use Rattle.host_urbs.specs.Attaching.{holding}
 use Rattle.host_urbs.proofs.Hearing.{fed_answers, hears_whole, hears_bad, hears_more}

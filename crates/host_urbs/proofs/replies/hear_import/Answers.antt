@@ -1,9 +1,9 @@
-use Rattle.std.proofs.Common.{◌≡◌, inl, inr, ℕ, ◌++◌, ◌∷◌, [], List, true, false, take, refl, sym, subst, ◌∙◌, ap}
+use Rattle.std.proofs.Common.{◌≡◌, inl, inr, ℕ, ◌++◌, ◌∷◌, [], List, take, refl, subst, ◌∙◌}
 use Rattle.usbip_wire.specs.declared.dirs.Outstanding.{Outstanding}
 use Rattle.usbip_wire.specs.declared.down.Down.{Down}
 use Rattle.usbip_wire.specs.declared.down.Down.TheVariants as down
 use Rattle.usbip_wire.specs.declared.down.DownPhase.TheVariants.{Ops}
-use Rattle.usbip_wire.specs.DownFed.{Held, Fed, Answers}
+use Rattle.usbip_wire.specs.DownFed.{Fed, Answers}
 use Rattle.host_urbs.specs.Attach.{Importing, Undecided, IsList}
 use Rattle.host_urbs.specs.Attaching.{holding}
 use Rattle.host_urbs.proofs.Basics.{clash}

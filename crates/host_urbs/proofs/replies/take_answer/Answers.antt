@@ -1,8 +1,8 @@
-use Rattle.std.proofs.Common.{◌≡◌, ℕ, ◌+◌, ◌++◌, ◌∷◌, [], List, take, refl, sym, subst, ◌∙◌, ap, arith}
+use Rattle.std.proofs.Common.{◌≡◌, ℕ, ◌++◌, ◌∷◌, [], List, refl, sym, subst, ◌∙◌, ap, arith}
 use Rattle.std.proofs.lemmas.Result.{err_from_is_err_and}
-use Rattle.usbip_wire.specs.declared.down.DownPhase.TheVariants.{Ops, Urbs}
+use Rattle.usbip_wire.specs.declared.down.DownPhase.TheVariants.{Urbs}
 use Rattle.usbip_wire.specs.DownFed.{Held}
-use Rattle.host_urbs.specs.Attach.{At, Stage, Importing, phase_of, entries_at, Path, Undecided, IsBad, Refused, NoDevice}
+use Rattle.host_urbs.specs.Attach.{At, Stage, phase_of, entries_at, Path, Undecided, Refused}
 use Rattle.host_urbs.specs.Attaching.{holding}
 use Rattle.host_urbs.proofs.Attachment.{taking, begin_taking, taken_next, joined_stop}
 use Rattle.host_urbs.proofs.Hearing.{undecided_start}

@@ -1,5 +1,5 @@
-use Rattle.std.proofs.Common.{◌≡◌, ℕ, ◌+◌, [], ◌∷◌, List, drop, replicate, refl, ap, ◌∙◌}
-use Rattle.std.specs.Prelude.{Bool, true, is_some}
+use Rattle.std.proofs.Common.{ℕ, [], ◌∷◌, drop, replicate, refl, ap, ◌∙◌}
+use Rattle.std.specs.Prelude.{is_some}
 use Rattle.usbip_wire.specs.declared.urb.Dir.TheVariants.{In}
 use Rattle.usbip_wire.specs.Awaited.{entries_of}
 use Rattle.usbip_wire.specs.Submit as submit
@@ -7,7 +7,7 @@ use Rattle.usbip_wire.specs.Unlink as unlink
 use Rattle.usbip_wire.specs.Urb as urb
 use Rattle.usbip_wire.specs.Dirs.{find, submit_of, is_unlink}
 use Rattle.host_urbs.specs.Entries.{sent, moved, unlinked}
-use Rattle.host_urbs.specs.Held.{Held, joined, submit_by, submit_out, unlink_by, wrote}
+use Rattle.host_urbs.specs.Held.{Held, submit_by, submit_out, unlink_by, wrote}
 use Rattle.host_urbs.proofs.tests.messages_until_they_are_answered.Goals as goal
 
 abbrev after : ℕ → Held → Held

@@ -1,12 +1,7 @@
-use Rattle.std.proofs.Common.{◌≡◌, ◌⊎◌, inl, inr, ℕ, ◌+◌, ◌<◌, ◌++◌, Bool, true, false, List, length, take, refl, sym, subst, ◌∙◌, ap, arith, length-append}
+use Rattle.std.proofs.Common.{◌≡◌, inl, inr, ◌+◌, ◌++◌, true, false, length, refl, sym, subst, ◌∙◌, arith}
 use Rattle.host_transfers.specs.declared.assembly.Assembly.TheInside.{Inside}
-use Rattle.host_transfers.specs.declared.judged.Judged.{Judged}
 use Rattle.host_transfers.specs.declared.piece.Piece.{Piece}
-use Rattle.host_transfers.specs.declared.piece.Piece.TheVariants.{Data, Ended}
-use Rattle.host_transfers.specs.Answer.{Refuses}
-use Rattle.host_transfers.specs.Assembly.{Held, Holds, IsKept, Says}
-use Rattle.host_transfers.specs.Judged.{Judges}
-use Rattle.host_transfers.specs.Piece.{data_of}
+use Rattle.host_transfers.specs.Assembly.{Held, Says}
 use Rattle.host_transfers.proofs.Reading.{holds_more, gives, gives_none, goes_on, is_whole}
 use Rattle.host_transfers.proofs.assembly.Assembly.feed.Goals as goal
 use Rattle.host_transfers.proofs.assembly.Assembly.feed.Goals.{then-short, else-short}

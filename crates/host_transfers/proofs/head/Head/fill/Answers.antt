@@ -1,4 +1,4 @@
-use Rattle.std.proofs.Common.{sym, subst, ap, List, ℕ, ◌≤◌, length, arith, ◌∙◌, min, ◌-◌}
+use Rattle.std.proofs.Common.{subst, ap, List, ℕ, ◌≤◌, length, ◌∙◌, min, ◌-◌}
 use Rattle.host_transfers.proofs.Reading.{filled}
 use Rattle.host_transfers.proofs.head.Head.fill.Goals as goal
 

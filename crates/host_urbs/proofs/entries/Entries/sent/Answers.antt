@@ -1,9 +1,8 @@
-use Rattle.std.proofs.Common.{◌≡◌, ◌+◌, ◌∷◌, [], List, length, take, get_or, subst, sym, ◌∙◌, ap, arith, length-append}
+use Rattle.std.proofs.Common.{◌≡◌, ◌+◌, List, length, take, subst, sym, ◌∙◌, ap, arith, length-append}
 use Rattle.usbip_wire.specs.declared.dirs.Outstanding.{Outstanding}
-use Rattle.usbip_wire.specs.Awaited.{entry_of, entries_of}
-use Rattle.usbip_wire.specs.Dirs.{AreShort}
+use Rattle.usbip_wire.specs.Awaited.{entries_of}
 use Rattle.host_urbs.specs.declared.entry.Entry.{Entry}
-use Rattle.host_urbs.specs.Entries.{awaited_of, sent, awaited, AreKept}
+use Rattle.host_urbs.specs.Entries.{sent, AreKept}
 use Rattle.host_urbs.proofs.Sending.{next_sent, next_unsent, new_at, short_at}
 use Rattle.host_urbs.proofs.entries.Entries.sent.Goals as goal
 use Rattle.host_urbs.proofs.entries.Entries.sent.Goals.{then-entry-eq0, else-entry-eq0}

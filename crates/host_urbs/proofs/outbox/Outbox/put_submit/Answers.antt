@@ -1,4 +1,4 @@
-use Rattle.std.proofs.Common.{◌≡◌, ◌+◌, ◌++◌, length, ap, arith, length-append}
+use Rattle.std.proofs.Common.{◌≡◌, ◌++◌, length, ap, arith, length-append}
 use Rattle.usbip_wire.specs.Submit as submit
 use Rattle.usbip_wire.specs.Submit.{submit_bytes}
 use Rattle.host_urbs.proofs.Sizes.{submit_size}

@@ -1,4 +1,4 @@
-use Rattle.std.proofs.Common.{◌≡◌, ◌+◌, ◌++◌, length, ap, arith, length-append}
+use Rattle.std.proofs.Common.{◌≡◌, ◌++◌, length, ap, arith, length-append}
 use Rattle.usbip_wire.specs.Unlink as unlink
 use Rattle.usbip_wire.specs.Unlink.{unlink_bytes}
 use Rattle.host_urbs.proofs.Sizes.{unlink_size}

@@ -1,6 +1,5 @@
 use Rattle.std.proofs.Common.{◌≤◌, length, sym, subst}
 use Rattle.host_urbs.specs.declared.urbs.Urbs.TheInside.{Inside}
-use Rattle.host_urbs.specs.Entries.{sent}
 use Rattle.host_urbs.specs.Held.{Held}
 use Rattle.host_urbs.proofs.Following.{follows_sent, rises}
 use Rattle.host_urbs.proofs.Keeping.{kept_sent}
