@@ -1,0 +1,139 @@
+//! How a node takes in what it was fed.
+
+ghost use Rattle.std.specs.Prelude.{◌≡◌, ◌<◌, ◌++◌, [], true, false, length, IsSome, Some, None, OnOk, OnErr};
+ghost use Rattle.std.specs.Option.{is_some};
+ghost use Rattle.usbip_wire.specs.declared.up.Up.TheVariants as up;
+ghost use Rattle.usbip_export.specs.TakenIn.{Moves};
+ghost use Rattle.usbip_export.specs.Seen.{IsCaughtUp, standing};
+
+use crate::body::Body;
+use crate::identity::{DEVID, devid_is_the_records};
+use crate::operations::{is_own, put_done, put_failed, put_list};
+use crate::spelling::spell_all;
+use tmc_base::{Field, Layer, Memory, Name};
+use tmc_device::{DeviceFault, Input};
+use tmc_law::runs_join;
+use usbip_wire::{OpRequest, SubmitHead, UnlinkHead, Up, UpReader, messages_have_spellings};
+
+/// A submit that comes while so many are pending as may be.
+const PENDING: Field = Field {
+    layer: Layer::Urb,
+    name: Name::Pending,
+    offset: 4,
+};
+
+/// A submit whose number is pending.
+const SEQNUM: Field = Field {
+    layer: Layer::Urb,
+    name: Name::Seqnum,
+    offset: 4,
+};
+
+impl Body {
+    ghost use Rattle.usbip_export.specs.Body.{seen_of, IsSound, IsOpen};
+    ghost use Rattle.usbip_export.specs.Taking.{Reads, KeepsSeen};
+
+    /// Takes in each message that is whole, until a field is refused, and spells what is put out. Where memory is wanting
+    /// the rest waits.
+    pub(crate) fn take_in(&mut self) -> Result<(), Memory>
+        requires sound { IsSound self.old }
+        ensures sound { IsSound self.new }
+        ensures moves { Moves (seen_of self.old) (seen_of self.new) }
+        ensures caught_up { OnOk result (IsOpen self.new → IsCaughtUp (seen_of self.new)) }
+        ensures spelled { OnOk result ((seen_of self.new).puts ≡ []) }
+    {
+        'messages: while self.has_message() {
+            self.admit()?;
+        }
+        spell_all(&mut self.device, &mut self.out)
+    }
+
+    /// Whether a message waits to be taken in: the one that the reader gave, or the next one.
+    fn has_message(&mut self) -> bool
+        requires sound { IsSound self.old }
+        ensures sound { IsSound self.new }
+        ensures waits { result ≡ true → is_some self.new.waiting ≡ true }
+        ensures reads { Reads result self.old self.new }
+    {
+        if self.refused.is_some() || self.device.closed() {
+            return false;
+        }
+        if self.waiting.is_some() {
+            return true;
+        }
+        let step = self.reader.feed(self.late.as_slice());
+        self.late.advance(step.used);
+        match step.what {
+            Up::More => false,
+            Up::Bad(field) => {
+                self.refuse(field);
+                false
+            }
+            what => {
+                self.waiting = Some(what);
+                true
+            }
+        }
+    }
+
+    /// Closes at a field; what was fed and not taken in is let go.
+    fn refuse(&mut self, field: Field) {
+        self.refused = Some(field);
+        self.waiting = None;
+        self.late.clear();
+    }
+
+    /// Takes in the message that waits.
+    fn admit(&mut self) -> Result<(), Memory>
+        requires sound { IsSound self.old }
+        requires open { IsOpen self.old }
+        requires waits { is_some self.old.waiting ≡ true }
+        ensures sound { IsSound self.new }
+        ensures moves { OnOk result (Moves (seen_of self.old) (seen_of self.new)) }
+        ensures shorter { OnOk result (length (seen_of self.new).kept < length (seen_of self.old).kept) }
+        ensures err { OnErr result (seen_of self.new ≡ seen_of self.old) }
+    {
+        match self.waiting {
+            Some(Up::Op(request)) => self.operate(request),
+            Some(Up::Submit(head)) => self.submit(head),
+            Some(Up::Unlink(head)) => self.unlink(head),
+            _ => unreachable!(),
+        }
+    }
+
+    fn operate(&mut self, request: OpRequest) -> Result<(), Memory> {
+        match request {
+            OpRequest::DevList => put_list(&mut self.out)?,
+            OpRequest::Import { busid } => {
+                if is_own(&busid) {
+                    let reader = UpReader::urbs(self.alloc, DEVID)?;
+                    put_done(&mut self.out)?;
+                    self.reader = reader;
+                    self.imported = true;
+                } else {
+                    put_failed(&mut self.out)?;
+                }
+            }
+        }
+        self.waiting = None;
+        Ok(())
+    }
+
+    fn submit(&mut self, head: SubmitHead) -> Result<(), Memory> {
+        match self.device.input(Input::Submit(head), self.reader.data()) {
+            Ok(()) => self.waiting = None,
+            Err(DeviceFault::Full) => self.refuse(PENDING),
+            Err(DeviceFault::Twice) => self.refuse(SEQNUM),
+            Err(DeviceFault::Memory) => return Err(Memory),
+        }
+        Ok(())
+    }
+
+    fn unlink(&mut self, head: UnlinkHead) -> Result<(), Memory> {
+        match self.device.input(Input::Unlink(head), &[]) {
+            Ok(()) => self.waiting = None,
+            Err(_) => return Err(Memory),
+        }
+        Ok(())
+    }
+}
