@@ -3,7 +3,8 @@ use Rattle.std.specs.Prelude.{◌≡◌, ◌≢◌, ℕ, ◌+◌, ◌<◌, ◌�
 use Rattle.tmc_law.specs.Endpoint.{Control}
 use Rattle.tmc_law.specs.State.{State, Pending, Plugged}
 use Rattle.tmc_law.specs.Put.{Put}
-use Rattle.tmc_law.specs.BulkOut.{Spoils, Belongs}
+use Rattle.tmc_law.specs.BulkOut.{message_most, Spoils, Belongs, TakesEffect}
+use Rattle.tmc_wire.specs.Transfer.{OutText, data_size}
 use Rattle.tmc_law.specs.AnswerFits.{FitsAsked, AllAnswers}
 use Rattle.tmc_wire.specs.declared.header.OutHeader.{OutHeader}
 use Rattle.endpoint_pipes.specs.Held.{Held, all_of}
@@ -63,6 +64,19 @@ abbrev pub IsJudged : Body → Pending → Option OutHeader → Type 0
 IsJudged body submit None = Spoils (state_of body) submit
 IsJudged body submit (Some header) =
     (¬ Spoils (state_of body) submit) × Belongs (state_of body) submit (record { header = header; taken = taken_in body.transfer })
+
+-- The transfer in progress has this header and all its bytes, and its message fits behind the unfinished one.
+pub record IsWhole (body : Body) (header : OutHeader) : Type 0 where
+  pub taken : List ℕ
+  pub message : List ℕ
+  pub is : body.transfer ≡ Some (record { header = header; taken = taken })
+  pub text : OutText header message taken
+  pub fits : length body.exchange.held.part + data_size header ≤ message_most
+
+-- the transfer in progress took effect
+abbrev pub HasEffect : (seqnum : ℕ) → OutHeader → (old new : Body) → Type 0
+HasEffect seqnum header old new = (taken : List ℕ) → old.transfer ≡ Some (record { header = header; taken = taken })
+    → TakesEffect seqnum (record { header = header; taken = taken }) (record (state_of old) { transfer = None }) (state_of new)
 
 -- a lawful run leads to the state, and what was put out fits what it answers
 pub record IsLawful (body : Body) : Type 0 where

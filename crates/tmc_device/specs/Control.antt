@@ -1,34 +1,21 @@
 -- what the first control submit asks for
-use Rattle.std.specs.Prelude.{◌≡◌, ℕ, ◌+◌, Bool, List, [], ◌∷◌, ◌++◌}
+use Rattle.std.specs.Prelude.{◌≡◌, ℕ, ◌+◌, true, List, [], ◌∷◌, ◌++◌}
 use Rattle.usb_setup.specs.declared.setup.Setup.{Setup}
 use Rattle.tmc_law.specs.State.{State, Pending}
 use Rattle.tmc_law.specs.Control.{Asks, control_answer}
-use Rattle.tmc_law.specs.Standard as law
 use Rattle.tmc_law.specs.Put.{Put}
-use Rattle.tmc_law.specs.Aborts.{Served}
-use Rattle.tmc_law.specs.Class.{Serves}
+use Rattle.tmc_law.specs.Endpoint.{ends}
+use Rattle.tmc_law.specs.Aborts.{Served, STATUS_SUCCESS}
+use Rattle.tmc_law.specs.Status.{status_layout}
+use Rattle.tmc_law.specs.Class.{Serves, Operates}
 use Rattle.tmc_wire.specs.declared.class_request.ClassRequest.{ClassRequest}
-use Rattle.endpoint_pipes.specs.Held.{endpoint_of}
-use Rattle.tmc_device.specs.declared.standard.StandardRequest.{StandardRequest}
-use Rattle.tmc_device.specs.declared.standard.StandardRequest.TheVariants as request
+use Rattle.tmc_wire.specs.declared.class_request.ClassRequest.TheVariants.{ReadStatus}
+use Rattle.tmc_wire.specs.ControlTable.{IsRow}
+use Rattle.instr_plain.specs.declared.remote.RemoteAct.{RemoteAct}
 use Rattle.tmc_device.specs.declared.answer.Asked.{Asked}
 use Rattle.tmc_device.specs.declared.body.Body.{Body}
 use Rattle.tmc_device.specs.Body.{state_of, seen_of}
 use Rattle.tmc_device.specs.Seen.{Seen}
-
--- the standard request that this is
-abbrev pub standard_of : StandardRequest → law.Standard
-standard_of request.DeviceStatus = law.GetDeviceStatus
-standard_of request.InterfaceStatus = law.GetInterfaceStatus
-standard_of (request.EndpointStatus ep) = law.GetEndpointStatus (endpoint_of ep)
-standard_of (request.ClearHalt ep) = law.ClearHalt (endpoint_of ep)
-standard_of request.DeviceDescriptor = law.GetDeviceDescriptor
-standard_of request.ConfigurationDescriptor = law.GetConfigurationDescriptor
-standard_of (request.String index) = law.GetString index
-standard_of request.Configuration = law.GetConfiguration
-standard_of request.SetConfiguration = law.SetConfiguration
-standard_of request.Interface = law.GetInterface
-standard_of request.SetInterface = law.SetInterface
 
 -- this is the first control submit, and its setup
 pub record IsAsked (s : State) (asked : Asked) : Type 0 where
@@ -46,14 +33,33 @@ pub record IsReplied (behind : List Pending) (answer : Put) (old new : Body) : T
   pub outputs : new.outputs.room + 1 ≡ old.outputs.room
   pub log : new.exchange.room ≡ old.exchange.room
 
--- a class request was served for the first control submit
-pub record IsServed (request : ClassRequest) (submit : Pending) (behind : List Pending) (setup : Setup) (old new : Seen) : Type 0 where
+-- the first control submit was served: answered by a layout, with what else the request puts out behind it
+pub record IsServed (Serves : State → Served → Type 0) (submit : Pending) (behind : List Pending) (setup : Setup) (old new : Seen) : Type 0 where
   pub served : Served
-  pub serves : Serves request submit (record old.state { control = behind }) served
+  pub serves : Serves (record old.state { control = behind }) served
   pub joins : new.puts ≡ old.puts ++ control_answer submit setup served.layout ∷ served.behind
   pub is : new.state ≡ served.state
 
--- a class request is served for the first control submit, whatever stands behind it
 abbrev pub ServesFirst : ClassRequest → Asked → (old new : Body) → Type 0
 ServesFirst request asked old new = (submit : Pending) (behind : List Pending) → (state_of old).control ≡ submit ∷ behind →
-    IsServed request submit behind asked.setup (seen_of old) (seen_of new)
+    IsServed (Serves request submit) submit behind asked.setup (seen_of old) (seen_of new)
+
+abbrev pub OperatesFirst : RemoteAct → Asked → (old new : Body) → Type 0
+OperatesFirst act asked old new = (submit : Pending) (behind : List Pending) → (state_of old).control ≡ submit ∷ behind →
+    IsServed (Operates act) submit behind asked.setup (seen_of old) (seen_of new)
+
+-- the first control submit has this number, and the status byte was polled for it
+pub record IsPolledFirst (target : ℕ) (s : State) : Type 0 where
+  pub submit : Pending
+  pub behind : List Pending
+  pub first : s.control ≡ submit ∷ behind
+  pub polled : submit.polled ≡ true
+  pub number : submit.head.seqnum ≡ target
+
+-- the first control submit, a status request that was polled, was answered
+pub record AnswersPolled (submit : Pending) (behind : List Pending) (old new : Body) : Type 0 where
+  pub setup : Setup
+  pub tag : ℕ
+  pub asks : Asks submit setup
+  pub row : IsRow ends (ReadStatus tag) setup
+  pub replied : IsReplied behind (control_answer submit setup (status_layout STATUS_SUCCESS tag)) old new

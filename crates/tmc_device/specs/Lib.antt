@@ -5,3 +5,6 @@ pub mod Sound
 pub mod Events
 pub mod Arrival
 pub mod Control
+pub mod Fill
+pub mod Standard
+pub mod Check

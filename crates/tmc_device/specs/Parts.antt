@@ -70,6 +70,11 @@ abbrev pub packet_of : Packet → law.Packet
 packet_of (packet.Status tag byte) = law.StatusPacket tag byte
 packet_of (packet.Service byte) = law.ServicePacket byte
 
+-- the tag of a status packet is at most 127
+abbrev pub IsTagged : Packet → Type 0
+IsTagged (packet.Status tag byte) = tag ≤ 127
+IsTagged (packet.Service byte) = Unit {0}
+
 abbrev pub packets_of : (first second : Option Packet) → List law.Packet
 packets_of None second = []
 packets_of (Some first) None = packet_of first ∷ []

@@ -1,7 +1,7 @@
-ghost use Rattle.std.specs.Prelude.{◌≡◌, ◌≤◌, ◌∷◌, [], Some, MatchOption, vec_capacity};
+ghost use Rattle.std.specs.Prelude.{◌≡◌, ◌+◌, ◌<◌, ◌≤◌, ◌∷◌, ◌++◌, [], Some, MatchOption, vec_capacity};
 ghost use Rattle.tmc_wire.specs.declared.class_request.ClassRequest.TheVariants as request;
 ghost use Rattle.tmc_law.specs.State.{Nothing};
-ghost use Rattle.tmc_law.specs.Aborts.{Declined, told_tag};
+ghost use Rattle.tmc_law.specs.Aborts.{Declined, told_tag, part_answer, without_part};
 ghost use Rattle.tmc_device.specs.Parts.{running_of};
 
 use crate::answer::Asked;
@@ -9,9 +9,7 @@ use crate::body::Body;
 use crate::endings::end_first;
 use crate::endpoints::{BULK_IN, BULK_OUT, SUCCESS};
 use crate::running::Running;
-use crate::status::{
-    TMC_FAILED, TMC_SPLIT_IN_PROGRESS, TMC_SUCCESS, TMC_TRANSFER_NOT_IN_PROGRESS,
-};
+use crate::status::{TMC_FAILED, TMC_SPLIT_IN_PROGRESS, TMC_SUCCESS, TMC_TRANSFER_NOT_IN_PROGRESS};
 
 impl Body {
     ghost use Rattle.tmc_device.specs.Body.{state_of, IsReady};
@@ -20,18 +18,18 @@ impl Body {
 
     /// INITIATE_ABORT_BULK_OUT (USBTMC 1.0, section 4.2.1.2): the transfer and the whole unfinished message are dropped,
     /// and Bulk-OUT halts.
-    pub(crate) fn abort_out(&mut self, asked: &Asked, tag: u8, data: Vec<u8>)
+    pub(crate) fn abort_out(&mut self, asked: &Asked, tag: u8, buffer: Vec<u8>)
         requires ready { IsReady self.old }
         requires asked { IsAsked (state_of self.old) asked.now }
-        requires empty { data.items ≡ [] }
-        requires capacity { LAYOUT_MAX ≤ vec_capacity data }
+        requires empty { buffer.items ≡ [] }
+        requires capacity { LAYOUT_MAX ≤ vec_capacity buffer }
         ensures { ServesFirst (request.AbortOut tag) asked.now self.old self.new }
     {
         let current = self.transfer.tag();
         match declined(self.running, current, tag) {
-            Some(status) => self.reply(asked, &[status, current.unwrap_or(0)], data),
+            Some(status) => self.reply(asked, &[status, current.unwrap_or(0)], buffer),
             None => {
-                self.reply(asked, &[TMC_SUCCESS, tag], data);
+                self.reply(asked, &[TMC_SUCCESS, tag], buffer);
                 self.halts(BULK_OUT);
                 self.running = Running::AbortsOut;
             }
@@ -40,18 +38,18 @@ impl Body {
 
     /// INITIATE_ABORT_BULK_IN (USBTMC 1.0, section 4.2.1.4): the bytes of the piece that were not given are dropped, and
     /// the next packet, of length 0, ends the transfer.
-    pub(crate) fn abort_in(&mut self, asked: &Asked, tag: u8, data: Vec<u8>)
+    pub(crate) fn abort_in(&mut self, asked: &Asked, tag: u8, buffer: Vec<u8>)
         requires ready { IsReady self.old }
         requires asked { IsAsked (state_of self.old) asked.now }
-        requires empty { data.items ≡ [] }
-        requires capacity { LAYOUT_MAX ≤ vec_capacity data }
+        requires empty { buffer.items ≡ [] }
+        requires capacity { LAYOUT_MAX ≤ vec_capacity buffer }
         ensures { ServesFirst (request.AbortIn tag) asked.now self.old self.new }
     {
         let current = self.side.tag();
         match declined(self.running, current, tag) {
-            Some(status) => self.reply(asked, &[status, current.unwrap_or(0)], data),
+            Some(status) => self.reply(asked, &[status, current.unwrap_or(0)], buffer),
             None => {
-                self.reply(asked, &[TMC_SUCCESS, tag], data);
+                self.reply(asked, &[TMC_SUCCESS, tag], buffer);
                 let given = self.side.cut();
                 self.running = Running::AbortsIn {
                     wanting: true,
@@ -63,14 +61,14 @@ impl Body {
 
     /// INITIATE_CLEAR (USBTMC 1.0, section 4.2.1.6): all that is in progress on the bulk endpoints is dropped, with the
     /// messages and the unread output. A part-filled Bulk-IN submit is answered with its bytes, and Bulk-OUT halts.
-    pub(crate) fn clear(&mut self, asked: &Asked, data: Vec<u8>)
+    pub(crate) fn clear(&mut self, asked: &Asked, buffer: Vec<u8>)
         requires ready { IsReady self.old }
         requires asked { IsAsked (state_of self.old) asked.now }
-        requires empty { data.items ≡ [] }
-        requires capacity { LAYOUT_MAX ≤ vec_capacity data }
+        requires empty { buffer.items ≡ [] }
+        requires capacity { LAYOUT_MAX ≤ vec_capacity buffer }
         ensures { ServesFirst request.Clear asked.now self.old self.new }
     {
-        self.reply(asked, &[TMC_SUCCESS], data);
+        self.reply(asked, &[TMC_SUCCESS], buffer);
         let before = self.exchange.status();
         self.exchange.clear();
         self.packets.notice(before, self.exchange.status());
@@ -82,6 +80,11 @@ impl Body {
 
     /// A part-filled Bulk-IN submit is answered with its bytes.
     fn end_part(&mut self)
+        requires { 0 < self.old.outputs.room }
+        ensures pipes { self.new.pipes ≡ record self.old.pipes { bulk_in = without_part self.old.pipes.bulk_in } }
+        ensures puts { self.new.outputs.puts ≡ self.old.outputs.puts ++ part_answer self.old.pipes.bulk_in }
+        ensures room { self.old.outputs.room ≤ self.new.outputs.room + 1 }
+        ensures others { self.new ≡ record self.old { pipes = self.new.pipes; outputs = self.new.outputs } }
     {
         if let Some(first) = self.pipes.first(BULK_IN) {
             if first.moved > 0 {

@@ -12,7 +12,7 @@ use crate::Drove;
 use crate::body::Body;
 use crate::endpoints::{CONTROL, ENDS, STALLED, SUCCESS};
 use crate::outputs::data_back;
-use crate::standard::read_standard;
+use crate::read_standard::read_standard;
 use bytes::BytesMut;
 use tmc_wire::read_class;
 use usb_setup::Setup;
@@ -44,7 +44,7 @@ impl Body {
         let Some(asked) = self.asked() else {
             return Drove::NotEnabled;
         };
-        let Ok(data) = Vec::with_capacity(self.alloc, LAYOUT_MAX) else {
+        let Ok(buffer) = Vec::with_capacity(self.alloc, LAYOUT_MAX) else {
             return Drove::Memory;
         };
         let Ok(layout) = BytesMut::with_capacity(self.alloc, LAYOUT_MAX) else {
@@ -53,7 +53,7 @@ impl Body {
         if self.prepare().is_err() {
             return Drove::Memory;
         }
-        self.answer_asked(&asked, layout, data);
+        self.answer_asked(&asked, layout, buffer);
         Drove::Applied
     }
 
@@ -70,30 +70,30 @@ impl Body {
     }
 
     /// A class request is served, a standard request answered, and any other stalls.
-    fn answer_asked(&mut self, asked: &Asked, layout: BytesMut, data: Vec<u8>)
+    fn answer_asked(&mut self, asked: &Asked, layout: BytesMut, buffer: Vec<u8>)
         requires ready { IsReady self.old }
         requires asked { IsAsked (state_of self.old) asked.now }
         requires laid_out { layout.items ≡ [] }
         requires spare { LAYOUT_MAX ≤ layout.spare }
-        requires empty { data.items ≡ [] }
-        requires capacity { LAYOUT_MAX ≤ vec_capacity data }
+        requires empty { buffer.items ≡ [] }
+        requires capacity { LAYOUT_MAX ≤ vec_capacity buffer }
         ensures { Makes Answer (seen_of self.old) (seen_of self.new) }
     {
         if let Some(request) = read_class(&asked.setup, &ENDS) {
-            self.serve(asked, request, data);
+            self.serve(asked, request, buffer);
         } else if let Some(request) = read_standard(&asked.setup) {
-            self.answer_standard(asked, request, layout, data);
+            self.answer_standard(asked, request, layout, buffer);
         } else {
-            self.stall(asked, data);
+            self.stall(asked, buffer);
         }
     }
 
     /// The first control submit is answered with the data of a layout: at most as many bytes as it asks for.
-    pub(crate) fn reply(&mut self, asked: &Asked, layout: &[u8], mut data: Vec<u8>)
+    pub(crate) fn reply(&mut self, asked: &Asked, layout: &[u8], mut buffer: Vec<u8>)
         requires asked { IsAsked (state_of self.old) asked.now }
         requires room { 0 < self.old.outputs.room }
-        requires empty { data.items ≡ [] }
-        requires capacity { length layout.now ≤ vec_capacity data }
+        requires empty { buffer.items ≡ [] }
+        requires capacity { length layout.now ≤ vec_capacity buffer }
         ensures { (submit : Submit) (behind : List Submit) → (state_of self.old).control ≡ submit ∷ behind →
             IsReplied behind (control_answer submit asked.now.setup layout.now) self.old self.new }
     {
@@ -101,34 +101,34 @@ impl Body {
             .min(asked.head.length as usize)
             .min(layout.len());
         let sent = data_back(asked.head.dir, &layout[..most]);
-        match data.extend_from_slice(sent) {
+        match buffer.extend_from_slice(sent) {
             Ok(()) => (),
             Err(_) => unreachable!(),
         }
-        self.end_asked(asked, SUCCESS, sent.len() as u32, data);
+        self.end_asked(asked, SUCCESS, sent.len() as u32, buffer);
     }
 
     /// The first control submit stalls.
-    fn stall(&mut self, asked: &Asked, data: Vec<u8>)
+    fn stall(&mut self, asked: &Asked, buffer: Vec<u8>)
         requires asked { IsAsked (state_of self.old) asked.now }
         requires room { 0 < self.old.outputs.room }
-        requires empty { data.items ≡ [] }
+        requires empty { buffer.items ≡ [] }
         ensures { (submit : Submit) (behind : List Submit) → (state_of self.old).control ≡ submit ∷ behind →
             IsReplied behind (answer_of submit.head stalled []) self.old self.new }
     {
-        self.end_asked(asked, STALLED, 0, data);
+        self.end_asked(asked, STALLED, 0, buffer);
     }
 
     /// The first control submit is answered, and leaves its queue.
-    fn end_asked(&mut self, asked: &Asked, status: i32, actual: u32, data: Vec<u8>)
+    fn end_asked(&mut self, asked: &Asked, status: i32, actual: u32, buffer: Vec<u8>)
         requires asked { IsAsked (state_of self.old) asked.now }
         requires room { 0 < self.old.outputs.room }
         ensures { (submit : Submit) (behind : List Submit) (moved : List ℕ) → (state_of self.old).control ≡ submit ∷ behind →
-            actual ≡ length moved → data.items ≡ returned submit.head.dir moved →
+            actual ≡ length moved → buffer.items ≡ returned submit.head.dir moved →
             IsReplied behind (answer_of submit.head status moved) self.old self.new }
     {
         self.pipes.answer(CONTROL);
         self.polled = false;
-        self.outputs.answer(asked.head, status, actual, data);
+        self.outputs.answer(asked.head, status, actual, buffer);
     }
 }

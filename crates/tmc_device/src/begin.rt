@@ -1,4 +1,4 @@
-ghost use Rattle.std.specs.Prelude.{◌≡◌, ◌+◌, ◌<◌, ◌≤◌, [], length, false};
+ghost use Rattle.std.specs.Prelude.{◌≡◌, ℕ, ◌+◌, ◌<◌, ◌≤◌, [], length, false};
 ghost use Rattle.tmc_law.specs.declared.dev_event.DevEvent.TheVariants as event;
 ghost use Rattle.tmc_law.specs.State.{Owed};
 ghost use Rattle.tmc_law.specs.BulkIn.{NoAbortIn};

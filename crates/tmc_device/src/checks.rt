@@ -29,60 +29,60 @@ impl Body {
     ghost use Rattle.tmc_device.specs.declared.answer.TheConstants.{LAYOUT_MAX};
 
     /// CHECK_ABORT_BULK_OUT_STATUS (USBTMC 1.0, section 4.2.1.3).
-    pub(crate) fn check_out(&mut self, asked: &Asked, data: Vec<u8>)
+    pub(crate) fn check_out(&mut self, asked: &Asked, buffer: Vec<u8>)
         requires ready { IsReady self.old }
         requires asked { IsAsked (state_of self.old) asked.now }
-        requires empty { data.items ≡ [] }
-        requires capacity { LAYOUT_MAX ≤ vec_capacity data }
+        requires empty { buffer.items ≡ [] }
+        requires capacity { LAYOUT_MAX ≤ vec_capacity buffer }
         ensures { ServesFirst request.CheckOut asked.now self.old self.new }
     {
         match self.running {
             Running::AbortsOut => {
-                self.reply(asked, &out_layout(TMC_SUCCESS), data);
+                self.reply(asked, &out_layout(TMC_SUCCESS), buffer);
                 self.running = Running::Nothing;
             }
-            _ => self.reply(asked, &out_layout(TMC_SPLIT_NOT_IN_PROGRESS), data),
+            _ => self.reply(asked, &out_layout(TMC_SPLIT_NOT_IN_PROGRESS), buffer),
         }
     }
 
     /// CHECK_ABORT_BULK_IN_STATUS (USBTMC 1.0, section 4.2.1.5).
-    pub(crate) fn check_in(&mut self, asked: &Asked, data: Vec<u8>)
+    pub(crate) fn check_in(&mut self, asked: &Asked, buffer: Vec<u8>)
         requires ready { IsReady self.old }
         requires asked { IsAsked (state_of self.old) asked.now }
-        requires empty { data.items ≡ [] }
-        requires capacity { LAYOUT_MAX ≤ vec_capacity data }
+        requires empty { buffer.items ≡ [] }
+        requires capacity { LAYOUT_MAX ≤ vec_capacity buffer }
         ensures { ServesFirst request.CheckIn asked.now self.old self.new }
     {
         match self.running {
             Running::AbortsIn {
                 wanting: true,
                 given,
-            } => self.reply(asked, &in_layout(TMC_PENDING, 1, given), data),
+            } => self.reply(asked, &in_layout(TMC_PENDING, 1, given), buffer),
             Running::AbortsIn {
                 wanting: false,
                 given,
             } => {
-                self.reply(asked, &in_layout(TMC_SUCCESS, 0, given), data);
+                self.reply(asked, &in_layout(TMC_SUCCESS, 0, given), buffer);
                 self.running = Running::Nothing;
             }
-            _ => self.reply(asked, &in_layout(TMC_SPLIT_NOT_IN_PROGRESS, 0, 0), data),
+            _ => self.reply(asked, &in_layout(TMC_SPLIT_NOT_IN_PROGRESS, 0, 0), buffer),
         }
     }
 
     /// CHECK_CLEAR_STATUS (USBTMC 1.0, section 4.2.1.7). bmClear is 0, since no packet is to be read.
-    pub(crate) fn check_clear(&mut self, asked: &Asked, data: Vec<u8>)
+    pub(crate) fn check_clear(&mut self, asked: &Asked, buffer: Vec<u8>)
         requires ready { IsReady self.old }
         requires asked { IsAsked (state_of self.old) asked.now }
-        requires empty { data.items ≡ [] }
-        requires capacity { LAYOUT_MAX ≤ vec_capacity data }
+        requires empty { buffer.items ≡ [] }
+        requires capacity { LAYOUT_MAX ≤ vec_capacity buffer }
         ensures { ServesFirst request.CheckClear asked.now self.old self.new }
     {
         match self.running {
             Running::Clears => {
-                self.reply(asked, &[TMC_SUCCESS, 0], data);
+                self.reply(asked, &[TMC_SUCCESS, 0], buffer);
                 self.running = Running::Nothing;
             }
-            _ => self.reply(asked, &[TMC_SPLIT_NOT_IN_PROGRESS, 0], data),
+            _ => self.reply(asked, &[TMC_SPLIT_NOT_IN_PROGRESS, 0], buffer),
         }
     }
 }

@@ -1,10 +1,10 @@
-ghost use Rattle.std.specs.Prelude.{◌≡◌, ◌+◌, ◌*◌, ◌<◌, ◌≤◌, ◌∷◌, List, length, min, false, true, Some, IsSome};
+ghost use Rattle.std.specs.Prelude.{◌≡◌, ◌<◌, ◌≤◌, length, min, false, true, Some, IsSome};
 ghost use Rattle.tmc_law.specs.declared.dev_event.DevEvent.TheVariants as event;
-ghost use Rattle.tmc_law.specs.Endpoint.{packet_size};
-ghost use Rattle.tmc_law.specs.State.{Pending as Submit, Piece, Sending, AbortsIn};
+ghost use Rattle.tmc_law.specs.State.{AbortsIn};
 ghost use Rattle.tmc_law.specs.BulkIn.{NoPacketWanted};
+ghost use Rattle.tmc_law.specs.Reached.{FirstBegins};
 ghost use Rattle.tmc_law.specs.Step.{Fill};
-ghost use Rattle.endpoint_pipes.specs.Outcome.{first_of};
+ghost use Rattle.endpoint_pipes.specs.Outcome.{first_of, HasRoom};
 ghost use Rattle.tmc_device.specs.Parts.{running_of, left_in};
 ghost use Rattle.tmc_device.specs.Sound.{IsSound};
 ghost use Rattle.tmc_device.specs.Seen.{Makes};
@@ -21,6 +21,7 @@ use endpoint_pipes::Pending;
 
 impl Body {
     ghost use Rattle.tmc_device.specs.Body.{state_of, seen_of, IsReady};
+    ghost use Rattle.tmc_device.specs.Fill.{Gives, FillsUp, EndsPiece, Overflows};
 
     /// Puts so many packets into the first Bulk-IN submit.
     pub(crate) fn fill(&mut self, packets: u32) -> Drove
@@ -97,26 +98,50 @@ impl Body {
     }
 
     /// The next bytes of the piece go into the first submit.
-    fn give(&mut self, size: usize) {
+    fn give(&mut self, size: usize)
+        requires sending { IsSending self.old.side }
+        requires left { size ≤ length (left_in self.old.side) }
+        requires room { HasRoom size (first_of self.old.pipes.bulk_in) }
+        ensures { Gives size self.old self.new }
+    {
         self.pipes.give_in(BULK_IN, &self.side.left()[..size]);
         self.side.pass(size);
     }
 
     /// Full packets fill the submit.
-    fn fill_up(&mut self, size: usize) {
+    fn fill_up(&mut self, size: usize)
+        requires sending { IsSending self.old.side }
+        requires left { size ≤ length (left_in self.old.side) }
+        requires room { HasRoom size (first_of self.old.pipes.bulk_in) }
+        requires outputs { 0 < self.old.outputs.room }
+        ensures { FillsUp size self.old self.new }
+    {
         self.give(size);
         end_first(&mut self.pipes, &mut self.outputs, BULK_IN, SUCCESS);
     }
 
     /// The rest of the piece, whose last packet is a short one: it ends the piece and the submit.
-    fn end_piece(&mut self, left: usize) {
+    fn end_piece(&mut self, left: usize)
+        requires sending { IsSending self.old.side }
+        requires left { left ≡ length (left_in self.old.side) }
+        requires room { HasRoom left (first_of self.old.pipes.bulk_in) }
+        requires outputs { 0 < self.old.outputs.room }
+        ensures { EndsPiece left self.old self.new }
+    {
         self.give(left);
         end_first(&mut self.pipes, &mut self.outputs, BULK_IN, SUCCESS);
         self.side.end();
     }
 
     /// Behind these bytes comes a packet that the submit has no room for: Bulk-IN halts.
-    fn overflow(&mut self, size: usize) {
+    fn overflow(&mut self, size: usize)
+        requires sending { IsSending self.old.side }
+        requires left { size ≤ length (left_in self.old.side) }
+        requires room { HasRoom size (first_of self.old.pipes.bulk_in) }
+        requires first { FirstBegins self.old.pipes.bulk_in }
+        requires outputs { length self.old.pipes.bulk_in ≤ self.old.outputs.room }
+        ensures { Overflows size self.old self.new }
+    {
         self.give(size);
         self.halts(BULK_IN);
     }

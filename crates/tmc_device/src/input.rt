@@ -1,9 +1,12 @@
-ghost use Rattle.std.specs.Prelude.{◌≡◌, ◌++◌, ◌<◌, [], false, true, IfErr, OnOk, OnErr, slice_index, ◌↔◌, IsTrue};
+ghost use Rattle.std.specs.Prelude.{◌≡◌, ℕ, ◌++◌, ◌∷◌, ◌<◌, ◌≤◌, [], List, false, IfErr, OnOk, OnErr, MatchBool, vec_capacity};
 ghost use Rattle.usbip_wire.specs.Submit.{Carries};
 ghost use Rattle.usbip_wire.specs.Up as up;
-ghost use Rattle.usb_setup.specs.declared.setup.Setup.{Setup};
 ghost use Rattle.tmc_law.specs.declared.input.Input.TheVariants as arrival;
-ghost use Rattle.tmc_law.specs.Endpoint.{Endpoint};
+ghost use Rattle.tmc_law.specs.Endpoint.{Endpoint, way_of_request as law_way};
+ghost use Rattle.tmc_law.specs.State.{Pending, arrived, queue_of, with_queue};
+ghost use Rattle.tmc_law.specs.Put.{answer_of, stalled};
+ghost use Rattle.endpoint_pipes.specs.Held.{endpoint_of};
+ghost use Rattle.endpoint_pipes.specs.Outcome.{IsFree};
 ghost use Rattle.tmc_law.specs.Queues.{IsTaken};
 ghost use Rattle.tmc_law.specs.Step.{Comes};
 ghost use Rattle.tmc_device.specs.Arrival.{Refuses};
@@ -11,9 +14,11 @@ ghost use Rattle.tmc_device.specs.Sound.{IsSound};
 ghost use Rattle.tmc_device.specs.Seen.{Makes};
 
 use crate::DeviceFault;
-use crate::body::Body;
 use crate::answer::LAYOUT_MAX;
-use crate::endpoints::{BULK_IN, BULK_OUT, CONTROL, ENDS, INTERRUPT_IN, STALLED, SUCCESS, UNLINKED};
+use crate::body::Body;
+use crate::endpoints::{
+    BULK_IN, BULK_OUT, CONTROL, ENDS, INTERRUPT_IN, STALLED, SUCCESS, UNLINKED,
+};
 use crate::status::{TMC_SUCCESS, status_layout};
 use endpoint_pipes::Unlinked;
 use tmc_wire::{ClassRequest, read_class};
@@ -23,7 +28,9 @@ use usbip_wire::{Dir, SubmitHead, UnlinkHead};
 const PENDING_MAX: u32 = 256;
 
 impl Body {
-    ghost use Rattle.tmc_device.specs.Body.{state_of, seen_of};
+    ghost use Rattle.tmc_device.specs.Body.{state_of, seen_of, IsReady};
+    ghost use Rattle.tmc_device.specs.Control.{IsPolledFirst, AnswersPolled};
+    ghost use Rattle.tmc_device.specs.declared.answer.TheConstants.{LAYOUT_MAX};
 
     /// A submit arrives.
     pub(crate) fn submit(&mut self, head: SubmitHead, bytes: &[u8]) -> Result<(), DeviceFault>
@@ -49,6 +56,9 @@ impl Body {
 
     /// Whether the submit's endpoint is there, takes data this way, and is not halted.
     fn is_taken(&self, head: &SubmitHead) -> bool
+        ensures { MatchBool result
+            ((head.now.ep < 4) × IsTaken (state_of self.now) head.now (endpoint_of head.now.ep))
+            ((endpoint : Endpoint) → IsTaken (state_of self.now) head.now endpoint → ⊥) }
     {
         match head.ep {
             0 => way_of_request(head.setup[0]) == head.dir,
@@ -61,6 +71,14 @@ impl Body {
 
     /// The submit comes behind the others of its endpoint.
     fn queue(&mut self, head: SubmitHead, bytes: &[u8]) -> Result<(), DeviceFault>
+        requires endpoint { head.ep < 4 }
+        requires carried { Carries head.dir head.length bytes.now }
+        requires free { IsFree self.old.pipes head.seqnum }
+        ensures ok { OnOk result (state_of self.new
+            ≡ with_queue (endpoint_of head.ep) (queue_of (endpoint_of head.ep) (state_of self.old) ++ arrived head bytes.now ∷ []) (state_of self.old)) }
+        ensures puts { self.new.outputs ≡ self.old.outputs }
+        ensures refused { IfErr result (λ fault. fault ≡ DeviceFault.Memory) }
+        ensures err { OnErr result (seen_of self.new ≡ seen_of self.old) }
     {
         let none_pending = self.pipes.first(CONTROL).is_none();
         match self.pipes.submit(head, bytes) {
@@ -75,6 +93,10 @@ impl Body {
 
     /// The submit is answered at once.
     fn turn_away(&mut self, head: SubmitHead) -> Result<(), DeviceFault>
+        ensures state { state_of self.new ≡ state_of self.old }
+        ensures ok { OnOk result (self.new.outputs.puts ≡ self.old.outputs.puts ++ answer_of head stalled [] ∷ []) }
+        ensures refused { IfErr result (λ fault. fault ≡ DeviceFault.Memory) }
+        ensures err { OnErr result (self.new.outputs.puts ≡ self.old.outputs.puts) }
     {
         if self.prepare().is_err() {
             return Err(DeviceFault::Memory);
@@ -91,25 +113,25 @@ impl Body {
         ensures refused { IfErr result (λ fault. Refuses (state_of self.old) (arrival.Unlink head) fault) }
         ensures err { OnErr result (seen_of self.new ≡ seen_of self.old) }
     {
-        let Ok(data) = Vec::with_capacity(self.alloc, LAYOUT_MAX) else {
+        let Ok(buffer) = Vec::with_capacity(self.alloc, LAYOUT_MAX) else {
             return Err(DeviceFault::Memory);
         };
         if self.prepare().is_err() {
             return Err(DeviceFault::Memory);
         }
-        self.unlink_ready(head, data);
+        self.unlink_ready(head, buffer);
         Ok(())
     }
 
     /// A polled status request is answered before an unlink of it, which misses then.
-    fn unlink_ready(&mut self, head: UnlinkHead, data: Vec<u8>)
+    fn unlink_ready(&mut self, head: UnlinkHead, buffer: Vec<u8>)
         requires ready { IsReady self.old }
-        requires empty { data.items ≡ [] }
-        requires spare { layout_most ≤ vec_capacity data }
+        requires empty { buffer.items ≡ [] }
+        requires capacity { LAYOUT_MAX ≤ vec_capacity buffer }
         ensures { Makes (Comes (up.Unlink head)) (seen_of self.old) (seen_of self.new) }
     {
         if self.is_polled(head.target) {
-            self.answer_polled(data);
+            self.answer_polled(buffer);
         }
         let status = match self.pipes.unlink(head.target) {
             Unlinked::Hit => UNLINKED,
@@ -120,6 +142,7 @@ impl Body {
 
     /// Whether the first control submit has this number, and the status byte was polled for it.
     fn is_polled(&self, target: u32) -> bool
+        ensures { MatchBool result (IsPolledFirst target (state_of self.now)) (¬ IsPolledFirst target (state_of self.now)) }
     {
         match self.pipes.first(CONTROL) {
             Some(first) => self.polled && first.head.seqnum == target,
@@ -128,7 +151,13 @@ impl Body {
     }
 
     /// The first control submit, a status request that was polled, is answered.
-    fn answer_polled(&mut self, data: Vec<u8>)
+    fn answer_polled(&mut self, buffer: Vec<u8>)
+        requires sound { IsSound (state_of self.old) }
+        requires polled { (target : ℕ) × IsPolledFirst target (state_of self.old) }
+        requires room { 0 < self.old.outputs.room }
+        requires empty { buffer.items ≡ [] }
+        requires capacity { LAYOUT_MAX ≤ vec_capacity buffer }
+        ensures { (submit : Pending) (behind : List Pending) → (state_of self.old).control ≡ submit ∷ behind → AnswersPolled submit behind self.old self.new }
     {
         let Some(asked) = self.asked() else {
             unreachable!()
@@ -136,7 +165,7 @@ impl Body {
         let Some(ClassRequest::ReadStatus { tag }) = read_class(&asked.setup, &ENDS) else {
             unreachable!()
         };
-        self.reply(&asked, &status_layout(TMC_SUCCESS, tag), data);
+        self.reply(&asked, &status_layout(TMC_SUCCESS, tag), buffer);
     }
 }
 
@@ -144,5 +173,9 @@ impl Body {
 fn way_of_request(request_type: u8) -> Dir
     ensures { result ≡ law_way request_type }
 {
-    if request_type < 128 { Dir::Out } else { Dir::In }
+    if request_type < 128 {
+        Dir::Out
+    } else {
+        Dir::In
+    }
 }

@@ -27,6 +27,7 @@ mod outputs;
 mod packets;
 mod poll;
 mod postpone;
+mod read_standard;
 mod running;
 mod side;
 mod standard;

@@ -35,7 +35,7 @@ pub(crate) struct Outputs {
 
 impl Model for Outputs {
     ghost use Rattle.std.specs.Prelude.{◌+◌, ◌≤◌, map};
-    ghost use Rattle.std_alloc.specs.VecDeque.{deque_len, deque_capacity};
+    ghost use Rattle.std.specs.VecDeque.{deque_len, deque_capacity};
     ghost use Rattle.tmc_device.specs.Parts.{Outbox, put_of};
 
     ghost Value = { Outbox };

@@ -1,5 +1,8 @@
-ghost use Rattle.std.specs.Prelude.{◌≡◌, false};
+ghost use Rattle.std.specs.Prelude.{◌≡◌, ℕ, List, false, IfSome, IfNone};
 ghost use Rattle.tmc_law.specs.declared.dev_event.DevEvent.TheVariants as event;
+ghost use Rattle.tmc_law.specs.Class.{StaysPending};
+ghost use Rattle.tmc_device.specs.Parts.{running_of};
+ghost use Rattle.tmc_device.specs.Check.{layout_of};
 ghost use Rattle.tmc_device.specs.Sound.{IsSound};
 ghost use Rattle.tmc_device.specs.Events.{Does};
 
@@ -21,7 +24,10 @@ enum Check {
 }
 
 /// The answer PENDING to a request that is a check of what runs.
-fn pending_layout(running: Running, request: ClassRequest) -> Option<Check> {
+fn pending_layout(running: Running, request: ClassRequest) -> Option<Check>
+    ensures some { IfSome result (λ check. StaysPending (running_of running) request (layout_of check)) }
+    ensures none { IfNone result ((layout : List ℕ) → ¬ StaysPending (running_of running) request layout) }
+{
     match (running, request) {
         (Running::AbortsOut, ClassRequest::CheckOut) => Some(Check::Abort(out_layout(TMC_PENDING))),
         (Running::AbortsIn { wanting, given }, ClassRequest::CheckIn) => {
@@ -50,15 +56,15 @@ impl Body {
         let Some(check) = pending_layout(self.running, request) else {
             return Drove::NotEnabled;
         };
-        let Ok(data) = Vec::with_capacity(self.alloc, LAYOUT_MAX) else {
+        let Ok(buffer) = Vec::with_capacity(self.alloc, LAYOUT_MAX) else {
             return Drove::Memory;
         };
         if self.prepare().is_err() {
             return Drove::Memory;
         }
         match check {
-            Check::Abort(layout) => self.reply(&asked, &layout, data),
-            Check::Clear(layout) => self.reply(&asked, &layout, data),
+            Check::Abort(layout) => self.reply(&asked, &layout, buffer),
+            Check::Clear(layout) => self.reply(&asked, &layout, buffer),
         }
         Drove::Applied
     }

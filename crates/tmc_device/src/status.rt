@@ -45,21 +45,21 @@ impl Body {
 
     /// READ_STATUS_BYTE (USB488 1.0, section 4.3.1): the status byte is polled and goes in a packet, unless it was polled
     /// before, or a packet is queued.
-    pub(crate) fn read_status(&mut self, asked: &Asked, tag: u8, data: Vec<u8>)
+    pub(crate) fn read_status(&mut self, asked: &Asked, tag: u8, buffer: Vec<u8>)
         requires ready { IsReady self.old }
         requires asked { IsAsked (state_of self.old) asked.now }
-        requires empty { data.items ≡ [] }
-        requires capacity { LAYOUT_MAX ≤ vec_capacity data }
+        requires empty { buffer.items ≡ [] }
+        requires capacity { LAYOUT_MAX ≤ vec_capacity buffer }
         ensures { ServesFirst (request.ReadStatus tag) asked.now self.old self.new }
     {
         if !is_status_tag(tag) {
-            self.reply(asked, &status_layout(TMC_FAILED, tag), data);
+            self.reply(asked, &status_layout(TMC_FAILED, tag), buffer);
         } else if asked.polled {
-            self.reply(asked, &status_layout(TMC_SUCCESS, tag), data);
+            self.reply(asked, &status_layout(TMC_SUCCESS, tag), buffer);
         } else if self.packets.has_status() {
-            self.reply(asked, &status_layout(TMC_INTERRUPT_IN_BUSY, tag), data);
+            self.reply(asked, &status_layout(TMC_INTERRUPT_IN_BUSY, tag), buffer);
         } else {
-            self.reply(asked, &status_layout(TMC_SUCCESS, tag), data);
+            self.reply(asked, &status_layout(TMC_SUCCESS, tag), buffer);
             self.poll_for(asked.head.seqnum, tag);
         }
     }

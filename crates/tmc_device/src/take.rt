@@ -1,8 +1,11 @@
-ghost use Rattle.std.specs.Prelude.{◌≡◌, ◌^◌, ◌<◌, ◌∷◌, List, length, min, false, None, Some, IsSome};
+ghost use Rattle.std.specs.Prelude.{◌≡◌, ◌^◌, ℕ, ◌<◌, ◌∷◌, List, length, min, false, None, Some, IsSome};
 ghost use Rattle.tmc_law.specs.declared.dev_event.DevEvent.TheVariants as event;
-ghost use Rattle.tmc_law.specs.State.{Pending as Submit, Transfer};
-ghost use Rattle.tmc_law.specs.BulkOut.{packets_of as law_packets, TakesEffect};
+ghost use Rattle.tmc_law.specs.State.{Pending as Submit};
+ghost use Rattle.tmc_law.specs.BulkOut.{packets_of as law_packets};
+ghost use Rattle.tmc_law.specs.Logging.{Logs};
 ghost use Rattle.tmc_law.specs.Step.{Take};
+ghost use Rattle.instr_plain.specs.declared.log.LogEntry.TheVariants as entry;
+ghost use Rattle.tmc_wire.specs.declared.header.OutHeader.TheVariants.{Message, Request, Trigger};
 ghost use Rattle.endpoint_pipes.specs.Outcome.{first_of, left_of};
 ghost use Rattle.tmc_law.specs.Reached.{AreFew};
 ghost use Rattle.tmc_device.specs.Sound.{IsSound};
@@ -26,7 +29,7 @@ pub(crate) fn packets_of(size: usize) -> usize
 }
 
 impl Body {
-    ghost use Rattle.tmc_device.specs.Body.{state_of, seen_of, IsReady, IsJudged};
+    ghost use Rattle.tmc_device.specs.Body.{state_of, seen_of, IsReady, IsJudged, IsWhole, HasEffect};
 
     /// Takes so many packets of the first Bulk-OUT submit.
     pub(crate) fn take(&mut self, packets: u32) -> Drove
@@ -119,12 +122,11 @@ impl Body {
 
     /// The transfer in progress is whole, and takes effect under the number of its submit.
     fn take_effect(&mut self, header: OutHeader, seqnum: u32)
-        requires whole { IsWhole header (state_of self.old) }
+        requires whole { IsWhole self.old header }
         requires room { 0 < self.old.exchange.room }
         requires none_waits { self.old.exchange.held.waiting ≡ None }
         requires few { AreFew self.old.packets }
-        ensures effect { (transfer : Transfer) → self.old.transfer ≡ Some transfer →
-            TakesEffect seqnum transfer (record (state_of self.old) { transfer = None }) (state_of self.new) }
+        ensures effect { HasEffect seqnum header self.old self.new }
         ensures outputs { self.new.outputs ≡ self.old.outputs }
     {
         match header {
@@ -135,7 +137,15 @@ impl Body {
     }
 
     /// A part of a message takes effect.
-    fn accept_message(&mut self, seqnum: u32, size: u32, eom: bool) {
+    fn accept_message(&mut self, seqnum: u32, size: u32, eom: bool)
+        requires whole { (tag : ℕ) × IsWhole self.old (Message tag size eom) }
+        requires some { 0 < size }
+        requires room { 0 < self.old.exchange.room }
+        requires none_waits { self.old.exchange.held.waiting ≡ None }
+        requires few { AreFew self.old.packets }
+        ensures effect { (tag : ℕ) → HasEffect seqnum (Message tag size eom) self.old self.new }
+        ensures outputs { self.new.outputs ≡ self.old.outputs }
+    {
         let before = self.exchange.status();
         let end = BULK_HEADER + size as usize;
         self.exchange
@@ -145,7 +155,12 @@ impl Body {
     }
 
     /// A request takes effect.
-    fn accept_request(&mut self, tag: u8, size: u32) {
+    fn accept_request(&mut self, tag: u8, size: u32)
+        requires room { 0 < self.old.exchange.room }
+        requires few { AreFew self.old.packets }
+        ensures effect { (seqnum : ℕ) → HasEffect seqnum (Request tag size) self.old self.new }
+        ensures outputs { self.new.outputs ≡ self.old.outputs }
+    {
         self.transfer.clear();
         self.side.owe(tag, size);
         if self.exchange.unread().is_empty() {
@@ -154,14 +169,24 @@ impl Body {
     }
 
     /// A response is requested where none is unread.
-    fn request_nothing(&mut self) {
+    fn request_nothing(&mut self)
+        requires room { 0 < self.old.exchange.room }
+        requires few { AreFew self.old.packets }
+        ensures bare { Logs entry.Bare (state_of self.old) (state_of self.new) }
+        ensures outputs { self.new.outputs ≡ self.old.outputs }
+    {
         let before = self.exchange.status();
         self.exchange.bare();
         self.packets.notice(before, self.exchange.status());
     }
 
     /// A trigger takes effect.
-    fn accept_trigger(&mut self, seqnum: u32) {
+    fn accept_trigger(&mut self, seqnum: u32)
+        requires room { 0 < self.old.exchange.room }
+        requires few { AreFew self.old.packets }
+        ensures effect { (tag : ℕ) → HasEffect seqnum (Trigger tag) self.old self.new }
+        ensures outputs { self.new.outputs ≡ self.old.outputs }
+    {
         let before = self.exchange.status();
         self.exchange.trigger(seqnum);
         self.packets.notice(before, self.exchange.status());
