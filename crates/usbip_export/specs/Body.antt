@@ -6,6 +6,7 @@ use Rattle.usbip_wire.specs.UpFed.{Held, Means, kept}
 use Rattle.tmc_law.specs.State.{Plugged, start}
 use Rattle.usbip_export.specs.declared.body.Body.{Body}
 use Rattle.usbip_export.specs.Seen.{Seen, phase_of}
+use Rattle.usbip_export.specs.TakenIn.{SpellsOff}
 
 -- the bytes that the reader holds and that were not taken in: a whole message that waits, or the front of one
 abbrev pub held_back : Option Up → Held → List ℕ
@@ -43,3 +44,9 @@ pub record IsSound (body : Body) : Type 0 where
 pub record IsOpen (body : Body) : Type 0 where
   pub unrefused : body.refused ≡ None
   pub plugged : body.device.state.presence ≡ Plugged
+
+-- answers were spelled, and nothing else changed but whether memory was wanting
+pub record IsBodySpelled (old new : Body) : Type 0 where
+  pub state : new.device.state ≡ old.device.state
+  pub off : SpellsOff old.device.puts new.device.puts old.out.items new.out.items
+  pub is : new ≡ record old { device = new.device; out = new.out; wanting = new.wanting }

@@ -1,5 +1,5 @@
 -- what the instrument of a node does by itself
-use Rattle.std.specs.Prelude.{◌≡◌, ◌++◌, ℕ, ◌≤◌, true, List}
+use Rattle.std.specs.Prelude.{◌≡◌, ◌++◌, ℕ, ◌≤◌, true, List, [], ◌∷◌}
 use Rattle.tmc_law.specs.declared.dev_event.DevEvent.{DevEvent}
 use Rattle.tmc_law.specs.declared.dev_event.DevEvent.TheVariants as event
 use Rattle.tmc_law.specs.State.{State}
@@ -38,11 +38,28 @@ pub record IsDue (event : DevEvent) (seen : Seen) : Type 0 where
 abbrev pub all : ℕ
 all = 4294967295
 
--- none of the six calm moves is enabled
-pub record IsCalm (seen : Seen) : Type 0 where
-  pub answer : IsDeclined event.Answer seen
-  pub exec : IsDeclined event.Exec seen
-  pub take : IsDeclined (event.Take all) seen
-  pub begin : IsDeclined (event.Begin all) seen
-  pub fill : IsDeclined (event.Fill all) seen
-  pub notify : IsDeclined event.Notify seen
+-- the six calm moves: answers, execution, packets out, a piece, packets in, and packets of notifications
+abbrev pub calm_moves : List DevEvent
+calm_moves = event.Answer ∷ event.Exec ∷ event.Take all ∷ event.Begin all ∷ event.Fill all ∷ event.Notify ∷ []
+
+abbrev pub AreDeclined : List DevEvent → Seen → Type 0
+AreDeclined [] seen = Unit {0}
+AreDeclined (event ∷ events) seen = IsDeclined event seen × AreDeclined events seen
+
+-- none of the calm moves is enabled
+abbrev pub IsCalm : Seen → Type 0
+IsCalm seen = AreDeclined calm_moves seen
+
+-- these are calm moves
+abbrev pub IsCalmMove : DevEvent → Type 0
+IsCalmMove event.Answer = Unit {0}
+IsCalmMove event.Exec = Unit {0}
+IsCalmMove (event.Take most) = Unit {0}
+IsCalmMove (event.Begin most) = Unit {0}
+IsCalmMove (event.Fill most) = Unit {0}
+IsCalmMove event.Notify = Unit {0}
+IsCalmMove _ = ⊥
+
+abbrev pub AreCalmMoves : List DevEvent → Type 0
+AreCalmMoves [] = Unit {0}
+AreCalmMoves (event ∷ events) = IsCalmMove event × AreCalmMoves events

@@ -7,15 +7,15 @@ use Rattle.usbip_wire.specs.ImportReply.{import_bytes}
 use Rattle.usbip_export.specs.Identity.{busid, instrument, interface}
 
 -- the list of exported devices: the instrument alone
-unfoldable pub device_list : List ℕ
+abbrev pub device_list : List ℕ
 device_list = list_bytes 0 (instrument ∷ []) (interface ∷ [])
 
 -- the instrument is imported
-unfoldable pub import_done : List ℕ
+abbrev pub import_done : List ℕ
 import_done = import_bytes 0 (Some instrument)
 
 -- no such device is there: status 1, and no record
-unfoldable pub import_failed : List ℕ
+abbrev pub import_failed : List ℕ
 import_failed = import_bytes 1 None
 
 -- none of these requests imports the instrument

@@ -24,12 +24,14 @@ pub record Seen : Type 0 where
   -- whether memory was wanting, so that whole messages or answers may wait
   pub wanting : Bool
 
+-- the instrument's state where this field was refused
+abbrev pub closed_by : Option Field → State → State
+closed_by None s = s
+closed_by (Some f) s = record s { presence = Closed f }
+
 -- the state of the law
 abbrev pub standing : Seen → State
-standing seen = by seen.refused where
-  by : Option Field → State
-  by None = seen.state
-  by (Some f) = record seen.state { presence = Closed f }
+standing seen = closed_by seen.refused seen.state
 
 -- what the client sends now
 abbrev pub phase_of : (imported : Bool) → UpPhase

@@ -19,6 +19,12 @@ pub record IsSpelled (before : List Put) (answered : List ℕ) (after : List Put
   pub left : before ≡ puts ++ after
   pub text : SpellAll SpellsPut puts answered
 
+-- some of them were spelled behind these bytes
+pub record SpellsOff (before after : List Put) (old new : List ℕ) : Type 0 where
+  pub answered : List ℕ
+  pub spelled : IsSpelled before answered after
+  pub out : new ≡ old ++ answered
+
 -- Behind the import: a run of the lawful instrument takes in these bytes, and what it puts out is spelled in order. Where
 -- a field is refused the run's last step refuses it.
 pub record Serves (took answered : List ℕ) (old new : Seen) : Type 0 where

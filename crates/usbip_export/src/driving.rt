@@ -8,7 +8,7 @@ use crate::spelling::spell_all;
 use tmc_device::{DevEvent, Drove};
 
 impl Body {
-    ghost use Rattle.usbip_export.specs.Body.{seen_of, IsSound};
+    ghost use Rattle.usbip_export.specs.Body.{seen_of, IsSound, IsBodySpelled};
 
     /// Lets the instrument do what the event says, and spells what it puts out. Where memory is wanting for that, answers
     /// wait.
@@ -23,10 +23,20 @@ impl Body {
         if !self.imported || self.refused.is_some() {
             return Drove::NotEnabled;
         }
-        let drove = self.device.drive(event);
-        if matches!(drove, Drove::Applied) && spell_all(&mut self.device, &mut self.out).is_err() {
-            self.wanting = true;
+        match self.device.drive(event) {
+            Drove::Applied => {
+                self.spell();
+                Drove::Applied
+            }
+            Drove::NotEnabled => Drove::NotEnabled,
+            Drove::Memory => Drove::Memory,
         }
-        drove
+    }
+
+    /// Spells what was put out. Where memory is wanting the answers wait.
+    fn spell(&mut self)
+        ensures { IsBodySpelled self.old self.new }
+    {
+        self.wanting |= spell_all(&mut self.device, &mut self.out).is_err();
     }
 }

@@ -3,7 +3,7 @@
 ghost use Rattle.std.specs.Prelude.{◌≡◌, ◌++◌, ◌∷◌, [], ℕ, List, true, false, IfOk, OnOk, OnErr};
 ghost use Rattle.tmc_law.specs.Put.{Put};
 ghost use Rattle.tmc_law.specs.Run.{SpellsPut};
-ghost use Rattle.usbip_export.specs.TakenIn.{IsSpelled};
+ghost use Rattle.usbip_export.specs.TakenIn.{SpellsOff};
 
 use bytes::BytesMut;
 use tmc_base::Memory;
@@ -34,11 +34,15 @@ fn spell_first(device: &mut Device, out: &mut BytesMut) -> Result<bool, Memory>
 
 /// Spells all answers behind `out`, in their order, and drops them. Where memory is wanting the others are left.
 pub(crate) fn spell_all(device: &mut Device, out: &mut BytesMut) -> Result<(), Memory>
-    ensures spelled { (answered : List ℕ) × IsSpelled device.old.puts answered device.new.puts
-        × (out.new.items ≡ out.old.items ++ answered) }
+    ensures spelled { SpellsOff device.old.puts device.new.puts out.old.items out.new.items }
     ensures state { device.new.state ≡ device.old.state }
     ensures ok { OnOk result (device.new.puts ≡ []) }
 {
-    'answers: while spell_first(device, out)? {}
-    Ok(())
+    'answers: loop {
+        match spell_first(device, out) {
+            Ok(true) => (),
+            Ok(false) => return Ok(()),
+            Err(Memory) => return Err(Memory),
+        }
+    }
 }

@@ -1,0 +1,9 @@
+pub mod Joined
+pub mod More
+pub mod Single
+pub mod Waiting
+pub mod Refused
+pub mod Weights
+pub mod Spelled
+pub mod Driven
+pub mod Calmed
