@@ -7,3 +7,4 @@ pub mod Weights
 pub mod Spelled
 pub mod Driven
 pub mod Calmed
+pub mod Worked

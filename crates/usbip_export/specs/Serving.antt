@@ -4,6 +4,7 @@ use Rattle.tmc_base.specs.declared.link.SendStep.{SendStep}
 use Rattle.tmc_base.specs.declared.link.SendStep.TheVariants as send
 use Rattle.tmc_base.specs.declared.link.PollStep.{PollStep}
 use Rattle.tmc_base.specs.declared.link.PollStep.TheVariants as poll
+use Rattle.tmc_base.specs.Link.{Counts}
 use Rattle.tmc_base.specs.Told.{Told, IsFront, Exchanged}
 use Rattle.tmc_device.specs.Seen.{is_closed}
 use Rattle.usbip_export.specs.Seen.{Seen, standing}
@@ -17,26 +18,42 @@ pub record Works (bytes sent : List ℕ) (old new : Seen) : Type 0 where
   pub taken : TakenIn took answered old new
   pub out : old.out ++ answered ≡ sent ++ new.out
 
--- so many calls on a link, each of which moved a byte or was idle
+-- a call on a link that moved a byte or was idle
+pub data IsCall {A : Type 0} (sends : A → List ℕ → SendStep → A → Type 0) (polls : A → ℕ → PollStep → List ℕ → A → Type 0) (old new : A) : Type 0 where
+  Sent : (piece : List ℕ) (count : ℕ) → 0 < count → sends old piece (send.Took count) new → IsCall sends polls old new
+  Unsent : (piece : List ℕ) → sends old piece send.Idle new → IsCall sends polls old new
+  Got : (room count : ℕ) (bytes : List ℕ) → 0 < count → polls old room (poll.Got count) bytes new → IsCall sends polls old new
+  Quiet : (room : ℕ) (bytes : List ℕ) → polls old room poll.Idle bytes new → IsCall sends polls old new
+
+-- so many such calls, one behind the other
 pub data Calls {A : Type 0} (sends : A → List ℕ → SendStep → A → Type 0) (polls : A → ℕ → PollStep → List ℕ → A → Type 0) (old : A) : ℕ → A → Type 0 where
   none : Calls sends polls old 0 old
-  sent : (n k : ℕ) (piece : List ℕ) (mid new : A) → Calls sends polls old n mid → 0 < k → sends mid piece (send.Took k) new
-      → Calls sends polls old (n + 1) new
-  unsent : (n : ℕ) (piece : List ℕ) (mid new : A) → Calls sends polls old n mid → sends mid piece send.Idle new
-      → Calls sends polls old (n + 1) new
-  got : (n k room : ℕ) (bytes : List ℕ) (mid new : A) → Calls sends polls old n mid → 0 < k → polls mid room (poll.Got k) bytes new
-      → Calls sends polls old (n + 1) new
-  idle : (n room : ℕ) (bytes : List ℕ) (mid new : A) → Calls sends polls old n mid → polls mid room poll.Idle bytes new
-      → Calls sends polls old (n + 1) new
+  more : (count : ℕ) (mid new : A) → Calls sends polls old count mid → IsCall sends polls mid new → Calls sends polls old (count + 1) new
 
 -- What a node and a link did together: the bytes that were sent over the link are the first of what was pending or was
--- answered, and the node was fed the first of those that came, all of them but for a node that is closed, or where memory
--- was wanting.
-pub record Crosses {A : Type 0} (told : A → Told) (whole : Type 0) (node : Seen) (link : A) (later : Seen) (after : A) : Type 0 where
+-- answered, and the node was fed the first of those that came, all of them where it is not closed and memory was not
+-- wanting.
+pub record Crosses {A : Type 0} (tells : A → Told) (ample : Type 0) (node : Seen) (link : A) (later : Seen) (after : A) : Type 0 where
   pub bytes : List ℕ
   pub sent : List ℕ
   pub came : List ℕ
-  pub told : Exchanged sent came (told link) (told after)
+  pub told : Exchanged sent came (tells link) (tells after)
   pub works : Works bytes sent node later
   pub front : IsFront bytes came
-  pub all : whole → is_closed (standing later).presence ≡ false → bytes ≡ came
+  pub shut : is_closed (standing node).presence ≡ true → bytes ≡ []
+  pub all : ample → is_closed (standing later).presence ≡ false → bytes ≡ came
+
+-- the instrument was unplugged: the node is closed, and refused nothing
+pub record IsUnplugged (node : Seen) : Type 0 where
+  pub unrefused : node.refused ≡ None
+  pub shut : is_closed (standing node).presence ≡ true
+
+-- all that was answered was sent
+pub record IsSentOff (node : Seen) : Type 0 where
+  pub spelled : node.puts ≡ []
+  pub sent : node.out ≡ []
+
+-- neither a fault nor a closing was counted
+pub record IsFaultless (old new : Counts) : Type 0 where
+  pub faults : new.faults ≡ old.faults
+  pub closings : new.closings ≡ old.closings

@@ -41,6 +41,26 @@ impl Body {
         spell_all(&mut self.device, &mut self.out)
     }
 
+    /// The same; what memory was wanting for waits.
+    pub(crate) fn calm_down(&mut self) -> Result<(), Memory>
+        requires sound { IsSound self.old }
+        ensures sound { IsSound self.new }
+        ensures moves { Moves (seen_of self.old) (seen_of self.new) }
+        ensures calm { OnOk result (IsCalm (seen_of self.new)) }
+        ensures spelled { OnOk result ((seen_of self.new).puts ≡ []) }
+    {
+        match self.calm() {
+            Ok(()) => {
+                self.wanting = false;
+                Ok(())
+            }
+            Err(Memory) => {
+                self.wanting = true;
+                Err(Memory)
+            }
+        }
+    }
+
     /// Makes calm moves until none is enabled.
     fn move_on(&mut self) -> Result<(), Memory>
         requires sound { IsSound self.old }

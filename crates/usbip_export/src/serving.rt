@@ -1,3 +1,12 @@
+//! The serving of one client over a link.
+
+ghost use Rattle.std.specs.Prelude.{◌≡◌, ◌≢◌, ◌↔◌, ◌⊎◌, ◌<◌, [], length, Some, None};
+ghost use Rattle.tmc_base.specs.declared.field.Field as field;
+ghost use Rattle.tmc_base.specs.Faults.{Rose};
+ghost use Rattle.tmc_base.specs.Link.{Counts};
+ghost use Rattle.usbip_export.specs.Events.{IsCalm};
+ghost use Rattle.usbip_export.specs.Serving.{IsCall, Calls, Crosses, IsUnplugged, IsSentOff, IsFaultless};
+
 use crate::{Fed, Node};
 use tmc_base::{Field, Link, PollStep, SendStep};
 
@@ -19,33 +28,53 @@ pub enum ServeEnd {
 /// The most bytes that one poll asks for.
 const PIECE: usize = 4_096;
 
-pub fn serve_link<L: Link>(node: &mut Node, link: &mut L, turns: u64) -> ServeEnd {
+/// Serves a client over a link, in at most `turns` calls on it.
+///
+/// Before each call the node makes its calm moves. All answered bytes are sent before the link is polled. It ends at once
+/// where the node refuses a field, where the link closes or fails, and where the instrument is unplugged and all was sent.
+pub fn serve_link<L: Link>(node: &mut Node, link: &mut L, turns: u64) -> ServeEnd
+    ensures crosses { Crosses L.told (result ≢ ServeEnd.Memory) node.old link.old node.new link.new }
+    ensures closed { result ≡ ServeEnd.Closed
+        → Rose (L.counts link.old).closings (L.counts link.new).closings ⊎ IsUnplugged node.new }
+    ensures refused { (f : field.Field) → result ≡ ServeEnd.Refused f ↔ node.new.refused ≡ Some f }
+    ensures fault { result ≡ ServeEnd.LinkFault → Rose (L.counts link.old).faults (L.counts link.new).faults }
+    ensures spent { result ≡ ServeEnd.Spent → Calls L.sends L.polls link.old turns link.new }
+    ensures calm { (result ≡ ServeEnd.Closed) ⊎ (result ≡ ServeEnd.Spent) → IsCalm node.new }
+    ensures sent { result ≡ ServeEnd.Closed → IsSentOff node.new }
+{
     let mut piece = [0; PIECE];
     let mut made = 0;
-    loop {
-        if node.calm().is_err() {
-            return ServeEnd::Memory;
-        }
-        if let Some(field) = node.refused() {
-            return ServeEnd::Refused(field);
-        }
-        if node.closed() && node.pending_out().is_empty() {
-            return ServeEnd::Closed;
-        }
-        if made == turns {
-            return ServeEnd::Spent;
+    'turns: loop {
+        if let Some(end) = settle(node, made == turns) {
+            return end;
         }
         made += 1;
-        if let Some(end) = turn(node, link, &mut piece) {
+        if let Some(end) = call(node, link, &mut piece) {
             return end;
         }
     }
 }
 
-/// One call on the link.
-fn turn<L: Link>(node: &mut Node, link: &mut L, piece: &mut [u8]) -> Option<ServeEnd>
-    requires { 0 < length piece.old }
-{
+/// Lets the node make its calm moves, and tells what ends the serving before a further call.
+fn settle(node: &mut Node, spent: bool) -> Option<ServeEnd> {
+    let calmed = node.calm();
+    if let Some(field) = node.refused() {
+        return Some(ServeEnd::Refused(field));
+    }
+    if calmed.is_err() {
+        return Some(ServeEnd::Memory);
+    }
+    if node.closed() && node.pending_out().is_empty() {
+        return Some(ServeEnd::Closed);
+    }
+    if spent {
+        return Some(ServeEnd::Spent);
+    }
+    None
+}
+
+/// One call on the link: bytes that are pending are sent before any are polled.
+fn call<L: Link>(node: &mut Node, link: &mut L, piece: &mut [u8]) -> Option<ServeEnd> {
     if node.pending_out().is_empty() {
         receive(node, link, piece)
     } else {

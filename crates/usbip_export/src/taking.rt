@@ -49,6 +49,19 @@ impl Body {
         spell_all(&mut self.device, &mut self.out)
     }
 
+    /// Takes in each message that is whole. Where memory is wanting the rest waits.
+    pub(crate) fn take_on(&mut self)
+        requires sound { IsSound self.old }
+        ensures sound { IsSound self.new }
+        ensures moves { Moves (seen_of self.old) (seen_of self.new) }
+        ensures caught_up { (seen_of self.new).wanting ≡ false → IsOpen self.new → IsCaughtUp (seen_of self.new) }
+    {
+        match self.take_in() {
+            Ok(()) => self.wanting = false,
+            Err(Memory) => self.wanting = true,
+        }
+    }
+
     /// Whether the node takes bytes in.
     pub(crate) fn is_open(&self) -> bool
         ensures { MatchBool result (IsOpen self.now) (IsOpen self.now → ⊥) }
