@@ -3,13 +3,14 @@ use Rattle.std.proofs.Common.{◌≡◌, ◌∙◌, ℕ, true, false, List, [], 
 use Rattle.tmc_wire.specs.declared.class_request.ClassRequest.{ClassRequest}
 use Rattle.tmc_wire.specs.declared.class_request.ClassRequest.TheVariants.{AbortOut, CheckOut, AbortIn, CheckIn, Clear, CheckClear}
 use Rattle.tmc_wire.specs.ClassAnswer.{answer_length}
+use Rattle.tmc_wire.specs.ClassStatus.{STATUS_PENDING, STATUS_FAILED}
 use Rattle.tmc_law.specs.Endpoint.{Endpoint, Control, BulkOut, BulkIn, InterruptIn}
 use Rattle.tmc_law.specs.State.{State, with_halt, Pending, Transfer, Side, Idle, Owed, Sending, Running, Nothing, AbortsOut, AbortsIn, Clears}
 use Rattle.tmc_law.specs.Put.{stalled}
 use Rattle.tmc_law.specs.Halts.{all_ended, halt_answers}
 use Rattle.tmc_law.specs.Class.{StaysPending}
 use Rattle.tmc_law.specs.Aborts as aborts
-use Rattle.tmc_law.specs.Aborts.{Served, Declined, Busy, NoTransfer, Another, in_tag, out_tag, told_tag, tag_of, STATUS_SUCCESS, STATUS_FAILED}
+use Rattle.tmc_law.specs.Aborts.{Served, Declined, Busy, NoTransfer, Another, in_tag, out_tag, told_tag, tag_of}
 use Rattle.host_joint.specs.Positions as position_of
 use Rattle.host_joint.specs.Positions.{Position, IsAt, InTag, NoPiece, IsOwed, IsSent, OutTag, rests, in_begun, in_wants, in_ended, out_begun, out_first, out_unfinished, out_aborted, anything, clears, cleared}
 use Rattle.host_joint.specs.Requests.{Choice, Says, SaysOne, SaysOther, out_rests, in_aborts, in_fails, in_checked, in_pending, out_aborts, out_fails, out_checked, out_pending, begins_clear, never, clear_checked, clear_pending, usable_again, usable_cleared}
@@ -94,7 +95,7 @@ check_in s given is rest = subst (λ (r : Running). Serving CheckIn in_checked i
 check_in_pends : (s : State) (layout : List ℕ) (given : ℕ) → s.running ≡ AbortsIn false given → IsAt in_ended s → StaysPending s.running CheckIn layout
     → (length layout ≡ answer_length CheckIn) × Says in_checked in_pending layout s
 check_in_pends s layout given is rest h =
-    let l : layout ≡ aborts.check_in_layout aborts.STATUS_PENDING 0 given = subst (λ (r : Running). StaysPending r CheckIn layout) is h in
+    let l : layout ≡ aborts.check_in_layout STATUS_PENDING 0 given = subst (λ (r : Running). StaysPending r CheckIn layout) is h in
     (ap (λ (x : List ℕ). length x) l, SaysOther (given, l) rest)
 
 pub check_in_letter : IsLetter CheckIn in_ended in_checked in_pending
@@ -162,7 +163,7 @@ check_out s rest = subst (λ (r : Running). Serving CheckOut out_checked out_pen
 
 check_out_pends : (s : State) (layout : List ℕ) → IsAt out_aborted s → StaysPending s.running CheckOut layout → (length layout ≡ answer_length CheckOut) × Says out_checked out_pending layout s
 check_out_pends s layout rest h =
-    let l : layout ≡ aborts.check_out_layout aborts.STATUS_PENDING = subst (λ (r : Running). StaysPending r CheckOut layout) rest.running h in
+    let l : layout ≡ aborts.check_out_layout STATUS_PENDING = subst (λ (r : Running). StaysPending r CheckOut layout) rest.running h in
     (ap (λ (x : List ℕ). length x) l, SaysOther l rest)
 
 pub check_out_letter : IsLetter CheckOut out_aborted out_checked out_pending
@@ -213,7 +214,7 @@ check_clear s rest = subst (λ (r : Running). Serving CheckClear clear_checked c
 
 check_clear_pends : (s : State) (layout : List ℕ) → IsAt clears s → StaysPending s.running CheckClear layout → (length layout ≡ answer_length CheckClear) × Says clear_checked clear_pending layout s
 check_clear_pends s layout rest h =
-    let l : layout ≡ aborts.STATUS_PENDING ∷ 0 ∷ [] = subst (λ (r : Running). StaysPending r CheckClear layout) rest.running h in
+    let l : layout ≡ STATUS_PENDING ∷ 0 ∷ [] = subst (λ (r : Running). StaysPending r CheckClear layout) rest.running h in
     (ap (λ (x : List ℕ). length x) l, SaysOther l rest)
 
 pub check_clear_letter : IsLetter CheckClear clears clear_checked clear_pending

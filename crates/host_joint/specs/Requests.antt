@@ -7,12 +7,13 @@ use Rattle.usb_setup.specs.declared.setup.Setup.{Setup}
 use Rattle.tmc_wire.specs.declared.class_request.ClassRequest.{ClassRequest}
 use Rattle.tmc_wire.specs.ControlTable.{IsRow}
 use Rattle.tmc_wire.specs.ClassAnswer.{answer_length}
+use Rattle.tmc_wire.specs.ClassStatus.{STATUS_SUCCESS, STATUS_PENDING, STATUS_FAILED}
 use Rattle.tmc_law.specs.Endpoint.{Endpoint, Control, BulkOut, BulkIn, ends, number_of}
 use Rattle.tmc_law.specs.State.{State, arrived, start}
 use Rattle.tmc_law.specs.Put.{Put, success}
 use Rattle.tmc_law.specs.Control.{Asks}
 use Rattle.tmc_law.specs.Standard.{IsStandard, ClearHalt}
-use Rattle.tmc_law.specs.Aborts.{STATUS_SUCCESS, STATUS_PENDING, STATUS_FAILED, check_out_layout, check_in_layout}
+use Rattle.tmc_law.specs.Aborts.{check_out_layout, check_in_layout}
 use Rattle.tmc_law.specs.Step.{Move, Unplug, Steps}
 use Rattle.tmc_law.specs.Run.{Entry, Runs, taken}
 use Rattle.host_joint.specs.Lines.{Sent, sent_to, Event, Gives, events_of, unlinks_in, AllFitting}

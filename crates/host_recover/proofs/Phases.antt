@@ -4,7 +4,8 @@ use Rattle.std.specs.Prelude.{◌==◌, if◌then◌else◌}
 use Rattle.std.proofs.lemmas.Bool.{eqb-true, eq-eqb}
 use Rattle.tmc_wire.specs.declared.class_request.ClassRequest.{ClassRequest}
 use Rattle.tmc_wire.specs.declared.class_request.ClassRequest.TheVariants as class
-use Rattle.host_recover.specs.Letter.{Letter, Asked, Cleared, Drained, Submit, Ask, Clear, Read, submit_of, Says, Success, Pending, Queued, Failed, Otherwise, Ending, Full, Short, Faulty, BulkIn, Notify, BulkOut, pending_says, says_of, status_success, status_pending, status_failed}
+use Rattle.tmc_wire.specs.ClassStatus.{STATUS_SUCCESS, STATUS_PENDING, STATUS_FAILED}
+use Rattle.host_recover.specs.Letter.{Letter, Asked, Cleared, Drained, Submit, Ask, Clear, Read, submit_of, Says, Success, Pending, Queued, Failed, Otherwise, Ending, Full, Short, Faulty, BulkIn, Notify, BulkOut, pending_says, says_of}
 use Rattle.host_recover.specs.Goes.{GoesOn, is_stuck}
 
 pub data Phase : Type 0 where
@@ -248,7 +249,7 @@ may_say request says = true
 
 says_all : (request : ClassRequest) → may_say request Success ≡ true → may_say request Failed ≡ true → may_say request Otherwise ≡ true
     → ((second : ℕ) → may_say request (pending_says request second) ≡ true) → (status second : ℕ) → may_say request (says_of request status second) ≡ true
-says_all request a b c d status second = step (status == status_success) (status == status_pending) (status == status_failed)
+says_all request a b c d status second = step (status == STATUS_SUCCESS) (status == STATUS_PENDING) (status == STATUS_FAILED)
   where
     step : (x y z : Bool) → may_say request (if x then Success else if y then pending_says request second else if z then Failed else Otherwise) ≡ true
     step true y z = a

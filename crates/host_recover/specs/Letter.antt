@@ -3,6 +3,7 @@
 use Rattle.std.specs.Prelude.{ℕ, ◌==◌, ◌%◌, if◌then◌else◌}
 use Rattle.tmc_wire.specs.declared.class_request.ClassRequest.{ClassRequest}
 use Rattle.tmc_wire.specs.declared.class_request.ClassRequest.TheVariants as class
+use Rattle.tmc_wire.specs.ClassStatus.{STATUS_SUCCESS, STATUS_PENDING, STATUS_FAILED}
 
 -- what an answer says: success, pending without and with data to read, failed, or another status
 pub data Says : Type 0 where
@@ -43,16 +44,6 @@ submit_of (Asked request says) = Ask request
 submit_of (Cleared endpoint) = Clear endpoint
 submit_of (Drained ending) = Read
 
--- USBTMC 1.0, table 16: the first byte of each answer
-abbrev pub status_success : ℕ
-status_success = 0x01
-
-abbrev pub status_pending : ℕ
-status_pending = 0x02
-
-abbrev pub status_failed : ℕ
-status_failed = 0x80
-
 -- Pending, by bit 0 of the second byte: data waits to be read. The check of an aborted message has no such bit, and an
 -- INITIATE request has no pending answer.
 abbrev pub pending_says : ClassRequest → (second : ℕ) → Says
@@ -64,7 +55,7 @@ pending_says request second = Otherwise
 -- what an answer says, by its status and its second byte
 abbrev pub says_of : ClassRequest → (status second : ℕ) → Says
 says_of request status second =
-    if status == status_success then Success
-    else if status == status_pending then pending_says request second
-    else if status == status_failed then Failed
+    if status == STATUS_SUCCESS then Success
+    else if status == STATUS_PENDING then pending_says request second
+    else if status == STATUS_FAILED then Failed
     else Otherwise

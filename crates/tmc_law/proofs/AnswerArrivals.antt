@@ -6,12 +6,12 @@ use Rattle.usbip_wire.specs.declared.unlink.UnlinkHead.{UnlinkHead}
 use Rattle.usbip_wire.specs.declared.dirs.Outstanding.{Outstanding}
 use Rattle.usbip_wire.specs.declared.dirs.Outstanding.TheVariants as outstanding
 use Rattle.usbip_wire.specs.Dirs.{find, others}
+use Rattle.tmc_wire.specs.ClassStatus.{STATUS_SUCCESS}
 use Rattle.tmc_law.specs.Endpoint.{Endpoint, Control, BulkOut, BulkIn, InterruptIn}
 use Rattle.tmc_law.specs.State.{State, Pending, arrived, queue_of, with_queue, pending, Avoids}
 use Rattle.tmc_law.specs.Put.{Put, answer_of, unlink_answer, success, stalled, unlinked}
 use Rattle.tmc_law.specs.Queues.{Arrives, Queued, TurnedAway, Unlinks, Hits, Polled, Misses, Holds}
 use Rattle.tmc_law.specs.Status.{status_layout}
-use Rattle.tmc_law.specs.Aborts.{STATUS_SUCCESS}
 use Rattle.tmc_law.proofs.AnswerBytes.{success_is, stalled_is, unlinked_is, sent_back_fits}
 use Rattle.tmc_law.proofs.Outstanding.{NoneHas, find_new, find_others, none_more, none_others, none_left}
 use Rattle.tmc_law.proofs.Owing.{asked_by, IsOwed, AreListed, avoids_at, avoids_with, listed_more, listed_apart, listed_at, listed_rest, listed_without, listed_answered}

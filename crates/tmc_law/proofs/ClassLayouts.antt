@@ -2,10 +2,11 @@
 use Rattle.std.proofs.Common.{◌≡◌, ℕ, ◌<◌, ◌^◌, Bool, true, false, List, [], ◌∷◌, length, drop, Option, refl, sym, ap, subst, lit<}
 use Rattle.tmc_wire.specs.declared.class_request.ClassRequest.{ClassRequest}
 use Rattle.tmc_wire.specs.declared.class_request.ClassRequest.TheVariants as request
+use Rattle.tmc_wire.specs.ClassStatus.{STATUS_SUCCESS}
 use Rattle.instr_plain.specs.declared.remote.RemoteAct.{RemoteAct}
 use Rattle.instr_plain.specs.declared.remote.RemoteAct.TheVariants as act
 use Rattle.tmc_law.specs.State.{State, start, Pending, Running, Nothing, AbortsOut, AbortsIn, Clears}
-use Rattle.tmc_law.specs.Aborts.{Served, STATUS_SUCCESS, Declined, AbortsBulkOut, AbortsBulkIn, ClearsAll, DoesClear, check_out_layout, check_in_layout, checked_out, checked_in, checked_clear}
+use Rattle.tmc_law.specs.Aborts.{Served, Declined, AbortsBulkOut, AbortsBulkIn, ClearsAll, DoesClear, check_out_layout, check_in_layout, checked_out, checked_in, checked_clear}
 use Rattle.tmc_law.specs.Aborts as abort
 use Rattle.tmc_law.specs.Status.{ReadsStatus, status_layout}
 use Rattle.tmc_law.specs.Status as status

@@ -4,6 +4,7 @@ use Rattle.usb_setup.specs.declared.setup.Setup.{Setup}
 use Rattle.tmc_wire.specs.declared.class_request.ClassRequest.{ClassRequest}
 use Rattle.tmc_wire.specs.declared.class_request.ClassRequest.TheVariants.{AbortOut, CheckOut, AbortIn, CheckIn, Clear, CheckClear, Capabilities, Pulse, ReadStatus, Ren, GoLocal, Lockout}
 use Rattle.tmc_wire.specs.ControlTable.{IsRow}
+use Rattle.tmc_wire.specs.ClassStatus.{STATUS_SUCCESS}
 use Rattle.instr_plain.specs.declared.log.LogEntry.TheVariants as entry
 use Rattle.tmc_law.specs.Endpoint.{BulkOut, BulkIn, packet_size, ends}
 use Rattle.tmc_law.specs.State.{State, Pending, Piece, Waiting, Side, Idle, Owed, Sending, Running, Nothing, AbortsOut, AbortsIn, Clears, Packet, StatusPacket, room}
@@ -216,7 +217,7 @@ abort_in_one tag s a b (aborts.DoesAbort free some is) (aborts.DoesAbort free2 s
 clears_one : (s : State) (a b : Served) → Once s.standing → aborts.ClearsAll s a → aborts.ClearsAll s b → a ≡ b
 clears_one s a b once (aborts.DoesClear t logs is) (aborts.DoesClear u logs2 is2) =
     is
-    ∙ ap (λ (x : State). record { layout = aborts.STATUS_SUCCESS ∷ []; behind = aborts.part_answer s.bulk_in ++ halt_answers BulkOut s; state = x }) (logs_one entry.Clear (aborts.cleared s) t u once logs logs2)
+    ∙ ap (λ (x : State). record { layout = STATUS_SUCCESS ∷ []; behind = aborts.part_answer s.bulk_in ++ halt_answers BulkOut s; state = x }) (logs_one entry.Clear (aborts.cleared s) t u once logs logs2)
     ∙ sym is2
 
 polls_one : (seq tag : ℕ) (s t u : State) → Once s.standing → status.Polls seq tag s t → status.Polls seq tag s u → t ≡ u
@@ -240,11 +241,11 @@ reads_status_one tag submit s a b once (status.PolledNow t good fresh free polli
 reads_status_one tag submit s a b once (status.PolledNow t good fresh free polling is) (status.PolledBefore good2 before2 is2) = bools submit.polled before2 fresh
 reads_status_one tag submit s a b once (status.PolledNow t good fresh free polling is) (status.Busy good2 fresh2 queued2 is2) = bools (is_queued is_status s.packets) queued2 free
 reads_status_one tag submit s a b once (status.PolledNow t good fresh free polling is) (status.PolledNow t2 good2 fresh2 free2 polling2 is2) =
-    is ∙ ap (λ (x : State). record { layout = status.status_layout aborts.STATUS_SUCCESS tag; behind = []; state = x }) (polls_one submit.head.seqnum tag s t t2 once polling polling2) ∙ sym is2
+    is ∙ ap (λ (x : State). record { layout = status.status_layout STATUS_SUCCESS tag; behind = []; state = x }) (polls_one submit.head.seqnum tag s t t2 once polling polling2) ∙ sym is2
 
 operates_one : (act : _) (s : State) (a b : Served) → Once s.standing → class.Operates act s a → class.Operates act s b → a ≡ b
 operates_one act s a b once (class.DoesOperate t logs is) (class.DoesOperate u logs2 is2) =
-    is ∙ ap (λ (x : State). record { layout = aborts.STATUS_SUCCESS ∷ []; behind = []; state = x }) (logs_one (entry.Remote act) s t u once logs logs2) ∙ sym is2
+    is ∙ ap (λ (x : State). record { layout = STATUS_SUCCESS ∷ []; behind = []; state = x }) (logs_one (entry.Remote act) s t u once logs logs2) ∙ sym is2
 
 serves_one : (request : ClassRequest) (submit : Pending) (s : State) (a b : Served) → Once s.standing → class.Serves request submit s a → class.Serves request submit s b → a ≡ b
 serves_one (AbortOut tag) submit s a b once h k = abort_out_one tag s a b h k

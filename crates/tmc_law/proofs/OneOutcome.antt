@@ -4,12 +4,12 @@ use Rattle.usbip_wire.specs.declared.submit.SubmitHead.{SubmitHead}
 use Rattle.usbip_wire.specs.declared.unlink.UnlinkHead.{UnlinkHead}
 use Rattle.usbip_wire.specs.Up as up
 use Rattle.usb_setup.specs.declared.setup.Setup.{Setup}
+use Rattle.tmc_wire.specs.ClassStatus.{STATUS_SUCCESS}
 use Rattle.tmc_law.specs.Endpoint.{Endpoint, Control, BulkOut, BulkIn, InterruptIn, number_of}
 use Rattle.tmc_law.specs.State.{State, Pending, arrived, queue_of, with_queue, pending, Avoids}
 use Rattle.tmc_law.specs.Put.{Put, success, unlink_answer}
 use Rattle.tmc_law.specs.Control.{control_answer}
 use Rattle.tmc_law.specs.Halts.{HaltsItself, DoesHalt}
-use Rattle.tmc_law.specs.Aborts.{STATUS_SUCCESS}
 use Rattle.tmc_law.specs.Status.{status_layout}
 use Rattle.tmc_law.specs.Queues.{Arrives, Queued, TurnedAway, Unlinks, Hits, Polled, Misses}
 use Rattle.tmc_law.specs.Step.{Move, Comes, Refuses, Take, Exec, Begin, Fill, Answer, Pend, Poll, Notify, Halt, Unplug, Leads}

@@ -7,11 +7,11 @@ use Rattle.usbip_wire.specs.declared.unlink.UnlinkHead.{UnlinkHead}
 use Rattle.usbip_wire.specs.declared.urb.Dir.{Dir}
 use Rattle.usbip_wire.specs.declared.urb.Dir.TheVariants.{Out, In}
 use Rattle.usbip_wire.specs.Up as up
+use Rattle.tmc_wire.specs.ClassStatus.{STATUS_SUCCESS}
 use Rattle.tmc_law.specs.Endpoint.{Endpoint, Control, BulkOut, BulkIn, InterruptIn, number_of, way_of}
 use Rattle.tmc_law.specs.State.{State, Pending, Plugged, start, arrived, queue_of, with_queue, pending, Avoids, is_halted}
 use Rattle.tmc_law.specs.Put.{Put, answer_of, unlink_answer, success, stalled, unlinked}
 use Rattle.tmc_law.specs.Control.{control_answer}
-use Rattle.tmc_law.specs.Aborts.{STATUS_SUCCESS}
 use Rattle.tmc_law.specs.Status.{status_layout}
 use Rattle.tmc_law.specs.Queues.{IsSubmit, IsUnlink, IsTaken, Arrives, Queued, TurnedAway, Unlinks, Hits, Polled, Misses, pending_most}
 use Rattle.tmc_law.specs.Step.{Comes, Steps}

@@ -3,31 +3,13 @@ use Rattle.std.specs.Prelude.{◌≡◌, ◌≢◌, ℕ, true, false, List, [], 
 use Rattle.std.specs.Int.{w32, to_le_bytes}
 use Rattle.tmc_wire.specs.declared.header.OutHeader.{OutHeader}
 use Rattle.tmc_wire.specs.declared.header.OutHeader.TheVariants.{Message, Request, Trigger}
+use Rattle.tmc_wire.specs.ClassStatus.{STATUS_SUCCESS, STATUS_PENDING, STATUS_FAILED, STATUS_TRANSFER_NOT_IN_PROGRESS, STATUS_SPLIT_NOT_IN_PROGRESS, STATUS_SPLIT_IN_PROGRESS}
 use Rattle.instr_plain.specs.declared.log.LogEntry.TheVariants as entry
 use Rattle.tmc_law.specs.Endpoint.{BulkOut}
 use Rattle.tmc_law.specs.State.{State, Pending, Transfer, Side, Idle, Owed, Sending, Running, Nothing, AbortsOut, AbortsIn, Clears, data_given}
 use Rattle.tmc_law.specs.Put.{Put, ended, success}
 use Rattle.tmc_law.specs.Logging.{Logs}
 use Rattle.tmc_law.specs.Halts.{halts, halt_answers}
-
--- USBTMC_status (USBTMC 1.0, table 16)
-abbrev pub STATUS_SUCCESS : ℕ
-STATUS_SUCCESS = 0x01
-
-abbrev pub STATUS_PENDING : ℕ
-STATUS_PENDING = 0x02
-
-abbrev pub STATUS_FAILED : ℕ
-STATUS_FAILED = 0x80
-
-abbrev pub STATUS_TRANSFER_NOT_IN_PROGRESS : ℕ
-STATUS_TRANSFER_NOT_IN_PROGRESS = 0x81
-
-abbrev pub STATUS_SPLIT_NOT_IN_PROGRESS : ℕ
-STATUS_SPLIT_NOT_IN_PROGRESS = 0x82
-
-abbrev pub STATUS_SPLIT_IN_PROGRESS : ℕ
-STATUS_SPLIT_IN_PROGRESS = 0x83
 
 -- the tag of a transfer's header
 abbrev pub tag_of : OutHeader → ℕ

@@ -4,6 +4,7 @@ use Rattle.usb_setup.specs.declared.setup.Setup.{Setup}
 use Rattle.tmc_wire.specs.declared.class_request.ClassRequest.{ClassRequest}
 use Rattle.tmc_wire.specs.declared.class_request.ClassRequest.TheVariants.{AbortOut, CheckOut, AbortIn, CheckIn, Clear, CheckClear, Capabilities, Pulse, ReadStatus, Ren, GoLocal, Lockout}
 use Rattle.tmc_wire.specs.ControlTable.{IsRow}
+use Rattle.tmc_wire.specs.ClassStatus.{STATUS_SUCCESS, STATUS_PENDING}
 use Rattle.instr_plain.specs.declared.remote.RemoteAct.{RemoteAct}
 use Rattle.instr_plain.specs.declared.remote.RemoteAct.TheVariants as act
 use Rattle.instr_plain.specs.declared.log.LogEntry.TheVariants as entry
@@ -13,7 +14,7 @@ use Rattle.tmc_law.specs.Put.{Put, answer_of, stalled}
 use Rattle.tmc_law.specs.Logging.{Logs, is_queued}
 use Rattle.tmc_law.specs.Control.{Asks, control_answer}
 use Rattle.tmc_law.specs.Standard.{Standard, IsStandard, standard_layout, standard_effect}
-use Rattle.tmc_law.specs.Aborts.{Served, STATUS_SUCCESS, STATUS_PENDING, AbortsBulkOut, AbortsBulkIn, ClearsAll, checked_out, checked_in, checked_clear, check_out_layout, check_in_layout}
+use Rattle.tmc_law.specs.Aborts.{Served, AbortsBulkOut, AbortsBulkIn, ClearsAll, checked_out, checked_in, checked_clear, check_out_layout, check_in_layout}
 use Rattle.tmc_law.specs.Status.{ReadsStatus, Polls, IsStatusTag, is_status}
 
 -- GET_CAPABILITIES (USBTMC 1.0, table 37; USB488 1.0, table 8): bcdUSBTMC 1.00, an indicator pulse, neither talk-only nor

@@ -8,11 +8,11 @@ use Rattle.usbip_wire.specs.Submit.{Carries}
 use Rattle.usb_setup.specs.declared.setup.Setup.{Setup}
 use Rattle.tmc_wire.specs.declared.class_request.ClassRequest.TheVariants.{ReadStatus}
 use Rattle.tmc_wire.specs.ControlTable.{IsRow}
+use Rattle.tmc_wire.specs.ClassStatus.{STATUS_SUCCESS}
 use Rattle.tmc_law.specs.Endpoint.{Endpoint, number_of, way_of, ends}
 use Rattle.tmc_law.specs.State.{State, Pending, arrived, queue_of, with_queue, pending, Avoids, is_halted}
 use Rattle.tmc_law.specs.Put.{Put, answer_of, unlink_answer, success, stalled, unlinked}
 use Rattle.tmc_law.specs.Control.{Asks, control_answer}
-use Rattle.tmc_law.specs.Aborts.{STATUS_SUCCESS}
 use Rattle.tmc_law.specs.Status.{status_layout}
 
 -- a device has at most so many pending submits

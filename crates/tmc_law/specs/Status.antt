@@ -1,5 +1,6 @@
 -- READ_STATUS_BYTE, and the packets on Interrupt-IN (USB488 1.0, sections 3.4 and 4.3.1)
 use Rattle.std.specs.Prelude.{◌≡◌, ℕ, ◌+◌, ◌<◌, ◌≤◌, Bool, true, false, List, [], ◌∷◌, ◌++◌}
+use Rattle.tmc_wire.specs.ClassStatus.{STATUS_SUCCESS, STATUS_FAILED, STATUS_INTERRUPT_IN_BUSY}
 use Rattle.instr_plain.specs.declared.log.LogEntry.TheVariants as entry
 use Rattle.instr_plain.specs.Standing.{polled_byte}
 use Rattle.tmc_law.specs.Endpoint.{InterruptIn}
@@ -7,11 +8,7 @@ use Rattle.tmc_law.specs.State.{State, Pending, Packet, StatusPacket, ServicePac
 use Rattle.tmc_law.specs.Put.{Put, ended, success}
 use Rattle.tmc_law.specs.Logging.{Logs, is_queued}
 use Rattle.tmc_law.specs.Halts.{halts, halt_answers}
-use Rattle.tmc_law.specs.Aborts.{Served, STATUS_SUCCESS, STATUS_FAILED}
-
--- USB488 1.0, table 11
-abbrev pub STATUS_INTERRUPT_IN_BUSY : ℕ
-STATUS_INTERRUPT_IN_BUSY = 0x20
+use Rattle.tmc_law.specs.Aborts.{Served}
 
 abbrev pub is_status : Packet → Bool
 is_status (StatusPacket tag byte) = true

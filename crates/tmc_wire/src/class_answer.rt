@@ -27,7 +27,7 @@ use tmc_base::{Field, Layer, Name};
 /// The answer to a class request: USBTMC 1.0 section 4.2.1 and USB488 1.0 section 4.3.
 #[derive(Clone, Copy, Debug, PartialEq, Eq)]
 pub struct ClassAnswer {
-    /// USBTMC_status: 0x01 is success.
+    /// USBTMC_status, as [`crate::STATUS_SUCCESS`] and the others are.
     pub status: u8,
     /// The answer's second byte: a tag, bmAbortBulkIn or bmClear; 0 where the layout has one byte.
     pub second: u8,

@@ -1,3 +1,29 @@
+//! The class requests, by their setup packets: USBTMC 1.0 section 4.2.1 and table 15, USB488 1.0 section 4.3 and table 9.
+//! Numbers of two bytes are little-endian; wLength is the length of the answer in bytes.
+//!
+//! | Offset | Size | Field | Value |
+//! |---|---|---|---|
+//! | 0 | 1 | bmRequestType | 0xA2 to an endpoint, 0xA1 to the interface |
+//! | 1 | 1 | bRequest | as below |
+//! | 2 | 2 | wValue | a tag, 1 or 0 for remote enable, else 0 |
+//! | 4 | 2 | wIndex | the endpoint's address, or the interface's number |
+//! | 6 | 2 | wLength | as below |
+//!
+//! | bRequest | Name | To | wValue | wLength |
+//! |---|---|---|---|---|
+//! | 1 | INITIATE_ABORT_BULK_OUT | Bulk-OUT | tag | 2 |
+//! | 2 | CHECK_ABORT_BULK_OUT_STATUS | Bulk-OUT | 0 | 8 |
+//! | 3 | INITIATE_ABORT_BULK_IN | Bulk-IN | tag | 2 |
+//! | 4 | CHECK_ABORT_BULK_IN_STATUS | Bulk-IN | 0 | 8 |
+//! | 5 | INITIATE_CLEAR | interface | 0 | 1 |
+//! | 6 | CHECK_CLEAR_STATUS | interface | 0 | 2 |
+//! | 7 | GET_CAPABILITIES | interface | 0 | 24 |
+//! | 64 | INDICATOR_PULSE | interface | 0 | 1 |
+//! | 128 | READ_STATUS_BYTE | interface | tag | 3 |
+//! | 160 | REN_CONTROL | interface | 1 or 0 | 1 |
+//! | 161 | GO_TO_LOCAL | interface | 0 | 1 |
+//! | 162 | LOCAL_LOCKOUT | interface | 0 | 1 |
+
 ghost use Rattle.std.specs.Prelude.{◌≡◌, ◌%◌, ◌↔◌, Some, None, IfSome};
 ghost use Rattle.tmc_wire.specs.declared.class_request.ClassRequest.{ClassRequest};
 ghost use Rattle.tmc_wire.specs.ControlTable.{fields, row, TagFits, IsRow};

@@ -27,4 +27,8 @@ pub use laws::{
     transfers_are_read_again,
 };
 pub use notify::{Notify, read_notify};
-pub use usbtmc::BULK_HEADER;
+pub use usb488::STATUS_INTERRUPT_IN_BUSY;
+pub use usbtmc::{
+    BULK_HEADER, STATUS_FAILED, STATUS_PENDING, STATUS_SPLIT_IN_PROGRESS,
+    STATUS_SPLIT_NOT_IN_PROGRESS, STATUS_SUCCESS, STATUS_TRANSFER_NOT_IN_PROGRESS,
+};

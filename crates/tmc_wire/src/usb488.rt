@@ -16,6 +16,9 @@ pub(crate) const LOCAL_LOCKOUT: u8 = 162;
 /// bNotify1 of an Interrupt-IN packet that READ_STATUS_BYTE asks for is this and the request's tag: section 3.4.2.
 pub(crate) const STATUS_PACKET: u8 = 0x80;
 
+/// USBTMC_status of an answer to READ_STATUS_BYTE: an earlier status packet was not sent yet: table 11.
+pub const STATUS_INTERRUPT_IN_BUSY: u8 = 0x20;
+
 /// The bytes of an answer to READ_STATUS_BYTE: section 4.3.1.
 pub(crate) const READ_STATUS_ANSWER: u16 = 3;
 

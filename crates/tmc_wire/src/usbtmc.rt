@@ -39,6 +39,26 @@ pub(crate) const GET_CAPABILITIES: u8 = 7;
 
 pub(crate) const INDICATOR_PULSE: u8 = 64;
 
+// USBTMC_status, the first byte of each answer to a class request: table 16
+
+/// The request was carried out.
+pub const STATUS_SUCCESS: u8 = 0x01;
+
+/// A check's transaction has not ended yet.
+pub const STATUS_PENDING: u8 = 0x02;
+
+/// The request was not carried out, for a reason that no other status names.
+pub const STATUS_FAILED: u8 = 0x80;
+
+/// An abort named another transfer than the one in progress.
+pub const STATUS_TRANSFER_NOT_IN_PROGRESS: u8 = 0x81;
+
+/// A check came while no transaction of its kind runs.
+pub const STATUS_SPLIT_NOT_IN_PROGRESS: u8 = 0x82;
+
+/// A request came while a transaction that must end first runs.
+pub const STATUS_SPLIT_IN_PROGRESS: u8 = 0x83;
+
 /// The bytes of an answer that is USBTMC_status alone: sections 4.2.1.6 and 4.2.1.9, and USB488 1.0 sections 4.3.2 to
 /// 4.3.4.
 pub(crate) const STATUS_ANSWER: u16 = 1;

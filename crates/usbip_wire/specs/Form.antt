@@ -1,4 +1,4 @@
--- a message as a row of fields: what is judged, and how far some bytes go
+-- A message as a row of fields, which is proved equal to the layouts: what is judged, and how far some bytes go.
 use Rattle.std.specs.Prelude.{◌≡◌, ℕ, ◌-◌, ◌<◌, ◌^◌, Bool, true, List, [], ◌++◌, length, take, drop, Result, Ok, Err, nat_lt, if◌then◌else◌}
 use Rattle.std.specs.Bool.{MatchBool}
 use Rattle.std.specs.Int.{Width, w16, w32, byte_len, from_be_bytes, to_be_bytes}

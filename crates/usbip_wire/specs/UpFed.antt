@@ -8,6 +8,8 @@ use Rattle.usbip_wire.specs.declared.up.UpPhase.{UpPhase}
 use Rattle.usbip_wire.specs.declared.up.UpPhase.TheVariants.{Ops, Urbs}
 use Rattle.usbip_wire.specs.declared.up.UpStep.{UpStep}
 use Rattle.usbip_wire.specs.declared.stop.Stop.{Stop}
+use Rattle.usbip_wire.specs.declared.room.Last.{Last}
+use Rattle.usbip_wire.specs.Room.{is_whole, refused_by}
 use Rattle.usbip_wire.specs.OpRequest.{SpellsRequest}
 use Rattle.usbip_wire.specs.JudgedFields.{missing_for}
 use Rattle.usbip_wire.specs.Up.{Spells, Submit, Unlink}
@@ -76,8 +78,6 @@ Judged phase rest (Err stop) = form.read (up_form phase) rest ≡ Err stop
 abbrev pub Ends : UpPhase → List ℕ → Type 0
 Ends phase rest = (what : Up) (left : List ℕ) → form.read (up_form phase) rest ≡ Ok (what, left) → left ≡ []
 
--- there is room for the longest message, and what is held does not pass the end of one
-pub record IsReader (phase : UpPhase) (rest : List ℕ) (spare : ℕ) (whole : Bool) (bad : Option Field) : Type 0 where
-  pub room : message_max ≤ length rest + spare
-  pub one_held : length rest ≤ message_max
-  pub ends : whole ≡ false → bad ≡ None → Ends phase rest
+-- what is held does not pass the end of a message
+abbrev pub EndsWhere : UpPhase → List ℕ → Last → Type 0
+EndsWhere phase rest last = is_whole last ≡ false → refused_by last ≡ None → Ends phase rest

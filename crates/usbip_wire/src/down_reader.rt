@@ -11,10 +11,9 @@ ghost use Rattle.usbip_wire.specs.Urb.{message_max};
 use crate::dirs::Dirs;
 use crate::down::{Down, DownPhase, DownStep};
 use crate::down_reading::read_down;
-use crate::reading::are_bytes;
+use crate::room::{Last, Room};
 use crate::stop::Stop;
-use crate::urb::{HELD_MAX, behind_header};
-use bytes::BytesMut;
+use crate::urb::behind_header;
 use std::alloc::Global;
 use std::marker::Model;
 use tmc_base::{Field, Memory};
@@ -23,21 +22,16 @@ use tmc_base::{Field, Memory};
 #[derive(Drop)]
 pub struct DownReader {
     phase: DownPhase,
-    buf: BytesMut,
-    whole: bool,
-    bad: Option<Field>,
+    room: Room,
 }
 
 impl Model for DownReader {
-    ghost use Rattle.std.specs.Prelude.{◌+◌, ◌≤◌, length};
     ghost use Rattle.usbip_wire.specs.DownFed.{Held};
-    ghost use Rattle.usbip_wire.specs.Urb.{message_max};
+    ghost use Rattle.usbip_wire.specs.Room.{is_whole, refused_by};
 
     ghost Value = { Held };
 
-    ghost view = { λ r. record { phase = r.phase; rest = r.buf.items; whole = r.whole; bad = r.bad } };
-
-    ghost invariant = { λ r. (message_max ≤ length r.buf.items + r.buf.spare) × (length r.buf.items ≤ message_max) };
+    ghost view = { λ r. record { phase = r.phase; rest = r.room.rest; whole = is_whole r.room.last; bad = refused_by r.room.last } };
 }
 
 impl DownReader {
@@ -64,13 +58,8 @@ impl DownReader {
     fn begun(alloc: Global, phase: DownPhase) -> Result<DownReader, Memory>
         ensures { IfOk result (λ reader. reader ≡ record { phase = phase; rest = []; whole = false; bad = None }) }
     {
-        let buf = BytesMut::with_capacity(alloc, HELD_MAX)?;
-        Ok(DownReader {
-            phase,
-            buf,
-            whole: false,
-            bad: None,
-        })
+        let room = Room::new(alloc)?;
+        Ok(DownReader { phase, room })
     }
 
     /// Takes bytes up to the end of the next message, of answers to what `dirs` says is outstanding. It
@@ -81,7 +70,7 @@ impl DownReader {
         ensures { Fed self.old dirs.now piece.now result self.new }
     {
         self.know();
-        if let Some(field) = self.bad {
+        if let Some(field) = self.room.refused() {
             return DownStep {
                 used: 0,
                 what: Down::Bad(field),
@@ -91,16 +80,23 @@ impl DownReader {
         self.fill(piece, dirs)
     }
 
+    /// How many bytes are held of a message that is not whole yet: at most one message's.
+    pub fn kept(&self) -> usize
+        ensures { result ≡ length (kept self.now) }
+    {
+        self.room.kept()
+    }
+
     /// The data of the answer that the last `feed` gave, and nothing after any other.
     pub fn data(&self) -> &[u8]
         ensures { result.now ≡ data_of self.now }
     {
-        if !self.whole {
+        if !self.room.is_whole() {
             return &[];
         }
         match self.phase {
             DownPhase::Ops { .. } => &[],
-            DownPhase::Urbs => behind_header(self.buf.as_slice()),
+            DownPhase::Urbs => behind_header(self.room.bytes()),
         }
     }
 
@@ -109,10 +105,7 @@ impl DownReader {
         requires { self.old.bad ≡ None }
         ensures { self.new ≡ record { phase = self.old.phase; rest = kept self.old; whole = false; bad = None } }
     {
-        if self.whole {
-            self.buf.clear();
-            self.whole = false;
-        }
+        self.room.begin();
     }
 
     fn fill(&mut self, piece: &[u8], dirs: &Dirs) -> DownStep
@@ -133,7 +126,7 @@ impl DownReader {
                     return DownStep { used, what };
                 }
                 Err(Stop::Refused(field)) => {
-                    self.bad = Some(field);
+                    self.refuse(field);
                     return DownStep {
                         used,
                         what: Down::Bad(field),
@@ -161,9 +154,7 @@ impl DownReader {
         ensures short { AreShort dirs.now }
     {
         dirs.know();
-        let held = self.buf.as_slice();
-        are_bytes(held);
-        let (what, _left) = read_down(self.phase, dirs, held)?;
+        let (what, _left) = read_down(self.phase, dirs, self.room.bytes())?;
         Ok(what)
     }
 
@@ -172,7 +163,7 @@ impl DownReader {
         ensures bytes { IsBytes self.now.rest }
         ensures one_held { length self.now.rest ≤ message_max }
     {
-        are_bytes(self.buf.as_slice());
+        let _bytes = self.room.bytes();
     }
 
     /// Holds these bytes too.
@@ -180,14 +171,23 @@ impl DownReader {
         requires { length self.old.rest + length next.now ≤ message_max }
         ensures { self.new ≡ record self.old { rest = self.old.rest ++ next.now } }
     {
-        self.buf.extend_reserved(next);
+        self.room.add(next);
     }
 
     /// A message is whole.
     fn finish(&mut self, what: &Down)
+        requires { self.old.bad ≡ None }
         ensures { self.new ≡ record self.old { phase = after self.old.phase what.now; whole = true } }
     {
         self.phase = self.phase.after(what);
-        self.whole = true;
+        self.room.end(Last::Whole);
+    }
+
+    /// A field is refused.
+    fn refuse(&mut self, field: Field)
+        requires { self.old.whole ≡ false }
+        ensures { self.new ≡ record self.old { bad = Some field } }
+    {
+        self.room.end(Last::Refused(field));
     }
 }

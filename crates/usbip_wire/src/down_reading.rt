@@ -10,7 +10,7 @@ use crate::dirs::{Dirs, Outstanding};
 use crate::down::{Down, DownPhase, RecordOf};
 use crate::fields::{ACTUAL_LENGTH, CODE, COMMAND, PACKETS, SEQNUM, VERSION};
 use crate::op::{REP_DEVLIST, REP_IMPORT, USBIP_VERSION};
-use crate::reading::{accept, array, block, half, word};
+use crate::reading::{accept, array, be16, be32, block};
 use crate::stop::Stop;
 use crate::urb::{Dir, NOT_ISOCHRONOUS, RET_SUBMIT, RET_UNLINK};
 use crate::{RetSubmitHead, RetUnlinkHead};
@@ -59,13 +59,13 @@ fn read_interface(held: &[u8]) -> Result<(Down, &[u8]), Stop>
 fn read_reply(held: &[u8]) -> Result<(Down, &[u8]), Stop>
     ensures { Gives (λ x. (x.0, x.1.now)) result (read reply_form held.now) }
 {
-    let (version, rest) = half(held)?;
+    let (version, rest) = be16(held)?;
     accept(version == USBIP_VERSION, VERSION)?;
-    let (code, rest) = half(rest)?;
+    let (code, rest) = be16(rest)?;
     accept(code == REP_DEVLIST || code == REP_IMPORT, CODE)?;
-    let (status, rest) = word(rest)?;
+    let (status, rest) = be32(rest)?;
     if code == REP_DEVLIST {
-        let (devices, rest) = word(rest)?;
+        let (devices, rest) = be32(rest)?;
         return Ok((Down::Count { status, devices }, rest));
     }
     if status == 0 {
@@ -85,12 +85,12 @@ fn read_record(of: RecordOf, held: &[u8]) -> Result<(Down, &[u8]), Stop>
 {
     let (path, rest) = array::<256>(held)?;
     let (busid, rest) = array::<32>(rest)?;
-    let (busnum, rest) = word(rest)?;
-    let (devnum, rest) = word(rest)?;
-    let (speed, rest) = word(rest)?;
-    let (id_vendor, rest) = half(rest)?;
-    let (id_product, rest) = half(rest)?;
-    let (bcd_device, rest) = half(rest)?;
+    let (busnum, rest) = be32(rest)?;
+    let (devnum, rest) = be32(rest)?;
+    let (speed, rest) = be32(rest)?;
+    let (id_vendor, rest) = be16(rest)?;
+    let (id_product, rest) = be16(rest)?;
+    let (bcd_device, rest) = be16(rest)?;
     let (last, rest) = array::<6>(rest)?;
     let device = DeviceRecord {
         path,
@@ -114,9 +114,9 @@ fn read_record(of: RecordOf, held: &[u8]) -> Result<(Down, &[u8]), Stop>
 fn read_answer<'a>(dirs: &Dirs, held: &'a [u8]) -> Result<(Down, &'a [u8]), Stop>
     ensures { Gives (λ x. (x.0, x.1.now)) result (read (answer_form dirs.now) held.now) }
 {
-    let (command, rest) = word(held)?;
+    let (command, rest) = be32(held)?;
     accept(command == RET_SUBMIT || command == RET_UNLINK, COMMAND)?;
-    let (seqnum, rest) = word(rest)?;
+    let (seqnum, rest) = be32(rest)?;
     if command == RET_SUBMIT {
         match dirs.find(seqnum) {
             Some(Outstanding::Submit { dir, length, .. }) => {
@@ -136,18 +136,18 @@ fn read_answer<'a>(dirs: &Dirs, held: &'a [u8]) -> Result<(Down, &'a [u8]), Stop
 fn read_ret_submit(seqnum: u32, dir: Dir, length: u32, rest: &[u8]) -> Result<(Down, &[u8]), Stop>
     ensures { Gives (λ x. (x.0, x.1.now)) result (read (ret_submit_form seqnum (Some (dir, length))) rest.now) }
 {
-    let (_devid, rest) = word(rest)?;
-    let (_direction, rest) = word(rest)?;
-    let (_ep, rest) = word(rest)?;
-    let (status, rest) = word(rest)?;
-    let (actual, rest) = word(rest)?;
+    let (_devid, rest) = be32(rest)?;
+    let (_direction, rest) = be32(rest)?;
+    let (_ep, rest) = be32(rest)?;
+    let (status, rest) = be32(rest)?;
+    let (actual, rest) = be32(rest)?;
     accept(actual <= length, ACTUAL_LENGTH)?;
-    let (_start_frame, rest) = word(rest)?;
-    let (packets, rest) = word(rest)?;
+    let (_start_frame, rest) = be32(rest)?;
+    let (packets, rest) = be32(rest)?;
     accept(packets == NOT_ISOCHRONOUS || packets == 0, PACKETS)?;
-    let (_error_count, rest) = word(rest)?;
-    let (_padding_high, rest) = word(rest)?;
-    let (_padding_low, rest) = word(rest)?;
+    let (_error_count, rest) = be32(rest)?;
+    let (_padding_high, rest) = be32(rest)?;
+    let (_padding_low, rest) = be32(rest)?;
     let (_data, rest) = block(dir.returned(actual), rest)?;
     let head = RetSubmitHead {
         seqnum,
@@ -161,10 +161,10 @@ fn read_ret_submit(seqnum: u32, dir: Dir, length: u32, rest: &[u8]) -> Result<(D
 fn read_ret_unlink(seqnum: u32, rest: &[u8]) -> Result<(Down, &[u8]), Stop>
     ensures { Gives (λ x. (x.0, x.1.now)) result (read (ret_unlink_form seqnum) rest.now) }
 {
-    let (_devid, rest) = word(rest)?;
-    let (_direction, rest) = word(rest)?;
-    let (_ep, rest) = word(rest)?;
-    let (status, rest) = word(rest)?;
+    let (_devid, rest) = be32(rest)?;
+    let (_direction, rest) = be32(rest)?;
+    let (_ep, rest) = be32(rest)?;
+    let (status, rest) = be32(rest)?;
     let (_padding, rest) = block(24, rest)?;
     let head = RetUnlinkHead {
         seqnum,

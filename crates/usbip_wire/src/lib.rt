@@ -30,6 +30,7 @@ mod op_request;
 mod reading;
 mod ret_submit;
 mod ret_unlink;
+mod room;
 mod stop;
 mod submit;
 mod unlink;

@@ -8,8 +8,8 @@ ghost use Rattle.usbip_wire.specs.Given.{Gives, IsBytes};
 use crate::stop::Stop;
 use tmc_base::Field;
 
-/// A number of two bytes, and what follows it.
-pub(crate) fn half(bytes: &[u8]) -> Result<(u16, &[u8]), Stop>
+/// A big-endian number of two bytes, and what follows it.
+pub(crate) fn be16(bytes: &[u8]) -> Result<(u16, &[u8]), Stop>
     ensures { Gives (λ x. (x.0, x.1.now)) result (number_at Two bytes.now) }
 {
     if bytes.len() < 2 {
@@ -19,8 +19,8 @@ pub(crate) fn half(bytes: &[u8]) -> Result<(u16, &[u8]), Stop>
     Ok((u16::from_be_bytes([front[0], front[1]]), rest))
 }
 
-/// A number of four bytes, and what follows it.
-pub(crate) fn word(bytes: &[u8]) -> Result<(u32, &[u8]), Stop>
+/// A big-endian number of four bytes, and what follows it.
+pub(crate) fn be32(bytes: &[u8]) -> Result<(u32, &[u8]), Stop>
     ensures { Gives (λ x. (x.0, x.1.now)) result (number_at Four bytes.now) }
 {
     if bytes.len() < 4 {

@@ -6,12 +6,11 @@ ghost use Rattle.usbip_wire.specs.Given.{IsBytes};
 ghost use Rattle.usbip_wire.specs.UpFed.{Held, Fed, Answers, Judged, Ends, kept, data_of};
 ghost use Rattle.usbip_wire.specs.Urb.{message_max};
 
-use crate::reading::are_bytes;
+use crate::room::{Last, Room};
 use crate::stop::Stop;
 use crate::up::{Up, UpPhase, UpStep};
 use crate::up_reading::read_up;
-use crate::urb::{HELD_MAX, behind_header};
-use bytes::BytesMut;
+use crate::urb::behind_header;
 use std::alloc::Global;
 use std::marker::Model;
 use tmc_base::{Field, Memory};
@@ -20,19 +19,18 @@ use tmc_base::{Field, Memory};
 #[derive(Drop)]
 pub struct UpReader {
     phase: UpPhase,
-    buf: BytesMut,
-    whole: bool,
-    bad: Option<Field>,
+    room: Room,
 }
 
 impl Model for UpReader {
-    ghost use Rattle.usbip_wire.specs.UpFed.{Held, IsReader};
+    ghost use Rattle.usbip_wire.specs.UpFed.{Held, EndsWhere};
+    ghost use Rattle.usbip_wire.specs.Room.{is_whole, refused_by};
 
     ghost Value = { Held };
 
-    ghost view = { λ r. record { phase = r.phase; rest = r.buf.items; whole = r.whole; bad = r.bad } };
+    ghost view = { λ r. record { phase = r.phase; rest = r.room.rest; whole = is_whole r.room.last; bad = refused_by r.room.last } };
 
-    ghost invariant = { λ r. IsReader r.phase r.buf.items r.buf.spare r.whole r.bad };
+    ghost invariant = { λ r. EndsWhere r.phase r.room.rest r.room.last };
 }
 
 impl UpReader {
@@ -53,13 +51,8 @@ impl UpReader {
     fn begun(alloc: Global, phase: UpPhase) -> Result<UpReader, Memory>
         ensures { IfOk result (λ reader. reader ≡ record { phase = phase; rest = []; whole = false; bad = None }) }
     {
-        let buf = BytesMut::with_capacity(alloc, HELD_MAX)?;
-        Ok(UpReader {
-            phase,
-            buf,
-            whole: false,
-            bad: None,
-        })
+        let room = Room::new(alloc)?;
+        Ok(UpReader { phase, room })
     }
 
     /// Takes bytes up to the end of the next message. It takes no memory. `Bad` comes where the last byte
@@ -68,7 +61,7 @@ impl UpReader {
         ensures { Fed self.old piece.now result self.new }
     {
         self.know();
-        if let Some(field) = self.bad {
+        if let Some(field) = self.room.refused() {
             return UpStep {
                 used: 0,
                 what: Up::Bad(field),
@@ -78,12 +71,19 @@ impl UpReader {
         self.fill(piece)
     }
 
+    /// How many bytes are held of a message that is not whole yet: at most one message's.
+    pub fn kept(&self) -> usize
+        ensures { result ≡ length (kept self.now) }
+    {
+        self.room.kept()
+    }
+
     /// The data of the submit that the last `feed` gave, and nothing after any other answer.
     pub fn data(&self) -> &[u8]
         ensures { result.now ≡ data_of self.now }
     {
-        if self.whole {
-            behind_header(self.buf.as_slice())
+        if self.room.is_whole() {
+            behind_header(self.room.bytes())
         } else {
             &[]
         }
@@ -94,10 +94,7 @@ impl UpReader {
         requires { self.old.bad ≡ None }
         ensures { self.new ≡ record { phase = self.old.phase; rest = kept self.old; whole = false; bad = None } }
     {
-        if self.whole {
-            self.buf.clear();
-            self.whole = false;
-        }
+        self.room.begin();
     }
 
     fn fill(&mut self, piece: &[u8]) -> UpStep
@@ -111,11 +108,11 @@ impl UpReader {
         loop {
             match self.judge() {
                 Ok(what) => {
-                    self.whole = true;
+                    self.finish();
                     return UpStep { used, what };
                 }
                 Err(Stop::Refused(field)) => {
-                    self.bad = Some(field);
+                    self.refuse(field);
                     return UpStep {
                         used,
                         what: Up::Bad(field),
@@ -143,9 +140,7 @@ impl UpReader {
         ensures judged { Judged self.now.phase self.now.rest result }
         ensures bytes { IsBytes self.now.rest }
     {
-        let held = self.buf.as_slice();
-        are_bytes(held);
-        let (what, _left) = read_up(self.phase, held)?;
+        let (what, _left) = read_up(self.phase, self.room.bytes())?;
         Ok(what)
     }
 
@@ -154,7 +149,7 @@ impl UpReader {
         ensures bytes { IsBytes self.now.rest }
         ensures one_held { length self.now.rest ≤ message_max }
     {
-        are_bytes(self.buf.as_slice());
+        let _bytes = self.room.bytes();
     }
 
     /// Holds these bytes too.
@@ -163,6 +158,22 @@ impl UpReader {
         requires ends { Ends self.old.phase (self.old.rest ++ next.now) }
         ensures { self.new ≡ record self.old { rest = self.old.rest ++ next.now } }
     {
-        self.buf.extend_reserved(next);
+        self.room.add(next);
+    }
+
+    /// A message is whole.
+    fn finish(&mut self)
+        requires { self.old.bad ≡ None }
+        ensures { self.new ≡ record self.old { whole = true } }
+    {
+        self.room.end(Last::Whole);
+    }
+
+    /// A field is refused.
+    fn refuse(&mut self, field: Field)
+        requires { self.old.whole ≡ false }
+        ensures { self.new ≡ record self.old { bad = Some field } }
+    {
+        self.room.end(Last::Refused(field));
     }
 }

@@ -6,7 +6,7 @@ ghost use Rattle.usbip_wire.specs.UpForm.{request_form, submit_form, unlink_form
 
 use crate::fields::{BUFFER_LENGTH, CODE, COMMAND, DEVID, DIRECTION, ENDPOINT, PACKETS, VERSION};
 use crate::op::{REQ_DEVLIST, REQ_IMPORT, USBIP_VERSION};
-use crate::reading::{accept, array, block, half, word};
+use crate::reading::{accept, array, be16, be32, block};
 use crate::stop::Stop;
 use crate::up::{Up, UpPhase};
 use crate::urb::{CMD_SUBMIT, CMD_UNLINK, Dir, ENDPOINT_MAX, NOT_ISOCHRONOUS};
@@ -26,11 +26,11 @@ pub(crate) fn read_up(phase: UpPhase, held: &[u8]) -> Result<(Up, &[u8]), Stop>
 fn read_request(held: &[u8]) -> Result<(Up, &[u8]), Stop>
     ensures { Gives (λ x. (x.0, x.1.now)) result (read request_form held.now) }
 {
-    let (version, rest) = half(held)?;
+    let (version, rest) = be16(held)?;
     accept(version == USBIP_VERSION, VERSION)?;
-    let (code, rest) = half(rest)?;
+    let (code, rest) = be16(rest)?;
     accept(code == REQ_DEVLIST || code == REQ_IMPORT, CODE)?;
-    let (_status, rest) = word(rest)?;
+    let (_status, rest) = be32(rest)?;
     if code == REQ_IMPORT {
         let (busid, rest) = array::<32>(rest)?;
         Ok((Up::Op(OpRequest::Import { busid }), rest))
@@ -42,10 +42,10 @@ fn read_request(held: &[u8]) -> Result<(Up, &[u8]), Stop>
 fn read_urb(devid: u32, held: &[u8]) -> Result<(Up, &[u8]), Stop>
     ensures { Gives (λ x. (x.0, x.1.now)) result (read (urb_form devid) held.now) }
 {
-    let (command, rest) = word(held)?;
+    let (command, rest) = be32(held)?;
     accept(command == CMD_SUBMIT || command == CMD_UNLINK, COMMAND)?;
-    let (seqnum, rest) = word(rest)?;
-    let (number, rest) = word(rest)?;
+    let (seqnum, rest) = be32(rest)?;
+    let (number, rest) = be32(rest)?;
     accept(number == devid, DEVID)?;
     if command == CMD_UNLINK {
         read_unlink(seqnum, number, rest)
@@ -58,9 +58,9 @@ fn read_urb(devid: u32, held: &[u8]) -> Result<(Up, &[u8]), Stop>
 fn read_unlink(seqnum: u32, devid: u32, rest: &[u8]) -> Result<(Up, &[u8]), Stop>
     ensures { Gives (λ x. (x.0, x.1.now)) result (read (unlink_form seqnum devid) rest.now) }
 {
-    let (_direction, rest) = word(rest)?;
-    let (_ep, rest) = word(rest)?;
-    let (target, rest) = word(rest)?;
+    let (_direction, rest) = be32(rest)?;
+    let (_ep, rest) = be32(rest)?;
+    let (target, rest) = be32(rest)?;
     let (_padding, rest) = block(24, rest)?;
     let head = UnlinkHead {
         seqnum,
@@ -74,17 +74,17 @@ fn read_unlink(seqnum: u32, devid: u32, rest: &[u8]) -> Result<(Up, &[u8]), Stop
 fn read_submit(seqnum: u32, devid: u32, rest: &[u8]) -> Result<(Up, &[u8]), Stop>
     ensures { Gives (λ x. (x.0, x.1.now)) result (read (submit_form seqnum devid) rest.now) }
 {
-    let (direction, rest) = word(rest)?;
+    let (direction, rest) = be32(rest)?;
     accept(direction < 2, DIRECTION)?;
-    let (ep, rest) = word(rest)?;
+    let (ep, rest) = be32(rest)?;
     accept(ep <= ENDPOINT_MAX, ENDPOINT)?;
-    let (_transfer_flags, rest) = word(rest)?;
-    let (length, rest) = word(rest)?;
+    let (_transfer_flags, rest) = be32(rest)?;
+    let (length, rest) = be32(rest)?;
     accept(length <= SUBMIT_MAX, BUFFER_LENGTH)?;
-    let (_start_frame, rest) = word(rest)?;
-    let (packets, rest) = word(rest)?;
+    let (_start_frame, rest) = be32(rest)?;
+    let (packets, rest) = be32(rest)?;
     accept(packets == NOT_ISOCHRONOUS || packets == 0, PACKETS)?;
-    let (_interval, rest) = word(rest)?;
+    let (_interval, rest) = be32(rest)?;
     let (setup, rest) = array::<8>(rest)?;
     let dir = Dir::of_code(direction);
     let (_data, rest) = block(dir.carried(length), rest)?;

@@ -38,14 +38,14 @@ returns-in-Err-Refused-clause-always c =
     let e = rw c.in-Err-Refused.field-0-is at c.in-Err-Refused.ensures.judged in
     answers_bad c.args.self.now.phase c.args.dirs.now c.args.self.now.rest c.args.piece.now c.loop-what.used c.loop-what.self c.in-Err-Refused.field _
     c.loop-what.invariant.within (c.loop-what.invariant.edge c.in-Err-Refused.field e) c.loop-what.invariant.held c.in-Err-Refused.ensures.bytes e
-    (ap (λ (h : Held). record h { bad = Some c.in-Err-Refused.field }) c.self.view_is)
+    c.refuse.ensures
 
 pub returns-in-Err-Refused-clause-fresh : goal.returns-in-Err-Refused-clause-fresh
 returns-in-Err-Refused-clause-fresh c = λ none.
     let e = rw c.in-Err-Refused.field-0-is at c.in-Err-Refused.ensures.judged in
     answers_bad c.args.self.now.phase c.args.dirs.now c.args.self.now.rest c.args.piece.now c.loop-what.used c.loop-what.self c.in-Err-Refused.field _
     c.loop-what.invariant.within (c.loop-what.invariant.edge c.in-Err-Refused.field e) c.loop-what.invariant.held c.in-Err-Refused.ensures.bytes e
-    (ap (λ (h : Held). record h { bad = Some c.in-Err-Refused.field }) c.self.view_is)
+    c.refuse.ensures
 
 pub returns-then-used-piece-clause-always : goal.returns-then-used-piece-clause-always
 returns-then-used-piece-clause-always c =
@@ -89,3 +89,9 @@ loop-what-preserved c =
           c.loop-what.invariant.within (ap (λ (h : Held). h.rest) c.loop-what.invariant.held) c.add.ensures e few);
       one_held = omega (arith, ap (λ (h : Held). length h.rest) c.add.ensures, length-append c.loop-what.self.rest next, few, most);
     }
+
+pub finish-requires : goal.finish-requires
+finish-requires c = ap (λ (h : Held). h.bad) c.loop-what.invariant.held
+
+pub refuse-requires : goal.refuse-requires
+refuse-requires c = ap (λ (h : Held). h.whole) c.loop-what.invariant.held

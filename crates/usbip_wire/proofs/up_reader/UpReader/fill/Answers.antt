@@ -20,13 +20,13 @@ loop-what-init c = record {
 pub returns-in-Ok-clause-answers : goal.returns-in-Ok-clause-answers
 returns-in-Ok-clause-answers c =
     answers_whole c.args.self.now.phase c.args.self.now.rest c.args.piece.now c.loop-what.used c.loop-what.self c.in-Ok.what _
-    c.loop-what.invariant.within c.loop-what.invariant.held c.in-Ok.ensures.bytes c.in-Ok.ensures.judged (ap (λ (h : Held). record h { whole = true }) c.self.view_is)
+    c.loop-what.invariant.within c.loop-what.invariant.held c.in-Ok.ensures.bytes c.in-Ok.ensures.judged c.finish.ensures
 
 pub returns-in-Err-Refused-clause-answers : goal.returns-in-Err-Refused-clause-answers
 returns-in-Err-Refused-clause-answers c =
     let e = rw c.in-Err-Refused.field-0-is at c.in-Err-Refused.ensures.judged in
     answers_bad c.args.self.now.phase c.args.self.now.rest c.args.piece.now c.loop-what.used c.loop-what.self c.in-Err-Refused.field _
-    c.loop-what.invariant.within (c.loop-what.invariant.edge c.in-Err-Refused.field e) c.loop-what.invariant.held c.in-Err-Refused.ensures.bytes e (ap (λ (h : Held). record h { bad = Some c.in-Err-Refused.field }) c.self.view_is)
+    c.loop-what.invariant.within (c.loop-what.invariant.edge c.in-Err-Refused.field e) c.loop-what.invariant.held c.in-Err-Refused.ensures.bytes e c.refuse.ensures
 
 pub returns-then-used-piece-clause-answers : goal.returns-then-used-piece-clause-answers
 returns-then-used-piece-clause-answers c =
@@ -69,3 +69,9 @@ loop-what-preserved c =
           c.loop-what.invariant.within (ap (λ (h : Held). h.rest) c.loop-what.invariant.held) c.add.ensures e few);
       one_held = omega (arith, ap (λ (h : Held). length h.rest) c.add.ensures, length-append c.loop-what.self.rest next, few, most);
     }
+
+pub finish-requires : goal.finish-requires
+finish-requires c = ap (λ (h : Held). h.bad) c.loop-what.invariant.held
+
+pub refuse-requires : goal.refuse-requires
+refuse-requires c = ap (λ (h : Held). h.whole) c.loop-what.invariant.held

@@ -1,0 +1,25 @@
+-- USBTMC_status, the first byte of each answer to a class request
+use Rattle.std.specs.Prelude.{ℕ}
+
+-- USBTMC 1.0, table 16
+abbrev pub STATUS_SUCCESS : ℕ
+STATUS_SUCCESS = 0x01
+
+abbrev pub STATUS_PENDING : ℕ
+STATUS_PENDING = 0x02
+
+abbrev pub STATUS_FAILED : ℕ
+STATUS_FAILED = 0x80
+
+abbrev pub STATUS_TRANSFER_NOT_IN_PROGRESS : ℕ
+STATUS_TRANSFER_NOT_IN_PROGRESS = 0x81
+
+abbrev pub STATUS_SPLIT_NOT_IN_PROGRESS : ℕ
+STATUS_SPLIT_NOT_IN_PROGRESS = 0x82
+
+abbrev pub STATUS_SPLIT_IN_PROGRESS : ℕ
+STATUS_SPLIT_IN_PROGRESS = 0x83
+
+-- USB488 1.0, table 11
+abbrev pub STATUS_INTERRUPT_IN_BUSY : ℕ
+STATUS_INTERRUPT_IN_BUSY = 0x20
