@@ -1,9 +1,10 @@
 -- the state of the law, as a device keeps it
-use Rattle.std.specs.Prelude.{◌≡◌, ◌≢◌, ℕ, ◌+◌, ◌<◌, ◌≤◌, Bool, false, List, length, Option, Some, None}
+use Rattle.std.specs.Prelude.{◌≡◌, ◌≢◌, ℕ, ◌+◌, ◌<◌, ◌≤◌, Bool, false, List, length, take, drop, Option, Some, None}
 use Rattle.tmc_law.specs.Endpoint.{Control}
 use Rattle.tmc_law.specs.State.{State, Pending, Plugged}
 use Rattle.tmc_law.specs.Put.{Put}
 use Rattle.tmc_law.specs.BulkOut.{message_most, Spoils, Belongs, TakesEffect}
+use Rattle.tmc_wire.specs.Standard.{header_size}
 use Rattle.tmc_wire.specs.Transfer.{OutText, data_size}
 use Rattle.tmc_law.specs.AnswerFits.{FitsAsked, AllAnswers}
 use Rattle.tmc_wire.specs.declared.header.OutHeader.{OutHeader}
@@ -68,9 +69,8 @@ IsJudged body submit (Some header) =
 -- The transfer in progress has this header and all its bytes, and its message fits behind the unfinished one.
 pub record IsWhole (body : Body) (header : OutHeader) : Type 0 where
   pub taken : List ℕ
-  pub message : List ℕ
   pub is : body.transfer ≡ Some (record { header = header; taken = taken })
-  pub text : OutText header message taken
+  pub text : OutText header (take (data_size header) (drop header_size taken)) taken
   pub fits : length body.exchange.held.part + data_size header ≤ message_most
 
 -- the transfer in progress took effect

@@ -1,5 +1,5 @@
 -- what the first control submit asks for
-use Rattle.std.specs.Prelude.{◌≡◌, ℕ, ◌+◌, true, List, [], ◌∷◌, ◌++◌}
+use Rattle.std.specs.Prelude.{◌≡◌, ◌≢◌, ℕ, ◌+◌, true, List, [], ◌∷◌, ◌++◌}
 use Rattle.usb_setup.specs.declared.setup.Setup.{Setup}
 use Rattle.tmc_law.specs.State.{State, Pending}
 use Rattle.tmc_law.specs.Control.{Asks, control_answer}
@@ -25,6 +25,7 @@ pub record IsAsked (s : State) (asked : Asked) : Type 0 where
   pub head : submit.head ≡ asked.head
   pub polled : submit.polled ≡ asked.polled
   pub asks : Asks submit asked.setup
+  pub only : (setup : Setup) → Asks submit setup → asked.setup ≡ setup
 
 -- the first control submit was answered by this, and the others are left
 pub record IsReplied (behind : List Pending) (answer : Put) (old new : Body) : Type 0 where
@@ -55,6 +56,10 @@ pub record IsPolledFirst (target : ℕ) (s : State) : Type 0 where
   pub first : s.control ≡ submit ∷ behind
   pub polled : submit.polled ≡ true
   pub number : submit.head.seqnum ≡ target
+
+-- that submit, if the status byte was polled for it, has another number
+abbrev pub IsNotPolled : (target : ℕ) → Body → Type 0
+IsNotPolled target body = (submit : Pending) (behind : List Pending) → body.polled ≡ true → body.pipes.control ≡ submit ∷ behind → submit.head.seqnum ≢ target
 
 -- the first control submit, a status request that was polled, was answered
 pub record AnswersPolled (submit : Pending) (behind : List Pending) (old new : Body) : Type 0 where

@@ -14,9 +14,9 @@ Piecewise P old = (submit : Pending) (behind : List Pending) (piece : Piece) →
     → P submit behind piece
 
 -- the state, and what was put out
-pub record Became (s : State) (puts : List Put) (old new : Body) : Type 0 where
+pub record Became (s : State) (more : List Put) (old new : Body) : Type 0 where
   pub state : state_of new ≡ s
-  pub puts : new.outputs.puts ≡ old.outputs.puts ++ puts
+  pub puts : new.outputs.puts ≡ old.outputs.puts ++ more
 
 -- the next bytes of the piece went into the submit, and nothing else changed
 pub record GaveBytes (size : ℕ) (submit : Pending) (behind : List Pending) (piece : Piece) (old new : Body) : Type 0 where

@@ -8,3 +8,4 @@ pub mod Control
 pub mod Fill
 pub mod Standard
 pub mod Check
+pub mod Judged

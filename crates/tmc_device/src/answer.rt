@@ -61,6 +61,8 @@ impl Body {
     pub(crate) fn asked(&self) -> Option<Asked>
         ensures { MatchOption result ((state_of self.now).control ≡ []) (λ asked. IsAsked (state_of self.now) asked) }
     {
+        // The pipes count no submit for which the status byte was polled: that is kept here.
+        let _pending = self.pipes.len();
         let first = self.pipes.first(CONTROL)?;
         Some(Asked {
             head: first.head,

@@ -54,16 +54,13 @@ impl Body {
         ensures { ServesFirst request.CheckIn asked.now self.old self.new }
     {
         match self.running {
-            Running::AbortsIn {
-                wanting: true,
-                given,
-            } => self.reply(asked, &in_layout(TMC_PENDING, 1, given), buffer),
-            Running::AbortsIn {
-                wanting: false,
-                given,
-            } => {
-                self.reply(asked, &in_layout(TMC_SUCCESS, 0, given), buffer);
-                self.running = Running::Nothing;
+            Running::AbortsIn { wanting, given } => {
+                if wanting {
+                    self.reply(asked, &in_layout(TMC_PENDING, 1, given), buffer);
+                } else {
+                    self.reply(asked, &in_layout(TMC_SUCCESS, 0, given), buffer);
+                    self.running = Running::Nothing;
+                }
             }
             _ => self.reply(asked, &in_layout(TMC_SPLIT_NOT_IN_PROGRESS, 0, 0), buffer),
         }

@@ -76,6 +76,7 @@ impl Device {
     pub fn drive(&mut self, event: DevEvent) -> Drove
         ensures applied { result ≡ Drove.Applied → Applies event self.old self.new }
         ensures none { result ≡ Drove.NotEnabled → NoneLawful event self.old.state }
+        ensures declined { result ≡ Drove.NotEnabled → IsEnabled event self.old.state → ⊥ }
         ensures enabled { result ≢ Drove.NotEnabled → IsEnabled event self.old.state }
         ensures kept { result ≢ Drove.Applied → self.new ≡ self.old }
     {
@@ -83,18 +84,7 @@ impl Device {
             return Drove::NotEnabled;
         }
         steps_rest_on_laws();
-        match event {
-            DevEvent::Take(packets) => self.body.take(packets),
-            DevEvent::Exec => self.body.exec(),
-            DevEvent::Begin(most) => self.body.begin(most),
-            DevEvent::Fill(packets) => self.body.fill(packets),
-            DevEvent::Answer => self.body.answer(),
-            DevEvent::Pending => self.body.postpone(),
-            DevEvent::Poll => self.body.poll(),
-            DevEvent::Notify => self.body.notify(),
-            DevEvent::Halt(ep) => self.body.halt(ep),
-            DevEvent::Unplug => self.body.unplug(),
-        }
+        self.body.drive(event)
     }
 
     /// The first answer that was put out and not yet dropped, with its data.

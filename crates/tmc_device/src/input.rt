@@ -29,7 +29,7 @@ const PENDING_MAX: u32 = 256;
 
 impl Body {
     ghost use Rattle.tmc_device.specs.Body.{state_of, seen_of, IsReady};
-    ghost use Rattle.tmc_device.specs.Control.{IsPolledFirst, AnswersPolled};
+    ghost use Rattle.tmc_device.specs.Control.{IsPolledFirst, IsNotPolled, AnswersPolled};
     ghost use Rattle.tmc_device.specs.declared.answer.TheConstants.{LAYOUT_MAX};
 
     /// A submit arrives.
@@ -132,20 +132,24 @@ impl Body {
     {
         if self.is_polled(head.target) {
             self.answer_polled(buffer);
+            self.outputs.unlink(head, SUCCESS);
+            return;
         }
-        let status = match self.pipes.unlink(head.target) {
-            Unlinked::Hit => UNLINKED,
-            Unlinked::Miss => SUCCESS,
-        };
-        self.outputs.unlink(head, status);
+        match self.pipes.unlink(head.target) {
+            Unlinked::Hit => self.outputs.unlink(head, UNLINKED),
+            Unlinked::Miss => self.outputs.unlink(head, SUCCESS),
+        }
     }
 
     /// Whether the first control submit has this number, and the status byte was polled for it.
     fn is_polled(&self, target: u32) -> bool
-        ensures { MatchBool result (IsPolledFirst target (state_of self.now)) (¬ IsPolledFirst target (state_of self.now)) }
+        ensures { MatchBool result (IsPolledFirst target (state_of self.now)) (IsNotPolled target self.now) }
     {
+        if !self.polled {
+            return false;
+        }
         match self.pipes.first(CONTROL) {
-            Some(first) => self.polled && first.head.seqnum == target,
+            Some(first) => first.head.seqnum == target,
             None => false,
         }
     }
@@ -162,7 +166,10 @@ impl Body {
         let Some(asked) = self.asked() else {
             unreachable!()
         };
-        let Some(ClassRequest::ReadStatus { tag }) = read_class(&asked.setup, &ENDS) else {
+        let Some(request) = read_class(&asked.setup, &ENDS) else {
+            unreachable!()
+        };
+        let ClassRequest::ReadStatus { tag } = request else {
             unreachable!()
         };
         self.reply(&asked, &status_layout(TMC_SUCCESS, tag), buffer);

@@ -14,6 +14,7 @@ mod checks;
 mod class;
 mod device;
 mod device_fault;
+mod drive;
 mod drove;
 mod endings;
 mod endpoints;

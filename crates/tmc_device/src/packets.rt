@@ -60,8 +60,10 @@ impl Packets {
     pub(crate) fn drop_first(&mut self)
         ensures { self.new ≡ drop 1 self.old }
     {
-        self.first = self.second;
-        self.second = None;
+        if self.first.is_some() {
+            self.first = self.second;
+            self.second = None;
+        }
     }
 
     /// Whether a packet with the status byte for a request is queued.

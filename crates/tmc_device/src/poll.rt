@@ -21,7 +21,10 @@ impl Body {
         let Some(asked) = self.asked() else {
             return Drove::NotEnabled;
         };
-        let Some(ClassRequest::ReadStatus { tag }) = read_class(&asked.setup, &ENDS) else {
+        let Some(request) = read_class(&asked.setup, &ENDS) else {
+            return Drove::NotEnabled;
+        };
+        let ClassRequest::ReadStatus { tag } = request else {
             return Drove::NotEnabled;
         };
         if !is_status_tag(tag) || asked.polled || self.packets.has_status() {

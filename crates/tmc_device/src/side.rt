@@ -1,4 +1,4 @@
-ghost use Rattle.std.specs.Prelude.{◌≡◌, ◌≤◌, ℕ, List, length, drop};
+ghost use Rattle.std.specs.Prelude.{◌≡◌, ◌≢◌, ◌≤◌, ℕ, List, length, drop, MatchBool};
 ghost use Rattle.tmc_law.specs.State.{State, Idle, Owed, Sending, data_given as law_given};
 ghost use Rattle.tmc_law.specs.Aborts.{cut as law_cut, given_of, in_tag};
 ghost use Rattle.tmc_device.specs.Parts.{phase_in, left_in, side_of};
@@ -51,6 +51,12 @@ impl InTransfer {
         ensures { result ≡ phase_in self.now }
     {
         self.phase
+    }
+
+    pub(crate) fn is_idle(&self) -> bool
+        ensures { MatchBool result (self.now ≡ Idle) (self.now ≢ Idle) }
+    {
+        matches!(self.phase, Phase::Idle)
     }
 
     /// The bytes of the piece that were not given.

@@ -54,7 +54,13 @@ impl Body {
     }
 
     /// The data of the answer.
-    fn lay_out(&self, request: StandardRequest, layout: &mut BytesMut) {
+    fn lay_out(&self, request: StandardRequest, layout: &mut BytesMut)
+        requires laid_out { layout.old.items ≡ [] }
+        requires spare { LAYOUT_MAX ≤ layout.old.spare }
+        requires known { IsKnown request }
+        ensures laid_out { layout.new.items ≡ standard_layout (standard_of request) (state_of self.now) }
+        ensures short { length layout.new.items ≤ LAYOUT_MAX }
+    {
         match request {
             StandardRequest::DeviceStatus => layout.extend_reserved(&[1, 0]),
             StandardRequest::InterfaceStatus => layout.extend_reserved(&[0, 0]),
@@ -75,7 +81,11 @@ impl Body {
     }
 
     /// What the request does: it ends halts.
-    fn do_standard(&mut self, request: StandardRequest) {
+    fn do_standard(&mut self, request: StandardRequest)
+        requires { IsKnown request }
+        ensures state { state_of self.new ≡ standard_effect (standard_of request) (state_of self.old) }
+        ensures outputs { self.new.outputs ≡ self.old.outputs }
+    {
         match request {
             StandardRequest::ClearHalt(ep) => self.pipes.unhalt(ep),
             StandardRequest::SetConfiguration | StandardRequest::SetInterface => {
