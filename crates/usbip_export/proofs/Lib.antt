@@ -8,3 +8,5 @@ pub mod Spelled
 pub mod Driven
 pub mod Calmed
 pub mod Worked
+pub mod Exchanged
+pub mod Crossed

@@ -1,11 +1,10 @@
 //! The serving of one client over a link.
 
-ghost use Rattle.std.specs.Prelude.{◌≡◌, ◌≢◌, ◌↔◌, ◌⊎◌, ◌<◌, [], length, Some, None};
+ghost use Rattle.std.specs.Prelude.{◌≡◌, ◌≢◌, ◌↔◌, ◌⊎◌, ◌<◌, [], true, false, length, Some, None};
 ghost use Rattle.tmc_base.specs.declared.field.Field as field;
 ghost use Rattle.tmc_base.specs.Faults.{Rose};
-ghost use Rattle.tmc_base.specs.Link.{Counts};
 ghost use Rattle.usbip_export.specs.Events.{IsCalm};
-ghost use Rattle.usbip_export.specs.Serving.{IsCall, Calls, Crosses, IsUnplugged, IsSentOff, IsFaultless};
+ghost use Rattle.usbip_export.specs.Serving.{Works, IsCall, Calls, Crosses, IsUnplugged, IsSentOff, IsFaultless};
 
 use crate::{Fed, Node};
 use tmc_base::{Field, Link, PollStep, SendStep};
@@ -42,6 +41,9 @@ pub fn serve_link<L: Link>(node: &mut Node, link: &mut L, turns: u64) -> ServeEn
     ensures calm { (result ≡ ServeEnd.Closed) ⊎ (result ≡ ServeEnd.Spent) → IsCalm node.new }
     ensures sent { result ≡ ServeEnd.Closed → IsSentOff node.new }
 {
+    if let Some(field) = node.refused() {
+        return ServeEnd::Refused(field);
+    }
     let mut piece = [0; PIECE];
     let mut made = 0;
     'turns: loop {
@@ -56,7 +58,15 @@ pub fn serve_link<L: Link>(node: &mut Node, link: &mut L, turns: u64) -> ServeEn
 }
 
 /// Lets the node make its calm moves, and tells what ends the serving before a further call.
-fn settle(node: &mut Node, spent: bool) -> Option<ServeEnd> {
+fn settle(node: &mut Node, spent: bool) -> Option<ServeEnd>
+    ensures works { Works [] [] node.old node.new }
+    ensures refused { (f : field.Field) → result ≡ Some (ServeEnd.Refused f) ↔ node.new.refused ≡ Some f }
+    ensures calm { result ≢ Some ServeEnd.Memory → node.new.refused ≡ None → IsCalm node.new }
+    ensures closed { result ≡ Some ServeEnd.Closed → IsUnplugged node.new × IsSentOff node.new }
+    ensures spent { result ≡ Some ServeEnd.Spent → spent ≡ true }
+    ensures fault { result ≢ Some ServeEnd.LinkFault }
+    ensures on { result ≡ None → (spent ≡ false) × (node.new.puts ≡ []) }
+{
     let calmed = node.calm();
     if let Some(field) = node.refused() {
         return Some(ServeEnd::Refused(field));
@@ -74,7 +84,19 @@ fn settle(node: &mut Node, spent: bool) -> Option<ServeEnd> {
 }
 
 /// One call on the link: bytes that are pending are sent before any are polled.
-fn call<L: Link>(node: &mut Node, link: &mut L, piece: &mut [u8]) -> Option<ServeEnd> {
+fn call<L: Link>(node: &mut Node, link: &mut L, piece: &mut [u8]) -> Option<ServeEnd>
+    requires unrefused { node.old.refused ≡ None }
+    requires room { 0 < length piece.old }
+    ensures crosses { Crosses L.told (result ≢ Some ServeEnd.Memory) node.old link.old node.new link.new }
+    ensures goes { result ≡ None → IsCall L.sends L.polls link.old link.new }
+    ensures counts { result ≡ None → IsFaultless (L.counts link.old) (L.counts link.new) }
+    ensures refused { (f : field.Field) → result ≡ Some (ServeEnd.Refused f) ↔ node.new.refused ≡ Some f }
+    ensures fault { result ≡ Some ServeEnd.LinkFault → Rose (L.counts link.old).faults (L.counts link.new).faults }
+    ensures closed { result ≡ Some ServeEnd.Closed
+        → Rose (L.counts link.old).closings (L.counts link.new).closings × (node.new ≡ node.old) × (node.old.out ≡ []) }
+    ensures unspent { result ≢ Some ServeEnd.Spent }
+    ensures piece { length piece.new ≡ length piece.old }
+{
     if node.pending_out().is_empty() {
         receive(node, link, piece)
     } else {
@@ -82,17 +104,45 @@ fn call<L: Link>(node: &mut Node, link: &mut L, piece: &mut [u8]) -> Option<Serv
     }
 }
 
-fn send<L: Link>(node: &mut Node, link: &mut L) -> Option<ServeEnd> {
+/// Sends what is pending.
+fn send<L: Link>(node: &mut Node, link: &mut L) -> Option<ServeEnd>
+    requires unrefused { node.old.refused ≡ None }
+    requires some { 0 < length node.old.out }
+    ensures crosses { Crosses L.told (result ≢ Some ServeEnd.Memory) node.old link.old node.new link.new }
+    ensures goes { result ≡ None → IsCall L.sends L.polls link.old link.new }
+    ensures counts { result ≡ None → IsFaultless (L.counts link.old) (L.counts link.new) }
+    ensures refused { (f : field.Field) → result ≡ Some (ServeEnd.Refused f) ↔ node.new.refused ≡ Some f }
+    ensures fault { result ≡ Some ServeEnd.LinkFault → Rose (L.counts link.old).faults (L.counts link.new).faults }
+    ensures closed { result ≡ Some ServeEnd.Closed
+        → Rose (L.counts link.old).closings (L.counts link.new).closings × (node.new ≡ node.old) × (node.old.out ≡ []) }
+    ensures unspent { result ≢ Some ServeEnd.Spent }
+{
     match link.send(node.pending_out()) {
-        SendStep::Took(n) => node.sent_out(n),
-        SendStep::Idle => (),
-        SendStep::Failed => return Some(ServeEnd::LinkFault),
-        SendStep::Memory => return Some(ServeEnd::Memory),
+        SendStep::Took(n) => {
+            node.sent_out(n);
+            None
+        }
+        SendStep::Idle => None,
+        SendStep::Failed => Some(ServeEnd::LinkFault),
+        SendStep::Memory => Some(ServeEnd::Memory),
     }
-    None
 }
 
-fn receive<L: Link>(node: &mut Node, link: &mut L, piece: &mut [u8]) -> Option<ServeEnd> {
+/// Polls the link, and feeds the node what came.
+fn receive<L: Link>(node: &mut Node, link: &mut L, piece: &mut [u8]) -> Option<ServeEnd>
+    requires unrefused { node.old.refused ≡ None }
+    requires room { 0 < length piece.old }
+    requires none { node.old.out ≡ [] }
+    ensures crosses { Crosses L.told (result ≢ Some ServeEnd.Memory) node.old link.old node.new link.new }
+    ensures goes { result ≡ None → IsCall L.sends L.polls link.old link.new }
+    ensures counts { result ≡ None → IsFaultless (L.counts link.old) (L.counts link.new) }
+    ensures refused { (f : field.Field) → result ≡ Some (ServeEnd.Refused f) ↔ node.new.refused ≡ Some f }
+    ensures fault { result ≡ Some ServeEnd.LinkFault → Rose (L.counts link.old).faults (L.counts link.new).faults }
+    ensures closed { result ≡ Some ServeEnd.Closed
+        → Rose (L.counts link.old).closings (L.counts link.new).closings × (node.new ≡ node.old) × (node.old.out ≡ []) }
+    ensures unspent { result ≢ Some ServeEnd.Spent }
+    ensures piece { length piece.new ≡ length piece.old }
+{
     match link.poll(piece) {
         PollStep::Got(n) => match node.feed(&piece[..n]) {
             Fed::Ok => None,
