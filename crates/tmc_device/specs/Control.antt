@@ -5,7 +5,8 @@ use Rattle.tmc_law.specs.State.{State, Pending}
 use Rattle.tmc_law.specs.Control.{Asks, control_answer}
 use Rattle.tmc_law.specs.Put.{Put}
 use Rattle.tmc_law.specs.Endpoint.{ends}
-use Rattle.tmc_law.specs.Aborts.{Served, STATUS_SUCCESS}
+use Rattle.tmc_wire.specs.ClassStatus.{STATUS_SUCCESS}
+use Rattle.tmc_law.specs.Aborts.{Served}
 use Rattle.tmc_law.specs.Status.{status_layout}
 use Rattle.tmc_law.specs.Class.{Serves, Operates}
 use Rattle.tmc_wire.specs.declared.class_request.ClassRequest.{ClassRequest}

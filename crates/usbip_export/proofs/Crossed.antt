@@ -120,7 +120,7 @@ front_none : (a b c d : List ℕ) → IsFront a c → b ≡ [] → IsFront (a ++
 front_none a b c d front none = (
   front.0 ++ d,
   ap (λ (l : List ℕ). l ++ d) front.1
-  ∙ (append_assoc a front.0 d ∙ ap (λ (l : List ℕ). l ++ (front.0 ++ d)) (sym (append-nil a) ∙ ap (λ (l : List ℕ). a ++ l) (sym none))),
+      ∙ (append_assoc a front.0 d ∙ ap (λ (l : List ℕ). l ++ (front.0 ++ d)) (sym (append-nil a) ∙ ap (λ (l : List ℕ). a ++ l) (sym none))),
 )
 
 pub crosses_more : {A : Type 0} (tells : A → Told) (ample : Type 0) (node mid later : Seen) (link between after : A) → mid.refused ≡ None

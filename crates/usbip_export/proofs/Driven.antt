@@ -43,14 +43,14 @@ drives_body ev old new seen unshut applies spelled =
       imported = refl;
       refused = refl;
     }) where
-  after : Body
-  after = record old { device = new.device; out = new.out; wanting = new.wanting }
+      after : Body
+      after = record old { device = new.device; out = new.out; wanting = new.wanting }
 
-  before : standing (seen_of old) ≡ old.device.state
-  before = standing_open (seen_of old) unshut
+      before : standing (seen_of old) ≡ old.device.state
+      before = standing_open (seen_of old) unshut
 
-  behind : standing (seen_of after) ≡ seen.state
-  behind = standing_open (seen_of after) unshut ∙ spelled.state
+      behind : standing (seen_of after) ≡ seen.state
+      behind = standing_open (seen_of after) unshut ∙ spelled.state
 
 -- a step by which nothing arrives takes no bytes in
 takes_nothing : (ev : DevEvent) (move : Move) → Allows ev move → TakesIn devid move []
@@ -150,6 +150,6 @@ none_on (Ok moved) events others otherwise new mid now some rest same first told
     let said = told no in (
       said.0 ∙ same,
       all_declined events otherwise (seen_of now) some first
-      (subst (λ (b : Body). AreDeclined (drop 1 events) (seen_of b)) same (subst (λ (es : List DevEvent). AreDeclined es (seen_of mid)) rest said.1)),
+          (subst (λ (b : Body). AreDeclined (drop 1 events) (seen_of b)) same (subst (λ (es : List DevEvent). AreDeclined es (seen_of mid)) rest said.1)),
     )
 none_on (Err e) events others otherwise new mid now some rest same first told = tt

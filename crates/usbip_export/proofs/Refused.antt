@@ -33,16 +33,16 @@ bad_closes old new f step reader piece sound opened idle late fed says is =
     Closes opened.unrefused
     (subst (λ (b : Body). Moves (seen_of old) (seen_of b)) (sym is) (by old.imported refl field))
     (λ shut. clash (sym (ap (λ (b : Body). b.refused) is) ∙ shut.unrefused)) where
-  clash : Some f ≡ None → ⊥
-  clash e = cc
+      clash : Some f ≡ None → ⊥
+      clash e = cc
 
-  closed : Body
-  closed = record old { reader = reader; refused = Some f; waiting = None; late = new.late }
+      closed : Body
+      closed = record old { reader = reader; refused = Some f; waiting = None; late = new.late }
 
-  by : (b : Bool) → old.imported ≡ b → BadAt (phase_of old.imported) (seen_of old).kept f → Moves (seen_of old) (seen_of closed)
-  by true was field =
-      closed_at (seen_of old) (seen_of closed) f was was opened.unrefused refl refl opened.plugged
-      (ByField (subst (λ b. BadAt (phase_of b) (seen_of old).kept f) was field)) (record { state = refl; puts = refl }) refl
-  by false was field =
-      failed_at (seen_of old) (seen_of closed) f was was opened.unrefused refl refl
-      (subst (λ b. BadAt (phase_of b) (seen_of old).kept f) was field) (record { state = refl; puts = refl }) refl
+      by : (b : Bool) → old.imported ≡ b → BadAt (phase_of old.imported) (seen_of old).kept f → Moves (seen_of old) (seen_of closed)
+      by true was field =
+          closed_at (seen_of old) (seen_of closed) f was was opened.unrefused refl refl opened.plugged
+          (ByField (subst (λ b. BadAt (phase_of b) (seen_of old).kept f) was field)) (record { state = refl; puts = refl }) refl
+      by false was field =
+          failed_at (seen_of old) (seen_of closed) f was was opened.unrefused refl refl
+          (subst (λ b. BadAt (phase_of b) (seen_of old).kept f) was field) (record { state = refl; puts = refl }) refl

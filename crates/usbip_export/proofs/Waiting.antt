@@ -93,7 +93,7 @@ submit_ok have old seen head sent sound opened waits says made =
     subst (λ (d : List ℕ). up.Spells devid (up.Submit head d) old.reader.rest) (sym (says ∙ data_held old.reader it.whole)) told.1 in
     let cut = cut_off old.refused old.waiting (what.Submit head) old.reader old.late.items opened.unrefused waits it.whole in (
       admitted (seen_of old) (seen_of (record old { device = seen; waiting = None })) (up.Submit head sent) old.reader.rest told.0 told.0 opened.unrefused
-      opened.unrefused cut spells made refl,
+          opened.unrefused cut spells made refl,
       shorter old.reader.rest _ _ cut (urb_some have (up.Submit head sent) old.reader.rest spells),
     )
 
@@ -105,7 +105,7 @@ unlink_ok have old seen head sound opened waits made =
     let told = unlink_means old.imported head old.reader.rest it.means in
     let cut = cut_off old.refused old.waiting (what.Unlink head) old.reader old.late.items opened.unrefused waits it.whole in (
       admitted (seen_of old) (seen_of (record old { device = seen; waiting = None })) (up.Unlink head) old.reader.rest told.0 told.0 opened.unrefused
-      opened.unrefused cut told.1 made refl,
+          opened.unrefused cut told.1 made refl,
       shorter old.reader.rest _ _ cut (urb_some have (up.Unlink head) old.reader.rest told.1),
     )
 
@@ -126,9 +126,9 @@ submit_refused have old new f head sound opened waits over shut =
     let none : (seen_of new).kept ≡ [] = ap (λ (b : Body). kept_of b.refused b.waiting b.reader b.late.items) shut.is in
     let seen : new.device ≡ old.device = ap (λ (b : Body). b.device) shut.is ∙ shut.same in (
       closed_at (seen_of old) (seen_of new) f told.0 (ap (λ (b : Body). b.imported) shut.is ∙ told.0) opened.unrefused (ap (λ (b : Body). b.refused) shut.is) none
-      opened.plugged (ByPending head (drop URB_HEADER old.reader.rest) old.reader.rest old.late.items cut told.1 over)
-      (record { state = ap (λ (d : device.Seen). d.state) seen; puts = ap (λ (d : device.Seen). d.puts) seen })
-      (ap (λ (b : Body). b.out.items) shut.is),
+          opened.plugged (ByPending head (drop URB_HEADER old.reader.rest) old.reader.rest old.late.items cut told.1 over)
+          (record { state = ap (λ (d : device.Seen). d.state) seen; puts = ap (λ (d : device.Seen). d.puts) seen })
+          (ap (λ (b : Body). b.out.items) shut.is),
       omega (
         arith,
         ap length none,
@@ -148,7 +148,7 @@ list_ok have old new sound opened waits is text =
     let cut = cut_off old.refused old.waiting (what.Op DevList) old.reader old.late.items opened.unrefused waits it.whole in
     subst (λ (b : Body). Takes (seen_of old) (seen_of b)) (sym is) (
       asked_list (seen_of old) (seen_of (record old { out = new.out; waiting = None })) old.reader.rest told.0 told.0 refl cut told.1
-      (record { state = refl; puts = refl }) text,
+          (record { state = refl; puts = refl }) text,
       shorter old.reader.rest _ _ cut (request_some have DevList old.reader.rest told.1),
     )
 
@@ -161,7 +161,7 @@ decline_ok have old new id sound opened waits other is text =
     let cut = cut_off old.refused old.waiting (what.Op (Import id)) old.reader old.late.items opened.unrefused waits it.whole in
     subst (λ (b : Body). Takes (seen_of old) (seen_of b)) (sym is) (
       asked_other (seen_of old) (seen_of (record old { out = new.out; waiting = None })) id old.reader.rest told.0 told.0 refl cut told.1 other
-      (record { state = refl; puts = refl }) text,
+          (record { state = refl; puts = refl }) text,
       shorter old.reader.rest _ _ cut (request_some have (Import id) old.reader.rest told.1),
     )
 
@@ -180,6 +180,6 @@ import_ok have old new sound opened waits is begins text =
     ∙ ap (λ (l : List ℕ). old.reader.rest ++ l) (sym after) in
     subst (λ (b : Body). Takes (seen_of old) (seen_of b)) (sym is) (
       imported_now (seen_of old) (seen_of (record old { out = new.out; waiting = None; imported = true; reader = new.reader })) busid old.reader.rest told.0
-      refl refl cut told.1 refl (standing_open (seen_of old) opened.unrefused ∙ (sound.fresh told.0).0) (record { state = refl; puts = refl }) text,
+          refl refl cut told.1 refl (standing_open (seen_of old) opened.unrefused ∙ (sound.fresh told.0).0) (record { state = refl; puts = refl }) text,
       shorter old.reader.rest _ _ cut (request_some have (Import busid) old.reader.rest told.1),
     )
