@@ -1,6 +1,6 @@
 //! The serving of one client over a link.
 
-ghost use Rattle.std.specs.Prelude.{◌≡◌, ◌≢◌, ◌↔◌, ◌⊎◌, ◌<◌, [], true, false, length, Some, None};
+ghost use Rattle.std.specs.Prelude.{◌≡◌, ◌≢◌, ◌↔◌, ◌⊎◌, ◌<◌, [], length, Some, None};
 ghost use Rattle.tmc_base.specs.declared.field.Field as field;
 ghost use Rattle.tmc_base.specs.Faults.{Rose};
 ghost use Rattle.usbip_export.specs.Events.{IsCalm};
@@ -47,8 +47,11 @@ pub fn serve_link<L: Link>(node: &mut Node, link: &mut L, turns: u64) -> ServeEn
     let mut piece = [0; PIECE];
     let mut made = 0;
     'turns: loop {
-        if let Some(end) = settle(node, made == turns) {
+        if let Some(end) = settle(node) {
             return end;
+        }
+        if made == turns {
+            return ServeEnd::Spent;
         }
         made += 1;
         if let Some(end) = call(node, link, &mut piece) {
@@ -58,14 +61,14 @@ pub fn serve_link<L: Link>(node: &mut Node, link: &mut L, turns: u64) -> ServeEn
 }
 
 /// Lets the node make its calm moves, and tells what ends the serving before a further call.
-fn settle(node: &mut Node, spent: bool) -> Option<ServeEnd>
+fn settle(node: &mut Node) -> Option<ServeEnd>
     ensures works { Works [] [] node.old node.new }
     ensures refused { (f : field.Field) → result ≡ Some (ServeEnd.Refused f) ↔ node.new.refused ≡ Some f }
     ensures calm { result ≢ Some ServeEnd.Memory → node.new.refused ≡ None → IsCalm node.new }
     ensures closed { result ≡ Some ServeEnd.Closed → IsUnplugged node.new × IsSentOff node.new }
-    ensures spent { result ≡ Some ServeEnd.Spent → spent ≡ true }
+    ensures unspent { result ≢ Some ServeEnd.Spent }
     ensures fault { result ≢ Some ServeEnd.LinkFault }
-    ensures on { result ≡ None → (spent ≡ false) × (node.new.puts ≡ []) }
+    ensures on { result ≡ None → node.new.puts ≡ [] }
 {
     let calmed = node.calm();
     if let Some(field) = node.refused() {
@@ -76,9 +79,6 @@ fn settle(node: &mut Node, spent: bool) -> Option<ServeEnd>
     }
     if node.closed() && node.pending_out().is_empty() {
         return Some(ServeEnd::Closed);
-    }
-    if spent {
-        return Some(ServeEnd::Spent);
     }
     None
 }
