@@ -10,3 +10,5 @@ pub mod Calmed
 pub mod Worked
 pub mod Exchanged
 pub mod Crossed
+pub mod Failed
+pub mod Chained

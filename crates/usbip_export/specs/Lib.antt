@@ -7,3 +7,5 @@ pub mod Work
 pub mod Body
 pub mod Taking
 pub mod Serving
+pub mod Failing
+pub mod Laws

@@ -10,6 +10,7 @@ mod calming;
 mod driving;
 mod fed;
 mod identity;
+mod laws;
 mod node;
 mod operations;
 mod serving;
@@ -19,6 +20,7 @@ mod taking;
 mod tests;
 
 pub use fed::Fed;
+pub use laws::calls_join;
 pub use node::Node;
 pub use serving::{ServeEnd, serve_link};
 pub use tmc_device::{DevEvent, Drove, Log, LogEntry};

@@ -1,4 +1,4 @@
-ghost use Rattle.std.specs.Prelude.{◌≡◌, ◌≢◌, ◌↔◌, ◌≤◌, [], true, false, length, take, drop, Some, None, IfOk, OnOk, MatchBool};
+ghost use Rattle.std.specs.Prelude.{◌≡◌, ◌≢◌, ◌↔◌, ◌≤◌, ◌++◌, [], true, false, length, take, drop, Some, None, IfOk, OnOk, MatchBool};
 ghost use Rattle.std.specs.Option.{is_some};
 ghost use Rattle.tmc_base.specs.declared.field.Field as field;
 ghost use Rattle.tmc_law.specs.State.{Plugged};
@@ -6,6 +6,7 @@ ghost use Rattle.tmc_device.specs.Seen.{is_closed};
 ghost use Rattle.usbip_export.specs.Events.{Drives, IsDeclined, IsDue, IsCalm};
 ghost use Rattle.usbip_export.specs.Seen.{begun, standing, IsCaughtUp};
 ghost use Rattle.usbip_export.specs.TakenIn.{Moves};
+ghost use Rattle.usbip_export.specs.Failing.{FailsAt};
 ghost use Rattle.usbip_export.specs.Serving.{Works};
 
 use crate::Fed;
@@ -14,6 +15,7 @@ use std::alloc::Global;
 use std::marker::Model;
 use tmc_base::{Field, Memory};
 use tmc_device::{DevEvent, Drove, Log};
+use tmc_law::a_closed_run_ends_with_refused_bytes;
 
 /// The instrument at the end of a USB/IP connection.
 ///
@@ -67,8 +69,23 @@ impl Node {
         ensures works { result ≢ Fed.Memory → is_closed (standing self.old).presence ≡ false → Works piece.now [] self.old self.new }
         ensures shut { is_closed (standing self.old).presence ≡ true → self.new ≡ self.old }
         ensures refused { (f : field.Field) → result ≡ Fed.Refused f ↔ self.new.refused ≡ Some f }
+        ensures cause { (f : field.Field) → result ≡ Fed.Refused f → self.old.refused ≡ None
+            → FailsAt self.old (self.old.kept ++ piece.now) f }
         ensures caught_up { result ≡ Fed.Ok → self.new.wanting ≡ false → is_closed (standing self.new).presence ≡ false → IsCaughtUp self.new }
         ensures memory { result ≡ Fed.Memory → (self.new ≡ self.old) × (self.new.refused ≡ None) }
+    {
+        a_closed_run_ends_with_refused_bytes();
+        self.take_piece(piece)
+    }
+
+    /// Takes in a piece, and tells what became of it.
+    fn take_piece(&mut self, piece: &[u8]) -> Fed
+        ensures works { result ≢ Fed.Memory → is_closed (standing self.old).presence ≡ false → Works piece.now [] self.old self.new }
+        ensures shut { is_closed (standing self.old).presence ≡ true → self.new ≡ self.old }
+        ensures refused { (f : field.Field) → result ≡ Fed.Refused f ↔ self.new.refused ≡ Some f }
+        ensures caught_up { result ≡ Fed.Ok → self.new.wanting ≡ false → is_closed (standing self.new).presence ≡ false → IsCaughtUp self.new }
+        ensures memory { result ≡ Fed.Memory → (self.new ≡ self.old) × (self.new.refused ≡ None) }
+        ensures none_kept { (f : field.Field) → self.new.refused ≡ Some f → self.new.kept ≡ [] }
     {
         if let Some(field) = self.body.refused {
             return Fed::Refused(field);
