@@ -1,12 +1,11 @@
 -- a node whose instrument has nothing to do
-use Rattle.std.proofs.Common.{◌≡◌, ◌∙◌, true, false, List, [], ◌∷◌, Option, Some, None, refl, sym, ap, subst}
-use Rattle.tmc_base.specs.declared.field.Field.{Field}
+use Rattle.std.proofs.Common.{◌≡◌, ◌∙◌, List, [], ◌∷◌, refl, sym, ap, subst}
 use Rattle.tmc_law.specs.declared.dev_event.DevEvent.{DevEvent}
 use Rattle.tmc_law.specs.State.{State, Plugged}
 use Rattle.tmc_device.specs.Events.{NoneLawful}
 use Rattle.usbip_export.specs.declared.body.Body.{Body}
 use Rattle.usbip_export.specs.Seen.{Seen, standing, closed_by}
-use Rattle.usbip_export.specs.Events.{IsDeclined, AreDeclined, IsCalm, calm_moves}
+use Rattle.usbip_export.specs.Events.{AreDeclined, IsCalm, calm_moves}
 use Rattle.usbip_export.specs.Body.{seen_of, IsOpen, IsBodySpelled}
 use Rattle.usbip_export.proofs.More.{standing_same}
 use Rattle.usbip_export.proofs.Driven.{plugged_unrefused}

@@ -1,5 +1,5 @@
 -- the calls of a node, one behind the other
-use Rattle.std.proofs.Common.{◌≡◌, ℕ, true, List, [], ◌∷◌, ◌++◌, None, refl, sym, subst, append-nil}
+use Rattle.std.proofs.Common.{◌≡◌, ℕ, true, List, [], ◌∷◌, ◌++◌, sym, subst, append-nil}
 use Rattle.tmc_law.specs.declared.dev_event.DevEvent.{DevEvent}
 use Rattle.usbip_export.specs.Events.{Drives}
 use Rattle.usbip_export.specs.Seen.{Seen, begun}

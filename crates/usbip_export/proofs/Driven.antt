@@ -1,10 +1,10 @@
 -- what one step of the instrument does to a node
-use Rattle.std.proofs.Common.{◌≡◌, ◌∙◌, ℕ, ◌<◌, ◌≤◌, Bool, true, false, List, [], ◌∷◌, ◌++◌, length, drop, slice_index_or, Option, Some, None, is_some, Result, Ok, Err, IfOk, refl, sym, ap, subst, append-nil, arith}
+use Rattle.std.proofs.Common.{◌≡◌, ◌∙◌, ℕ, ◌<◌, ◌≤◌, Bool, true, false, List, [], ◌∷◌, ◌++◌, length, drop, slice_index_or, Option, Some, None, is_some, Result, Ok, Err, IfOk, refl, sym, subst, append-nil, arith}
 use Rattle.tmc_base.specs.declared.field.Field.{Field}
 use Rattle.tmc_base.specs.declared.memory.Memory.{Memory}
 use Rattle.tmc_law.specs.declared.dev_event.DevEvent.{DevEvent}
 use Rattle.tmc_law.specs.declared.dev_event.DevEvent.TheVariants as event
-use Rattle.tmc_law.specs.State.{State, Plugged, Closed}
+use Rattle.tmc_law.specs.State.{State, Plugged}
 use Rattle.tmc_law.specs.Put.{Put}
 use Rattle.tmc_law.specs.Step as step
 use Rattle.tmc_law.specs.Step.{Move, Steps}
@@ -13,14 +13,14 @@ use Rattle.tmc_law.specs.BulkOut.{Takes}
 use Rattle.tmc_law.specs.BulkIn.{Fills}
 use Rattle.tmc_law.specs.Packets.{TransferTakes, PieceGives}
 use Rattle.tmc_device.specs.Seen as device
-use Rattle.tmc_device.specs.Events.{Allows, Applies, NoneLawful, IsEnabled, count_of}
+use Rattle.tmc_device.specs.Events.{Allows, Applies}
 use Rattle.usbip_export.specs.declared.body.Body.{Body}
 use Rattle.usbip_export.specs.Identity.{devid}
 use Rattle.usbip_export.specs.Seen.{Seen, standing, closed_by}
-use Rattle.usbip_export.specs.TakenIn.{IsSpelled, SpellsOff, Served, Moves}
-use Rattle.usbip_export.specs.Events.{Drives, IsDue, IsCalmMove, AreCalmMoves, AreDeclined, IsDeclined}
+use Rattle.usbip_export.specs.TakenIn.{IsSpelled, Served, Moves}
+use Rattle.usbip_export.specs.Events.{Drives, IsCalmMove, AreCalmMoves, AreDeclined, IsDeclined}
 use Rattle.usbip_export.specs.Work.{weight}
-use Rattle.usbip_export.specs.Body.{seen_of, IsSound, IsBodySpelled}
+use Rattle.usbip_export.specs.Body.{seen_of, IsBodySpelled}
 use Rattle.usbip_export.proofs.Single.{standing_open}
 use Rattle.usbip_export.proofs.Weights.{take_less, fill_less, exec_less, begin_less, notify_less, answer_less}
 

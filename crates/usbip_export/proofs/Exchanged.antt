@@ -1,6 +1,5 @@
 -- one more call behind those that moved bytes
-use Rattle.std.proofs.Common.{◌≡◌, ℕ, List, [], ◌++◌, refl, sym, ap, ◌∙◌, subst, append_assoc, append-nil}
-use Rattle.tmc_base.specs.declared.run_step.RunStep.{RunStep}
+use Rattle.std.proofs.Common.{ℕ, List, [], ◌++◌, refl, sym, ap, ◌∙◌, subst, append_assoc, append-nil}
 use Rattle.tmc_base.specs.Told.{Told, Silent, Bytes, Peer, WentOut, CameIn, Exchanged}
 
 pub exchanged_none : (told : Told) → Exchanged [] [] told told

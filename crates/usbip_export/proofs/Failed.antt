@@ -3,7 +3,7 @@ use Rattle.std.proofs.Common.{◌≡◌, ◌≢◌, ◌↔◌, ◌∙◌, ℕ, B
 use Rattle.tmc_base.specs.declared.field.Field.{Field}
 use Rattle.usbip_wire.specs.declared.up.UpPhase.TheVariants.{Ops}
 use Rattle.usbip_wire.specs.UpFed.{BadAt}
-use Rattle.tmc_law.specs.State.{State, Plugged, Closed, start}
+use Rattle.tmc_law.specs.State.{State, Plugged, Closed}
 use Rattle.tmc_law.specs.Run.{Entry, Runs, TakesAll}
 use Rattle.tmc_law.specs.Laws.{EndsRefused}
 use Rattle.tmc_device.specs.Seen.{is_closed}

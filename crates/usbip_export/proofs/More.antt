@@ -1,5 +1,5 @@
 -- what a node took in, and then more
-use Rattle.std.proofs.Common.{◌≡◌, ◌∙◌, ℕ, Bool, true, false, List, [], ◌∷◌, ◌++◌, Option, Some, None, refl, sym, ap, subst, append_assoc, append-nil}
+use Rattle.std.proofs.Common.{◌≡◌, ◌∙◌, ℕ, Bool, true, false, List, [], ◌++◌, None, refl, sym, ap, subst, append_assoc, append-nil}
 use Rattle.tmc_law.specs.State.{State}
 use Rattle.tmc_law.specs.Put.{Put}
 use Rattle.tmc_law.specs.Run.{Runs, outputs}

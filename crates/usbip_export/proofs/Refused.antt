@@ -1,5 +1,5 @@
 -- a field of what was fed is refused
-use Rattle.std.proofs.Common.{◌≡◌, ◌∙◌, ℕ, Bool, true, false, List, [], ◌++◌, Option, Some, None, refl, sym, ap, subst}
+use Rattle.std.proofs.Common.{◌≡◌, ◌∙◌, ℕ, Bool, true, false, List, ◌++◌, Some, None, refl, sym, ap, subst}
 use Rattle.tmc_base.specs.declared.field.Field.{Field}
 use Rattle.usbip_wire.specs.declared.up.Up.{Up}
 use Rattle.usbip_wire.specs.declared.up.Up.TheVariants as what

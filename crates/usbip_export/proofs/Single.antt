@@ -1,5 +1,5 @@
 -- what one message, one refusal or some spelling does to a node
-use Rattle.std.proofs.Common.{◌≡◌, ◌≢◌, ◌∙◌, ℕ, ◌+◌, ◌<◌, true, false, List, [], ◌∷◌, ◌++◌, length, Some, None, refl, sym, ap, subst, append-nil, append_assoc, length-append, arith}
+use Rattle.std.proofs.Common.{◌≡◌, ◌≢◌, ◌∙◌, ℕ, ◌<◌, true, false, List, [], ◌∷◌, ◌++◌, length, Some, None, refl, sym, ap, subst, append-nil, append_assoc, length-append, arith}
 use Rattle.tmc_base.specs.declared.field.Field.{Field}
 use Rattle.usbip_wire.specs.declared.op_request.OpRequest.{OpRequest}
 use Rattle.usbip_wire.specs.declared.op_request.OpRequest.TheVariants.{DevList, Import}
@@ -9,9 +9,8 @@ use Rattle.usbip_wire.specs.Up as up
 use Rattle.usbip_wire.specs.UpFed.{BadAt}
 use Rattle.tmc_law.specs.State.{State, Plugged, Closed, start}
 use Rattle.tmc_law.specs.Put.{Put}
-use Rattle.tmc_law.specs.Step.{Move, Comes, Refuses, Steps, IsRefused}
-use Rattle.tmc_law.specs.Run.{outputs, SpellAll, SpellsPut}
-use Rattle.tmc_device.specs.Seen as device
+use Rattle.tmc_law.specs.Step.{Comes, Refuses, Steps, IsRefused}
+use Rattle.tmc_law.specs.Run.{SpellAll, SpellsPut}
 use Rattle.tmc_device.specs.Seen.{Makes}
 use Rattle.usbip_export.specs.Identity.{busid, devid}
 use Rattle.usbip_export.specs.Operations.{device_list, import_done, import_failed, ImportNone, replies}

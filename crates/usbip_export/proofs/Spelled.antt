@@ -1,14 +1,13 @@
 -- a body whose answers were spelled
-use Rattle.std.proofs.Common.{◌≡◌, ◌∙◌, ℕ, Bool, true, false, List, [], ◌++◌, refl, sym, ap, subst}
+use Rattle.std.proofs.Common.{◌≡◌, ◌∙◌, ℕ, List, [], refl, sym, subst}
 use Rattle.tmc_law.specs.Put.{Put}
-use Rattle.tmc_device.specs.Seen as device
 use Rattle.usbip_export.specs.declared.body.Body.{Body}
 use Rattle.usbip_export.specs.Seen.{Seen}
 use Rattle.usbip_export.specs.TakenIn.{SpellsOff, Moves}
-use Rattle.usbip_export.specs.Body.{seen_of, IsSound, IsOpen, IsBodySpelled}
+use Rattle.usbip_export.specs.Body.{seen_of, IsSound, IsBodySpelled}
 use Rattle.usbip_export.specs.Taking.{Rests, Shut, NothingWhole, Closes}
-use Rattle.usbip_export.proofs.More.{moves_more, moves_none}
-use Rattle.usbip_export.proofs.Single.{IsSpelling, moves_spelled, no_puts}
+use Rattle.usbip_export.proofs.More.{moves_more}
+use Rattle.usbip_export.proofs.Single.{IsSpelling, no_puts}
 
 none_left : (puts after : List Put) (old new : List ℕ) → puts ≡ [] → SpellsOff puts after old new → after ≡ []
 none_left puts after old new none off = (no_puts off.spelled.puts after (sym none ∙ off.spelled.left)).1

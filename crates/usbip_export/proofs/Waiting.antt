@@ -1,5 +1,5 @@
 -- the message that waits is taken in
-use Rattle.std.proofs.Common.{◌≡◌, ◌≢◌, ◌∙◌, ℕ, ◌+◌, ◌<◌, ◌≤◌, Bool, true, false, List, [], ◌∷◌, ◌++◌, length, drop, Option, Some, None, if◌then◌else◌, refl, sym, ap, subst, append-nil, length-append, arith}
+use Rattle.std.proofs.Common.{◌≡◌, ◌≢◌, ◌∙◌, ℕ, ◌<◌, Bool, true, false, List, [], ◌++◌, length, drop, Option, Some, None, if◌then◌else◌, refl, sym, ap, subst, length-append, arith}
 use Rattle.tmc_base.specs.declared.field.Field.{Field}
 use Rattle.usbip_wire.specs.declared.submit.SubmitHead.{SubmitHead}
 use Rattle.usbip_wire.specs.declared.unlink.UnlinkHead.{UnlinkHead}
@@ -9,13 +9,12 @@ use Rattle.usbip_wire.specs.declared.op_request.OpRequest.TheVariants.{DevList, 
 use Rattle.usbip_wire.specs.declared.up.Up.{Up}
 use Rattle.usbip_wire.specs.declared.up.Up.TheVariants as what
 use Rattle.usbip_wire.specs.declared.up.UpPhase.{UpPhase}
-use Rattle.usbip_wire.specs.declared.up.UpPhase.TheVariants.{Ops, Urbs}
+use Rattle.usbip_wire.specs.declared.up.UpPhase.TheVariants.{Urbs}
 use Rattle.usbip_wire.specs.OpRequest.{SpellsRequest, IsRequest, request_size}
 use Rattle.usbip_wire.specs.Up as up
 use Rattle.usbip_wire.specs.UpFed.{Held, Means, kept, data_of}
 use Rattle.usbip_wire.specs.Range.{IsSent, sent_bytes, sent_size, written_request}
 use Rattle.usbip_wire.specs.Laws.{HaveSpellings}
-use Rattle.tmc_law.specs.State.{Plugged, start}
 use Rattle.tmc_law.specs.Step.{Comes, IsOver, ByPending}
 use Rattle.tmc_device.specs.Seen as device
 use Rattle.tmc_device.specs.Seen.{Makes}

@@ -1,5 +1,5 @@
 -- the calm moves come to an end: each makes what is left to do less
-use Rattle.std.proofs.Common.{◌≡◌, ◌≢◌, ◌∙◌, ℕ, ◌+◌, ◌-◌, ◌*◌, ◌<◌, ◌≤◌, Bool, true, false, List, [], ◌∷◌, ◌++◌, length, Option, Some, None, refl, sym, ap, length-append, arith}
+use Rattle.std.proofs.Common.{◌≡◌, ◌≢◌, ◌∙◌, ℕ, ◌+◌, ◌-◌, ◌<◌, ◌≤◌, true, false, List, [], ◌∷◌, length, Option, Some, None, refl, ap, length-append, arith}
 use Rattle.instr_plain.specs.declared.log.LogEntry.{LogEntry}
 use Rattle.tmc_wire.specs.declared.class_request.ClassRequest.{ClassRequest}
 use Rattle.tmc_wire.specs.declared.class_request.ClassRequest.TheVariants.{AbortOut, CheckOut, AbortIn, CheckIn, Clear, CheckClear, Capabilities, Pulse, ReadStatus, Ren, GoLocal, Lockout}
@@ -11,12 +11,12 @@ use Rattle.tmc_law.specs.BulkOut.{Interrupts, Dropped, NothingUnread, LaterPart,
 use Rattle.tmc_law.specs.BulkIn.{Begins, DoesBegin}
 use Rattle.tmc_law.specs.Aborts.{Served, AbortsBulkOut, AbortsBulkIn, ClearsAll, DoesClear, NotBegun, DoesAbort, checked_out, checked_in, checked_clear, without_part, cut}
 use Rattle.tmc_law.specs.Aborts as aborts
-use Rattle.tmc_law.specs.Status.{ReadsStatus, BadTag, PolledBefore, Busy, PolledNow, Polls, DoesPoll, Notifies, Gives, NoRoom}
+use Rattle.tmc_law.specs.Status.{ReadsStatus, BadTag, PolledBefore, Busy, PolledNow, DoesPoll, Notifies, Gives, NoRoom}
 use Rattle.tmc_law.specs.Standard.{Standard, standard_effect}
 use Rattle.tmc_law.specs.Standard as standard
 use Rattle.tmc_law.specs.Class.{Serves, Operates, DoesOperate, Answers, ByClass, ByStandard, Unknown}
 use Rattle.usbip_export.specs.Work.{outs, ins, waits, owes, work, weight}
-use Rattle.tmc_law.specs.Packets.{TakesBytes, SubmitStays, SubmitIsOver, TransferTakes, OfNoBytes, IsRefused, TransferGoesOn, TransferIsWhole, GivesBytes, HasRoom, IsFull, PieceGives, IsDrained, PieceGoesOn, PieceIsOver, PieceOverflows, moved_on, filled_by}
+use Rattle.tmc_law.specs.Packets.{TakesBytes, SubmitStays, SubmitIsOver, TransferTakes, OfNoBytes, IsRefused, TransferGoesOn, TransferIsWhole, GivesBytes, HasRoom, IsFull, PieceGives, IsDrained, PieceGoesOn, PieceIsOver, PieceOverflows}
 
 waits_most : (waiting : Option Waiting) → waits waiting ≤ 1
 waits_most None = omega arith

@@ -1,14 +1,12 @@
 -- a node that is fed, and whose answers are sent
-use Rattle.std.proofs.Common.{◌≡◌, ◌∙◌, ℕ, ◌≤◌, Bool, true, false, List, [], ◌∷◌, ◌++◌, length, take, drop, Option, Some, None, refl, sym, ap, subst, append_assoc, append-nil}
+use Rattle.std.proofs.Common.{◌≡◌, ◌∙◌, ℕ, Bool, true, false, List, [], ◌∷◌, ◌++◌, take, drop, None, refl, sym, ap, subst, append_assoc, append-nil}
 use Rattle.std.proofs.lemmas.List.{take-append-drop}
-use Rattle.tmc_base.specs.declared.field.Field.{Field}
-use Rattle.tmc_law.specs.State.{State, Presence, Plugged, Unplugged, Closed, start}
-use Rattle.tmc_law.specs.Put.{Put}
+use Rattle.tmc_law.specs.State.{State, Presence, Plugged, Unplugged, Closed}
 use Rattle.tmc_law.specs.Run.{Entry, Runs}
 use Rattle.tmc_device.specs.Seen.{is_closed}
 use Rattle.usbip_export.specs.declared.body.Body.{Body}
 use Rattle.usbip_export.specs.Seen.{Seen, standing, closed_by}
-use Rattle.usbip_export.specs.TakenIn.{IsSpelled, Serves, TakenIn, Asked, Failed, Imported, Served, Moves}
+use Rattle.usbip_export.specs.TakenIn.{Serves, TakenIn, Asked, Failed, Imported, Served, Moves}
 use Rattle.usbip_export.specs.Serving.{Works}
 use Rattle.usbip_export.specs.Body.{held_back, kept_of, seen_of, IsOpen}
 use Rattle.usbip_export.proofs.More.{taken_more, standing_same}

@@ -1,5 +1,5 @@
 -- what contracts see of a node
-use Rattle.std.specs.Prelude.{◌≡◌, ℕ, Bool, true, false, List, [], ◌++◌, Option, Some, None}
+use Rattle.std.specs.Prelude.{◌≡◌, ℕ, Bool, true, false, List, [], Option, Some, None}
 use Rattle.tmc_base.specs.declared.field.Field.{Field}
 use Rattle.usbip_wire.specs.declared.up.UpPhase.{UpPhase}
 use Rattle.usbip_wire.specs.declared.up.UpPhase.TheVariants.{Ops, Urbs}

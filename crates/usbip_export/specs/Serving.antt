@@ -1,5 +1,5 @@
 -- how a client is served over a link
-use Rattle.std.specs.Prelude.{◌≡◌, ◌≢◌, ◌⊎◌, ℕ, ◌+◌, ◌<◌, ◌≤◌, true, false, List, [], ◌++◌, length, Option, Some, None}
+use Rattle.std.specs.Prelude.{◌≡◌, ℕ, ◌+◌, ◌<◌, true, false, List, [], ◌++◌, None}
 use Rattle.tmc_base.specs.declared.link.SendStep.{SendStep}
 use Rattle.tmc_base.specs.declared.link.SendStep.TheVariants as send
 use Rattle.tmc_base.specs.declared.link.PollStep.{PollStep}

@@ -1,12 +1,12 @@
 -- what a node does with the bytes that it is fed
-use Rattle.std.specs.Prelude.{◌≡◌, ℕ, true, false, List, [], ◌∷◌, ◌++◌, Some, None}
+use Rattle.std.specs.Prelude.{◌≡◌, ℕ, true, false, List, ◌++◌, Some, None}
 use Rattle.tmc_base.specs.declared.field.Field.{Field}
 use Rattle.usbip_wire.specs.declared.op_request.OpRequest.{OpRequest}
 use Rattle.usbip_wire.specs.declared.op_request.OpRequest.TheVariants.{Import}
 use Rattle.usbip_wire.specs.declared.up.UpPhase.TheVariants.{Ops}
 use Rattle.usbip_wire.specs.OpRequest.{SpellsRequest}
 use Rattle.usbip_wire.specs.UpFed.{BadAt}
-use Rattle.tmc_law.specs.State.{State, start}
+use Rattle.tmc_law.specs.State.{start}
 use Rattle.tmc_law.specs.Put.{Put}
 use Rattle.tmc_law.specs.Run.{Entry, Runs, TakesAll, outputs, SpellAll, SpellsPut}
 use Rattle.usbip_export.specs.Identity.{busid, devid}

@@ -1,4 +1,4 @@
-use Rattle.std.proofs.Common.{refl, sym, ap, subst, List, take, ◌++◌}
+use Rattle.std.proofs.Common.{subst, List, take}
 use Rattle.tmc_base.specs.Told.{WentOut}
 use Rattle.usbip_export.specs.Serving.{Sent, Unsent}
 use Rattle.usbip_export.proofs.Crossed.{crosses_sent, crosses_unsent}

@@ -1,4 +1,4 @@
-use Rattle.std.proofs.Common.{refl, sym, subst, ◌∙◌}
+use Rattle.std.proofs.Common.{refl, sym, subst}
 use Rattle.std.proofs.lemmas.List.{take_rest}
 use Rattle.usbip_export.specs.declared.body.Body.{Body}
 use Rattle.usbip_export.specs.TakenIn.{Moves}

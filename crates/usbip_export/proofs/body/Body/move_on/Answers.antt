@@ -1,4 +1,3 @@
-use Rattle.std.proofs.Common.{refl}
 use Rattle.usbip_export.specs.Body.{seen_of}
 use Rattle.usbip_export.proofs.More.{moves_none, moves_more}
 use Rattle.usbip_export.proofs.body.Body.move_on.Goals as goal

@@ -1,4 +1,4 @@
-use Rattle.std.proofs.Common.{refl, sym, subst}
+use Rattle.std.proofs.Common.{refl, subst}
 use Rattle.usbip_export.specs.Seen.{Seen}
 use Rattle.usbip_export.specs.TakenIn.{Moves}
 use Rattle.usbip_export.specs.Body.{seen_of}

@@ -1,4 +1,4 @@
-use Rattle.std.proofs.Common.{refl, sym, subst, ◌∙◌, true, false, None, List, []}
+use Rattle.std.proofs.Common.{refl, subst, []}
 use Rattle.usbip_export.specs.Seen.{Seen}
 use Rattle.usbip_export.specs.Serving.{Works}
 use Rattle.usbip_export.specs.Body.{seen_of}
