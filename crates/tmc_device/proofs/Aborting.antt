@@ -1,5 +1,5 @@
 -- aborts that begin, or are declined
-use Rattle.std.proofs.Common.{◌≡◌, ◌∙◌, refl, sym, ap, subst, ℕ, List, [], ◌∷◌, Option, Some, None}
+use Rattle.std.proofs.Common.{◌≡◌, refl, sym, subst, ℕ, [], ◌∷◌, Option, Some, None}
 use Rattle.std.specs.Option.{unwrap_or}
 use Rattle.tmc_law.specs.State.{Running}
 use Rattle.tmc_law.specs.Aborts.{Declined, told_tag}

@@ -1,10 +1,10 @@
 -- submits arrive
-use Rattle.std.proofs.Common.{◌≡◌, ◌≢◌, ◌∙◌, ◌⊎◌, inl, inr, ℕ, ◌<◌, ◌≤◌, Bool, true, false, List, [], ◌∷◌, ◌++◌, length, Result, Ok, Err, OnOk, refl, ap, sym, subst, arith}
+use Rattle.std.proofs.Common.{◌≡◌, inl, inr, ℕ, ◌<◌, Bool, true, false, List, [], ◌∷◌, ◌++◌, length, Result, Ok, Err, OnOk, refl, arith}
 use Rattle.usbip_wire.specs.declared.submit.SubmitHead.{SubmitHead}
 use Rattle.usbip_wire.specs.Up as up
 use Rattle.tmc_law.specs.Endpoint.{Endpoint, Control}
-use Rattle.tmc_law.specs.State.{State, Pending, Plugged, arrived, pending, Avoids, queue_of, with_queue}
-use Rattle.tmc_law.specs.Put.{Put, answer_of, stalled}
+use Rattle.tmc_law.specs.State.{Pending, Plugged, arrived, pending, Avoids, queue_of, with_queue}
+use Rattle.tmc_law.specs.Put.{answer_of, stalled}
 use Rattle.tmc_law.specs.Queues.{IsSubmit, IsTaken, Queued, TurnedAway, pending_most}
 use Rattle.tmc_law.specs.Step.{Comes}
 use Rattle.endpoint_pipes.specs.Held.{all_of, IsPending}

@@ -1,10 +1,8 @@
 -- a piece begins
-use Rattle.std.proofs.Common.{◌≡◌, ◌∙◌, ℕ, ◌+◌, ◌-◌, ◌<◌, ◌≤◌, ◌%◌, ◌==◌, zero, suc, min, List, [], ◌∷◌, ◌++◌, length, take, replicate, refl, ap, sym, subst, append_assoc, arith}
-use Rattle.std.specs.List.{slice_range}
+use Rattle.std.proofs.Common.{◌≡◌, ◌∙◌, ℕ, ◌-◌, ◌<◌, ◌≤◌, ◌%◌, ◌==◌, zero, suc, min, List, [], ◌∷◌, ◌++◌, length, take, replicate, refl, ap, subst, append_assoc, arith}
 use Rattle.tmc_wire.specs.Header.{in_header_bytes}
-use Rattle.tmc_wire.specs.Transfer.{alignment_of}
 use Rattle.instr_plain.specs.declared.log.LogEntry.TheVariants as entry
-use Rattle.tmc_law.specs.State.{State, Piece, Packet, Side, Idle, Owed, Sending}
+use Rattle.tmc_law.specs.State.{State, Packet, Side, Idle, Owed, Sending}
 use Rattle.tmc_law.specs.Logging.{Logs, with_service, unread}
 use Rattle.tmc_law.specs.BulkIn.{NoAbortIn, Begins, DoesBegin, piece_bytes}
 use Rattle.msg_exchange.specs.Held.{Kept, Holds, led_to}

@@ -2,7 +2,7 @@
 use Rattle.std.proofs.Common.{◌≡◌, ◌≢◌, ◌∙◌, refl, sym, ap, ℕ, Bool, true, false, [], ◌∷◌}
 use Rattle.tmc_law.specs.State.{State}
 use Rattle.tmc_law.specs.State as law
-use Rattle.tmc_law.specs.Aborts.{Served, checked_out, checked_in, checked_clear, check_out_layout, check_in_layout}
+use Rattle.tmc_law.specs.Aborts.{checked_out, checked_in, checked_clear, check_out_layout, check_in_layout}
 use Rattle.tmc_device.specs.declared.running.Running.{Running}
 use Rattle.tmc_device.specs.declared.running.Running.TheVariants as running
 use Rattle.tmc_device.specs.Parts.{running_of}

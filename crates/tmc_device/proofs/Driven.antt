@@ -1,5 +1,5 @@
 -- what a call of drive did
-use Rattle.std.proofs.Common.{◌≡◌, ◌≢◌, refl, sym, ap, subst, List, [], ◌∷◌, ◌++◌, Result, Ok, Err, OnOk, OnErr}
+use Rattle.std.proofs.Common.{◌≡◌, ◌≢◌, refl, sym, subst, List, [], ◌∷◌, ◌++◌, Result, Ok, Err, OnOk, OnErr}
 use Rattle.tmc_law.specs.declared.dev_event.DevEvent.{DevEvent}
 use Rattle.tmc_law.specs.State.{State}
 use Rattle.tmc_law.specs.Put.{Put}

@@ -1,15 +1,15 @@
 -- a transfer takes effect
-use Rattle.std.proofs.Common.{◌≡◌, ◌≢◌, ◌∙◌, ℕ, ◌+◌, ◌-◌, ◌<◌, ◌≤◌, ◌==◌, Bool, true, false, List, [], ◌∷◌, ◌++◌, length, take, drop, Option, Some, None, refl, ap, sym, subst, arith}
+use Rattle.std.proofs.Common.{◌≡◌, ◌≢◌, ◌∙◌, ℕ, ◌+◌, ◌-◌, ◌==◌, Bool, true, false, List, [], ◌∷◌, length, take, drop, Option, Some, None, refl, ap, sym, subst, arith}
 use Rattle.std.specs.List.{slice_range}
 use Rattle.std.proofs.lemmas.Bool.{eqb-true}
 use Rattle.tmc_wire.specs.declared.header.OutHeader.{OutHeader}
-use Rattle.tmc_wire.specs.declared.header.OutHeader.TheVariants.{Message, Request, Trigger}
+use Rattle.tmc_wire.specs.declared.header.OutHeader.TheVariants.{Message, Request}
 use Rattle.tmc_wire.specs.Transfer.{OutText}
 use Rattle.instr_plain.specs.declared.log.LogEntry.{LogEntry}
 use Rattle.instr_plain.specs.declared.log.LogEntry.TheVariants as entry
 use Rattle.tmc_law.specs.State.{State, Transfer, Packet, Side, Owed}
 use Rattle.tmc_law.specs.Logging.{Logs, with_service, unread}
-use Rattle.tmc_law.specs.BulkOut.{TakesEffect, Requests, RequestsNothing, Triggers}
+use Rattle.tmc_law.specs.BulkOut.{TakesEffect, Requests, RequestsNothing}
 use Rattle.msg_exchange.specs.Held.{Kept, led_to}
 use Rattle.tmc_device.specs.declared.body.Body.{Body}
 use Rattle.tmc_device.specs.Parts.{header_in, taken_in}

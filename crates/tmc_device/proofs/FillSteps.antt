@@ -1,14 +1,14 @@
 -- packets that go into the first Bulk-IN submit are a step
-use Rattle.std.proofs.Common.{◌≡◌, ◌∙◌, ◌⊎◌, inl, inr, ℕ, ◌+◌, ◌-◌, ◌*◌, ◌/◌, ◌<◌, ◌≤◌, zero, suc, min, max, Bool, true, false, List, [], ◌∷◌, ◌++◌, length, take, drop, Option, Some, None, refl, ap, sym, subst, arith}
+use Rattle.std.proofs.Common.{◌≡◌, ◌∙◌, ◌⊎◌, inl, inr, ℕ, ◌+◌, ◌-◌, ◌*◌, ◌/◌, ◌<◌, ◌≤◌, zero, suc, min, max, true, false, List, [], ◌∷◌, ◌++◌, length, Option, Some, refl, ap, sym, subst, arith}
 use Rattle.usbip_wire.specs.declared.urb.Dir.{Dir}
 use Rattle.usbip_wire.specs.declared.urb.Dir.TheVariants.{In}
 use Rattle.tmc_law.specs.Endpoint.{BulkIn}
 use Rattle.tmc_law.specs.State.{State, Pending, Piece, Side, Idle, Owed, Sending, Running, Nothing, AbortsOut, AbortsIn, Clears, Plugged, room}
-use Rattle.tmc_law.specs.Put.{Put, ended, success}
+use Rattle.tmc_law.specs.Put.{ended, success}
 use Rattle.tmc_law.specs.Halts.{halts, halt_answers}
-use Rattle.tmc_law.specs.BulkIn.{Fills, Ends, Inside, Full, Short, Overflows, NoPacketWanted, LeavesRoom, filled, given}
+use Rattle.tmc_law.specs.BulkIn.{Fills, Ends, Inside, Full, Short, Overflows, NoPacketWanted, filled, given}
 use Rattle.tmc_law.specs.BulkOut.{packets_of}
-use Rattle.tmc_law.specs.Acts.{FitsAt, Sized}
+use Rattle.tmc_law.specs.Acts.{Sized}
 use Rattle.tmc_law.specs.Reached.{AllFit}
 use Rattle.tmc_law.specs.Step.{Fill}
 use Rattle.endpoint_pipes.specs.declared.outcome.Pending.{Pending as First}
@@ -22,7 +22,7 @@ use Rattle.tmc_device.specs.Seen.{Makes}
 use Rattle.tmc_device.specs.Sound.{IsSound}
 use Rattle.tmc_device.specs.Body.{state_of, seen_of}
 use Rattle.tmc_device.specs.Fill.{Became, GaveBytes}
-use Rattle.tmc_device.proofs.Firsts.{FirstIs, first_is}
+use Rattle.tmc_device.proofs.Firsts.{first_is}
 use Rattle.tmc_device.proofs.Making.{quiet, loud}
 use Rattle.tmc_device.proofs.Filling.{state_gave, same_outputs}
 

@@ -1,11 +1,9 @@
 -- packets go into the first Bulk-IN submit
-use Rattle.std.proofs.Common.{◌≡◌, ◌∙◌, ℕ, ◌+◌, ◌-◌, ◌*◌, ◌/◌, ◌<◌, ◌≤◌, List, [], ◌∷◌, ◌++◌, length, take, drop, IsSome, Option, Some, None, refl, ap, sym, subst, arith}
+use Rattle.std.proofs.Common.{◌≡◌, ◌∙◌, ℕ, List, [], ◌∷◌, ◌++◌, IsSome, refl, ap, sym, subst}
 use Rattle.tmc_law.specs.Endpoint.{BulkIn}
-use Rattle.tmc_law.specs.State.{State, Pending, Piece, Side, Idle, Owed, Sending}
-use Rattle.tmc_law.specs.Put.{Put, ended, success}
-use Rattle.tmc_law.specs.Halts.{halts, halt_answers}
+use Rattle.tmc_law.specs.State.{Pending, Piece, Side, Idle, Owed, Sending}
+use Rattle.tmc_law.specs.Put.{ended, success}
 use Rattle.tmc_law.specs.BulkIn.{filled, given}
-use Rattle.tmc_law.specs.Reached.{FirstBegins}
 use Rattle.endpoint_pipes.specs.Held.{Held, list_of, with_list}
 use Rattle.endpoint_pipes.specs.Outcome.{first_of, HasRoom}
 use Rattle.tmc_device.specs.declared.body.Body.{Body}

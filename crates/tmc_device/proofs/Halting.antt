@@ -1,11 +1,11 @@
 -- an endpoint halts
-use Rattle.std.proofs.Common.{◌≡◌, ◌∙◌, ℕ, ℤ, zero, suc, ◌<◌, Bool, true, false, List, [], ◌∷◌, ◌++◌, map, Option, Some, None, refl, ap, sym, subst, arith}
+use Rattle.std.proofs.Common.{◌≡◌, ◌∙◌, ℕ, ℤ, zero, suc, ◌<◌, true, List, [], ◌∷◌, map, Option, None, refl, ap, arith}
 use Rattle.tmc_law.specs.Endpoint.{Endpoint, Control, BulkOut, BulkIn, InterruptIn}
-use Rattle.tmc_law.specs.State.{State, Pending, Transfer, Side, Idle, queue_of, with_queue, with_halt}
+use Rattle.tmc_law.specs.State.{State, Pending, Transfer, queue_of, with_queue, with_halt}
 use Rattle.tmc_law.specs.Put.{Put, ended, answer_of}
-use Rattle.tmc_law.specs.Halts.{all_ended, without_transfer, halts, halt_answers}
-use Rattle.tmc_law.specs.Reached.{IsFresh, AreFresh, FirstBegins}
-use Rattle.msg_exchange.specs.Held.{Held, Kept, Holds}
+use Rattle.tmc_law.specs.Halts.{all_ended, without_transfer, halts}
+use Rattle.tmc_law.specs.Reached.{AreFresh, FirstBegins}
+use Rattle.msg_exchange.specs.Held.{Kept, Holds}
 use Rattle.endpoint_pipes.specs.Held as pipes
 use Rattle.tmc_device.specs.declared.body.Body.{Body}
 use Rattle.tmc_device.specs.Body.{state_of}

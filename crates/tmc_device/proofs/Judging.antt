@@ -1,5 +1,5 @@
 -- headers and lengths are judged
-use Rattle.std.proofs.Common.{◌≡◌, ◌≢◌, ◌∙◌, ℕ, ◌+◌, ◌<◌, ◌≤◌, Bool, List, [], ◌∷◌, length, take, Option, Some, None, Result, Ok, Err, ◌↔◌, refl, ap, sym, subst, arith}
+use Rattle.std.proofs.Common.{◌≡◌, ◌∙◌, ℕ, List, [], take, Option, Some, None, refl, ap, sym, subst, arith}
 use Rattle.tmc_wire.specs.declared.header.OutHeader.{OutHeader}
 use Rattle.tmc_wire.specs.declared.header.OutHeader.TheVariants.{Message, Request, Trigger}
 use Rattle.tmc_wire.specs.declared.header_fault.HeaderFault.{HeaderFault}
@@ -7,7 +7,7 @@ use Rattle.tmc_wire.specs.Standard.{header_size}
 use Rattle.tmc_wire.specs.Header.{IsOutHeader}
 use Rattle.tmc_wire.specs.HeaderFault.{IsOutFault}
 use Rattle.tmc_law.specs.State.{State, Pending, Transfer, Idle}
-use Rattle.tmc_law.specs.BulkOut.{message_most, HeaderRefused, NoHeader, BulkInBusy, RequestInside, TriggerInside, TooLong, Belongs, InProgress, Begun, Misfits, Spoils, ByHeader, ByLength}
+use Rattle.tmc_law.specs.BulkOut.{HeaderRefused, NoHeader, BulkInBusy, RequestInside, TriggerInside, TooLong, Belongs, InProgress, Begun, Misfits, Spoils, ByHeader, ByLength}
 use Rattle.tmc_device.specs.Parts.{header_in, taken_in}
 use Rattle.tmc_device.specs.declared.body.Body.{Body}
 use Rattle.tmc_device.specs.Body.{state_of, IsJudged}

@@ -1,19 +1,19 @@
 -- what makes a step
-use Rattle.std.proofs.Common.{◌≡◌, ◌∙◌, ℕ, ℤ, Bool, true, false, List, [], ◌∷◌, ◌++◌, map, Result, Ok, Err, OnOk, is_err, refl, ap, sym, subst, append-nil}
+use Rattle.std.proofs.Common.{◌≡◌, ◌∙◌, ℤ, Bool, true, false, List, [], ◌∷◌, ◌++◌, map, Result, Ok, Err, OnOk, is_err, refl, ap, sym, subst, append-nil}
 use Rattle.tmc_law.specs.Endpoint.{Endpoint, Control, BulkOut, BulkIn, InterruptIn}
-use Rattle.tmc_law.specs.State.{State, Pending, Packet, Plugged, queue_of}
+use Rattle.tmc_law.specs.State.{Pending, Packet, Plugged, queue_of}
 use Rattle.tmc_law.specs.Put.{Put, ended}
 use Rattle.tmc_law.specs.Logging.{with_service}
 use Rattle.tmc_law.specs.Halts.{all_ended}
 use Rattle.tmc_law.specs.Reached.{FirstBegins}
-use Rattle.tmc_law.specs.Step.{Move, Steps, Leads}
+use Rattle.tmc_law.specs.Step.{Move, Leads}
 use Rattle.msg_exchange.specs.Held.{Kept, Holds, led_to}
 use Rattle.endpoint_pipes.specs.Held.{list_of}
 use Rattle.endpoint_pipes.specs.Part.{queue_from}
 use Rattle.tmc_device.specs.declared.body.Body.{Body}
 use Rattle.tmc_device.specs.Parts.{presence_of}
 use Rattle.tmc_device.specs.Seen.{Seen, Makes}
-use Rattle.tmc_device.specs.Body.{state_of, seen_of, IsPrepared}
+use Rattle.tmc_device.specs.Body.{state_of}
 use Rattle.tmc_device.proofs.Halting.{each_ended}
 
 -- a step that puts nothing out

@@ -1,12 +1,12 @@
 -- lawful steps, and the events that they are
-use Rattle.std.proofs.Common.{◌≡◌, ◌≢◌, ◌⊎◌, inl, inr, ◌∙◌, ℕ, ◌+◌, ◌-◌, ◌*◌, ◌<◌, ◌≤◌, min, true, false, List, [], ◌∷◌, length, drop, zero, suc, Option, Some, None, refl, ap, sym, subst, arith}
-use Rattle.std.specs.Prelude.{◌/◌, max}
+use Rattle.std.proofs.Common.{◌≡◌, ◌≢◌, inl, inr, ◌∙◌, ℕ, ◌+◌, ◌*◌, ◌≤◌, true, false, List, [], ◌∷◌, length, drop, zero, suc, None, refl, ap, sym, subst, arith}
+use Rattle.std.specs.Prelude.{◌/◌}
 use Rattle.std.proofs.Math.Nat.{lt_of_not-le}
 use Rattle.std.proofs.Math.ListN.{drop_of_length-le}
 use Rattle.tmc_law.specs.declared.dev_event.DevEvent.{DevEvent}
 use Rattle.tmc_law.specs.declared.dev_event.DevEvent.TheVariants as event
 use Rattle.tmc_law.specs.Endpoint.{Endpoint, Control, BulkOut, BulkIn, InterruptIn, number_of, packet_size}
-use Rattle.tmc_law.specs.State.{State, Pending, Side, Idle, Owed, Sending, Piece, Running, Nothing, AbortsOut, AbortsIn, Clears, Waiting, room, is_halted}
+use Rattle.tmc_law.specs.State.{State, Pending, Side, Sending, Piece, Running, Nothing, AbortsOut, AbortsIn, Clears, room}
 use Rattle.tmc_law.specs.Put.{Put}
 use Rattle.tmc_law.specs.Logging.{unread}
 use Rattle.tmc_law.specs.Halts.{HaltsItself, DoesHalt}
@@ -20,7 +20,7 @@ use Rattle.tmc_law.specs.Step as step
 use Rattle.tmc_law.specs.Step.{Move, Steps}
 use Rattle.endpoint_pipes.specs.Held.{endpoint_of}
 use Rattle.endpoint_pipes.specs.Outcome.{left_of}
-use Rattle.tmc_device.specs.Events.{Allows, count_of, IsOwed, HasPackets, Needs, IsEnabled, packets_there, largest_piece, packets_left, packets_into, packets_due, move_of}
+use Rattle.tmc_device.specs.Events.{Allows, count_of, IsOwed, HasPackets, Needs, IsEnabled, packets_there, largest_piece, packets_left, packets_into, move_of}
 
 -- what an event needs is there, and its move has at least this count
 record Fits (e : DevEvent) (s : State) (count : ℕ) : Type 0 where

@@ -1,6 +1,5 @@
 -- the answer PENDING
-use Rattle.std.proofs.Common.{◌≡◌, ◌∙◌, refl, ap, subst, false, List, ℕ, [], ◌∷◌, ◌++◌}
-use Rattle.usb_setup.specs.declared.setup.Setup.{Setup}
+use Rattle.std.proofs.Common.{◌≡◌, ◌∙◌, refl, ap, List, ℕ, [], ◌∷◌, ◌++◌}
 use Rattle.tmc_wire.specs.declared.class_request.ClassRequest.{ClassRequest}
 use Rattle.tmc_wire.specs.ControlTable.{IsRow}
 use Rattle.tmc_law.specs.declared.dev_event.DevEvent.TheVariants as event

@@ -1,8 +1,8 @@
 -- the first of what was put out
-use Rattle.std.proofs.Common.{◌≡◌, ◌∙◌, ℕ, ◌<◌, List, [], ◌∷◌, length, map, get_or, refl, ap, sym, arith}
+use Rattle.std.proofs.Common.{◌≡◌, ◌∙◌, ◌<◌, List, [], ◌∷◌, length, map, get_or, ap, sym, arith}
 use Rattle.tmc_law.specs.Put.{Put}
 use Rattle.tmc_device.specs.declared.outputs.Sent.{Sent}
-use Rattle.tmc_device.specs.Parts.{Outbox, put_of}
+use Rattle.tmc_device.specs.Parts.{put_of}
 
 pub record FirstSent (puts : List Put) (put : Put) : Type 0 where
   pub rest : List Put

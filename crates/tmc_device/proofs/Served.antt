@@ -1,5 +1,5 @@
 -- a class request is served
-use Rattle.std.proofs.Common.{◌≡◌, List, ◌∷◌, ◌++◌, subst, sym}
+use Rattle.std.proofs.Common.{◌≡◌, List, ◌∷◌, ◌++◌, subst}
 use Rattle.usb_setup.specs.declared.setup.Setup.{Setup}
 use Rattle.tmc_law.specs.State.{State, Pending}
 use Rattle.tmc_law.specs.Control.{control_answer}

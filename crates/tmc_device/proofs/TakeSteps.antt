@@ -1,6 +1,6 @@
 -- packets that are taken are a step
-use Rattle.std.proofs.Common.{◌≡◌, ◌≢◌, ◌∙◌, ℕ, ◌+◌, ◌-◌, ◌*◌, ◌/◌, ◌^◌, ◌<◌, ◌≤◌, min, max, List, [], ◌∷◌, ◌++◌, length, take, drop, Option, Some, None, refl, ap, sym, subst, arith}
-use Rattle.std.proofs.lemmas.List.{length-drop, length-append, take_all, drop_all}
+use Rattle.std.proofs.Common.{◌≡◌, ◌≢◌, ◌∙◌, ℕ, ◌*◌, ◌^◌, ◌<◌, ◌≤◌, min, List, [], ◌∷◌, ◌++◌, length, take, drop, Option, Some, None, refl, ap, sym, subst, arith}
+use Rattle.std.proofs.lemmas.List.{length-drop, length-append, take_all}
 use Rattle.tmc_wire.specs.declared.header.OutHeader.{OutHeader}
 use Rattle.usbip_wire.specs.declared.urb.Dir.{Dir}
 use Rattle.usbip_wire.specs.declared.urb.Dir.TheVariants.{Out}
@@ -9,10 +9,10 @@ use Rattle.tmc_law.specs.Acts.{Sized}
 use Rattle.tmc_law.specs.Reached.{AllFit}
 use Rattle.tmc_law.specs.Endpoint.{BulkOut}
 use Rattle.tmc_law.specs.State.{State, Pending, Transfer, Plugged, transfer_size}
-use Rattle.tmc_law.specs.Put.{Put, ended, success}
+use Rattle.tmc_law.specs.Put.{ended, success}
 use Rattle.tmc_law.specs.Halts.{halts, halt_answers}
 use Rattle.tmc_law.specs.Packets.{moved_on}
-use Rattle.tmc_law.specs.BulkOut.{packets_of, Takes, Empty, Spoiled, Inside, SubmitEnds, TransferEnds, Moves, DoesMove, Spoils, Belongs, TakesEffect, wants}
+use Rattle.tmc_law.specs.BulkOut.{packets_of, Empty, Spoiled, Inside, SubmitEnds, TransferEnds, DoesMove, Spoils, TakesEffect}
 use Rattle.tmc_law.specs.Step.{Take}
 use Rattle.endpoint_pipes.specs.Held.{Held, with_list}
 use Rattle.endpoint_pipes.specs.Outcome.{first_of, left_of}
@@ -25,7 +25,7 @@ use Rattle.tmc_device.specs.Sound.{IsSound}
 use Rattle.tmc_device.specs.Body.{state_of, seen_of, IsJudged, IsWhole}
 use Rattle.tmc_device.proofs.Firsts.{IsFirst}
 use Rattle.tmc_device.proofs.Making.{quiet, loud}
-use Rattle.tmc_device.proofs.Wanting.{IsWanted, wanted, whole_text}
+use Rattle.tmc_device.proofs.Wanting.{wanted, whole_text}
 
 not_empty : (l : List ℕ) → 0 < length l → l ≢ []
 not_empty l some same = let zero : length l ≡ 0 = ap length same in omega (arith, some, zero)

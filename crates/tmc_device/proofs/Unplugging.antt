@@ -1,7 +1,7 @@
 -- a device is unplugged
-use Rattle.std.proofs.Common.{◌≡◌, ◌∙◌, refl, sym, ap, ℤ, Bool, true, false, List, [], ◌∷◌, ◌++◌, map, append_assoc}
-use Rattle.tmc_law.specs.Endpoint.{Endpoint, Control, BulkOut, BulkIn, InterruptIn}
-use Rattle.tmc_law.specs.State.{State, Pending}
+use Rattle.std.proofs.Common.{◌≡◌, ◌∙◌, refl, ap, ℤ, Bool, true, false, List, [], ◌∷◌, ◌++◌, map, append_assoc}
+use Rattle.tmc_law.specs.Endpoint.{Control, BulkOut, BulkIn, InterruptIn}
+use Rattle.tmc_law.specs.State.{Pending}
 use Rattle.tmc_law.specs.Put.{Put, ended}
 use Rattle.tmc_law.specs.Halts.{all_ended}
 use Rattle.tmc_law.specs.Reached.{FirstBegins}

@@ -1,17 +1,17 @@
 -- what is known of the transfer that a packet belongs to
-use Rattle.std.proofs.Common.{◌≡◌, ◌≢◌, ◌∙◌, ◌⊎◌, inl, inr, ℕ, ◌+◌, ◌-◌, ◌*◌, ◌/◌, ◌%◌, ◌<◌, ◌≤◌, max, List, [], ◌∷◌, ◌++◌, length, take, drop, Option, Some, None, refl, ap, sym, subst, arith}
-use Rattle.std.proofs.lemmas.List.{length-replicate, length-append, length-take-le, length-drop, take-append-le, take-append-drop}
+use Rattle.std.proofs.Common.{◌≡◌, ◌≢◌, ◌∙◌, ◌⊎◌, inl, inr, ℕ, ◌+◌, ◌-◌, ◌%◌, ◌<◌, ◌≤◌, List, [], ◌∷◌, ◌++◌, length, take, drop, Option, Some, None, refl, ap, sym, subst, arith}
+use Rattle.std.proofs.lemmas.List.{length-replicate, length-take-le, length-drop, take-append-le, take-append-drop}
 use Rattle.usbip_wire.specs.declared.urb.Dir.{Dir}
 use Rattle.usbip_wire.specs.declared.urb.Dir.TheVariants.{Out}
 use Rattle.tmc_wire.specs.declared.header.OutHeader.{OutHeader}
 use Rattle.tmc_wire.specs.declared.header.OutHeader.TheVariants.{Message, Request, Trigger}
 use Rattle.tmc_wire.specs.Standard.{header_size}
 use Rattle.tmc_wire.specs.Header.{IsOutHeader}
-use Rattle.tmc_wire.specs.Transfer.{OutText, data_size, alignment_of}
+use Rattle.tmc_wire.specs.Transfer.{OutText, data_size}
 use Rattle.tmc_law.specs.Endpoint.{BulkOut}
 use Rattle.tmc_law.specs.State.{State, Pending, Transfer, transfer_size}
-use Rattle.tmc_law.specs.BulkOut.{message_most, HeaderRefused, RequestInside, TriggerInside, TooLong, Belongs, InProgress, Begun, Misfits, Spoils, ByHeader, ByLength, wants}
-use Rattle.tmc_law.specs.Acts.{FitsAt, Sized}
+use Rattle.tmc_law.specs.BulkOut.{message_most, HeaderRefused, RequestInside, TriggerInside, TooLong, Belongs, InProgress, Begun, Spoils, ByLength, wants}
+use Rattle.tmc_law.specs.Acts.{Sized}
 use Rattle.tmc_law.specs.Reached.{AllFit, GoesOn}
 use Rattle.tmc_device.specs.Parts.{transfer_most}
 use Rattle.tmc_device.specs.Sound.{IsSound}

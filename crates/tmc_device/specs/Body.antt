@@ -1,14 +1,13 @@
 -- the state of the law, as a device keeps it
-use Rattle.std.specs.Prelude.{◌≡◌, ◌≢◌, ℕ, ◌+◌, ◌<◌, ◌≤◌, Bool, false, List, length, take, drop, Option, Some, None}
+use Rattle.std.specs.Prelude.{◌≡◌, ℕ, ◌+◌, ◌<◌, ◌≤◌, false, List, length, take, drop, Option, Some, None}
 use Rattle.tmc_law.specs.Endpoint.{Control}
-use Rattle.tmc_law.specs.State.{State, Pending, Plugged}
-use Rattle.tmc_law.specs.Put.{Put}
+use Rattle.tmc_law.specs.State.{State, Pending}
 use Rattle.tmc_law.specs.BulkOut.{message_most, Spoils, Belongs, TakesEffect}
 use Rattle.tmc_wire.specs.Standard.{header_size}
 use Rattle.tmc_wire.specs.Transfer.{OutText, data_size}
 use Rattle.tmc_law.specs.AnswerFits.{FitsAsked, AllAnswers}
 use Rattle.tmc_wire.specs.declared.header.OutHeader.{OutHeader}
-use Rattle.endpoint_pipes.specs.Held.{Held, all_of}
+use Rattle.endpoint_pipes.specs.Held.{all_of}
 use Rattle.endpoint_pipes.specs.Part.{queue_from}
 use Rattle.tmc_device.specs.declared.body.Body.{Body}
 use Rattle.tmc_device.specs.Parts.{running_of, presence_of, taken_in}

@@ -1,13 +1,13 @@
 -- what a device does by itself: when each event is enabled, and which step it is
-use Rattle.std.specs.Prelude.{◌≡◌, ◌≢◌, ℕ, ◌+◌, ◌-◌, ◌/◌, ◌<◌, ◌≤◌, min, true, false, List, [], ◌∷◌, ◌++◌, length, None}
+use Rattle.std.specs.Prelude.{◌≡◌, ◌≢◌, ℕ, ◌+◌, ◌/◌, ◌<◌, ◌≤◌, min, true, false, List, [], ◌∷◌, length, None}
 use Rattle.usb_setup.specs.declared.setup.Setup.{Setup}
 use Rattle.tmc_wire.specs.declared.class_request.ClassRequest.{ClassRequest}
 use Rattle.tmc_wire.specs.declared.class_request.ClassRequest.TheVariants.{ReadStatus}
 use Rattle.tmc_wire.specs.ControlTable.{IsRow}
 use Rattle.tmc_law.specs.declared.dev_event.DevEvent.{DevEvent}
 use Rattle.tmc_law.specs.declared.dev_event.DevEvent.TheVariants as event
-use Rattle.tmc_law.specs.Endpoint.{Endpoint, number_of, packet_size, ends}
-use Rattle.tmc_law.specs.State.{State, Pending, Side, Idle, Owed, Sending, Running, AbortsIn, Plugged, room, is_halted}
+use Rattle.tmc_law.specs.Endpoint.{number_of, packet_size, ends}
+use Rattle.tmc_law.specs.State.{State, Pending, Side, Owed, Sending, Running, AbortsIn, Plugged, room, is_halted}
 use Rattle.tmc_law.specs.Put.{Put}
 use Rattle.tmc_law.specs.Control.{Asks}
 use Rattle.tmc_law.specs.Logging.{unread, is_queued}

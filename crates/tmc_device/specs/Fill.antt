@@ -1,5 +1,5 @@
 -- what becomes of the first Bulk-IN submit and the piece, at a device
-use Rattle.std.specs.Prelude.{◌≡◌, ℕ, List, [], ◌∷◌, ◌++◌, take, drop}
+use Rattle.std.specs.Prelude.{◌≡◌, ℕ, List, [], ◌∷◌, ◌++◌}
 use Rattle.tmc_law.specs.Endpoint.{BulkIn}
 use Rattle.tmc_law.specs.State.{State, Pending, Piece, Idle, Sending}
 use Rattle.tmc_law.specs.Put.{Put, ended, success}

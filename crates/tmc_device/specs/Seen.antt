@@ -1,7 +1,5 @@
 -- what contracts see of a device
 use Rattle.std.specs.Prelude.{◌≡◌, ℕ, Bool, true, false, List, [], ◌++◌}
-use Rattle.usbip_wire.specs.declared.submit.SubmitHead.{SubmitHead}
-use Rattle.usbip_wire.specs.declared.ret_submit.RetSubmitHead.{RetSubmitHead}
 use Rattle.tmc_law.specs.declared.output.Output.{Output}
 use Rattle.tmc_law.specs.declared.output.Output.TheVariants as output
 use Rattle.tmc_law.specs.State.{State, Presence, Plugged, Unplugged, Closed, start}

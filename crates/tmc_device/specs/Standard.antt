@@ -1,7 +1,7 @@
 -- the standard requests of a device
-use Rattle.std.specs.Prelude.{◌≡◌, ℕ, ◌<◌, ◌+◌, List, [], ◌∷◌, ◌++◌}
+use Rattle.std.specs.Prelude.{◌≡◌, ℕ, ◌<◌, List, [], ◌∷◌, ◌++◌}
 use Rattle.usb_setup.specs.declared.setup.Setup.{Setup}
-use Rattle.tmc_law.specs.State.{State, Pending}
+use Rattle.tmc_law.specs.State.{Pending}
 use Rattle.tmc_law.specs.Control.{control_answer}
 use Rattle.tmc_law.specs.Standard as law
 use Rattle.endpoint_pipes.specs.Held.{endpoint_of}

@@ -1,4 +1,4 @@
-use Rattle.std.proofs.Common.{◌≡◌, ap, refl, true, false}
+use Rattle.std.proofs.Common.{ap, refl}
 use Rattle.tmc_law.specs.Aborts.{Another}
 use Rattle.tmc_device.specs.Parts.{running_of}
 use Rattle.tmc_device.proofs.aborts.declined.Goals as goal

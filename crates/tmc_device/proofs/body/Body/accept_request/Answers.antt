@@ -1,4 +1,4 @@
-use Rattle.std.proofs.Common.{◌≡◌, ◌≢◌, ◌==◌, ◌∙◌, [], length, ap, sym}
+use Rattle.std.proofs.Common.{◌∙◌, sym}
 use Rattle.tmc_device.proofs.Effects.{requests, requests_nothing, none_unread, some_unread}
 use Rattle.tmc_device.proofs.body.Body.accept_request.Goals as goal
 

@@ -1,9 +1,7 @@
 use Rattle.std.proofs.Common.{None, refl}
-use Rattle.instr_plain.specs.declared.log.LogEntry.TheVariants as entry
 use Rattle.tmc_law.specs.BulkOut.{Triggers}
 use Rattle.tmc_device.specs.Body.{state_of}
-use Rattle.tmc_device.proofs.Making.{own}
-use Rattle.tmc_device.proofs.Effects.{logs_is, effect_is}
+use Rattle.tmc_device.proofs.Effects.{effect_is}
 use Rattle.tmc_device.proofs.body.Body.accept_trigger.Goals as goal
 
 pub returns-clause-effect : goal.returns-clause-effect

@@ -1,4 +1,4 @@
-use Rattle.std.proofs.Common.{◌≡◌, refl, ap, Bool}
+use Rattle.std.proofs.Common.{refl, ap}
 use Rattle.tmc_law.specs.Class.{ByClass, ByStandard, Unknown}
 use Rattle.tmc_device.specs.Parts.{presence_of}
 use Rattle.tmc_device.specs.Standard.{standard_of}

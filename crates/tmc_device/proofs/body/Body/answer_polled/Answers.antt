@@ -1,4 +1,4 @@
-use Rattle.std.proofs.Common.{◌≡◌, ◌∙◌, List, ℕ, Some, ap, sym, subst}
+use Rattle.std.proofs.Common.{◌≡◌, ◌∙◌, List, ℕ, Some, ap, subst}
 use Rattle.tmc_wire.specs.declared.class_request.ClassRequest.{ClassRequest}
 use Rattle.tmc_wire.specs.declared.class_request.ClassRequest.TheVariants.{ReadStatus}
 use Rattle.tmc_law.specs.Control.{control_answer}

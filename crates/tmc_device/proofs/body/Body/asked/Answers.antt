@@ -1,5 +1,4 @@
-use Rattle.std.proofs.Common.{◌≡◌, ◌∙◌, refl, sym, rules, ◌++◌}
-use Rattle.usb_setup.specs.Setup.{Fits}
+use Rattle.std.proofs.Common.{◌∙◌, refl, sym, rules, ◌++◌}
 use Rattle.tmc_device.specs.Body.{state_of}
 use Rattle.tmc_device.proofs.Asked.{is_asked}
 use Rattle.tmc_device.proofs.body.Body.asked.Goals as goal

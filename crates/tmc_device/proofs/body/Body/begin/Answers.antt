@@ -1,5 +1,5 @@
-use Rattle.std.proofs.Common.{rules, ◌≡◌, ◌≢◌, ◌∙◌, ◌<◌, ℕ, [], length, min, ap, sym, subst, arith}
-use Rattle.tmc_law.specs.State.{Side, Owed}
+use Rattle.std.proofs.Common.{rules, ◌≡◌, ◌∙◌, ℕ, [], length, min, ap, sym, subst, arith}
+use Rattle.tmc_law.specs.State.{Side}
 use Rattle.tmc_law.specs.Logging.{unread}
 use Rattle.tmc_law.specs.BulkIn.{NoAbortIn}
 use Rattle.tmc_law.specs.Step.{Begin}

@@ -1,4 +1,4 @@
-use Rattle.std.proofs.Common.{◌≡◌, ◌≤◌, ◌==◌, ◌∙◌, Bool, List, ℕ, length, refl, ap, sym, subst}
+use Rattle.std.proofs.Common.{◌==◌, ◌∙◌, List, ℕ, length, refl, ap}
 use Rattle.tmc_wire.specs.Header.{in_header_bytes}
 use Rattle.tmc_law.specs.Step.{Begin}
 use Rattle.tmc_device.proofs.Making.{quiet, is_plugged}

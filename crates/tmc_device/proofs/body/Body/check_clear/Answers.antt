@@ -1,8 +1,7 @@
-use Rattle.std.proofs.Common.{◌∙◌, refl, ap, ℕ, List, [], ◌∷◌, ◌++◌}
+use Rattle.std.proofs.Common.{refl, ap}
 use Rattle.tmc_wire.specs.declared.class_request.ClassRequest.TheVariants as request
 use Rattle.tmc_law.specs.State.{State}
 use Rattle.tmc_law.specs.State as law
-use Rattle.tmc_law.specs.Control.{control_answer}
 use Rattle.tmc_law.specs.Class.{Serves}
 use Rattle.tmc_device.specs.declared.running.Running.TheVariants as running
 use Rattle.tmc_device.specs.Body.{state_of, seen_of}

@@ -1,9 +1,9 @@
-use Rattle.std.proofs.Common.{rules, ◌≡◌, refl, sym, subst}
+use Rattle.std.proofs.Common.{rules, refl, sym, subst}
 use Rattle.tmc_law.specs.State.{State}
 use Rattle.tmc_law.specs.BulkOut.{Executes}
 use Rattle.tmc_law.specs.Step.{Exec}
 use Rattle.msg_exchange.specs.Held.{Holds, led_to}
-use Rattle.tmc_device.specs.Body.{state_of, seen_of}
+use Rattle.tmc_device.specs.Body.{state_of}
 use Rattle.tmc_device.proofs.Making.{on_ok, quiet, is_plugged, own, logged}
 use Rattle.tmc_device.proofs.body.Body.exec.Goals as goal
 

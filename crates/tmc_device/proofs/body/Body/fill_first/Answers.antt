@@ -1,9 +1,8 @@
-use Rattle.std.proofs.Common.{◌≡◌, ◌∙◌, ◌<◌, ◌≤◌, ◌+◌, ◌-◌, ◌*◌, ◌/◌, ℕ, [], ◌∷◌, length, min, ap, sym, subst, arith}
+use Rattle.std.proofs.Common.{◌≡◌, ◌∙◌, ◌<◌, ◌≤◌, ◌+◌, ◌-◌, ◌*◌, ◌/◌, ℕ, [], ◌∷◌, length, min, ap, subst, arith}
 use Rattle.tmc_law.specs.Endpoint.{BulkIn}
 use Rattle.tmc_law.specs.State.{Side, Idle, room}
 use Rattle.tmc_law.specs.Put.{ended, success}
 use Rattle.tmc_law.specs.BulkIn.{filled}
-use Rattle.tmc_law.specs.BulkOut.{packets_of}
 use Rattle.tmc_law.specs.Step.{Fill}
 use Rattle.endpoint_pipes.specs.declared.outcome.Pending.{Pending as First}
 use Rattle.tmc_device.specs.Seen.{Makes}
@@ -12,7 +11,7 @@ use Rattle.tmc_device.specs.Events.{packets_due}
 use Rattle.tmc_device.specs.Body.{state_of, seen_of}
 use Rattle.tmc_device.specs.Fill.{Became}
 use Rattle.tmc_device.proofs.Making.{is_plugged}
-use Rattle.tmc_device.proofs.FillSteps.{Filling, filling, room_for, due_is, inside_made, full_made, short_made, over_made}
+use Rattle.tmc_device.proofs.FillSteps.{filling, room_for, due_is, inside_made, full_made, short_made, over_made}
 use Rattle.tmc_device.proofs.body.Body.fill_first.Goals as goal
 use Rattle.tmc_device.proofs.body.Body.fill_first.Goals.{else-size-left-via-then-size-left+else-size-room, else-size-left-via-else-size-left, else-size-left-2-via-then-size-left-2+else-size-room-2, else-size-left-2-via-else-size-left-2, else-size-left-3-via-then-size-left-3+else-left-room, else-size-left-3-via-else-size-left-3}
 

@@ -1,15 +1,11 @@
-use Rattle.std.proofs.Common.{◌≡◌, ◌∙◌, ◌<◌, ◌≤◌, ◌++◌, ◌∷◌, [], List, ℕ, length, ap, sym, subst, arith}
-use Rattle.tmc_law.specs.Endpoint.{BulkIn}
-use Rattle.tmc_law.specs.State.{State, Pending, Side, Idle, Sending}
+use Rattle.std.proofs.Common.{◌<◌, ◌∷◌, [], sym, subst}
+use Rattle.tmc_law.specs.State.{Side}
 use Rattle.tmc_law.specs.Put.{ended, success}
-use Rattle.tmc_law.specs.Halts.{halts, halt_answers}
-use Rattle.tmc_law.specs.Reached.{FirstBegins}
-use Rattle.tmc_law.specs.BulkIn.{filled, given}
-use Rattle.endpoint_pipes.specs.Held.{Held}
+use Rattle.tmc_law.specs.BulkIn.{filled}
 use Rattle.tmc_device.specs.Body.{state_of}
 use Rattle.tmc_device.specs.Fill.{Became}
 use Rattle.tmc_device.specs.Parts.{Outbox}
-use Rattle.tmc_device.proofs.Filling.{giving, some_gave, same_outputs, first_gave, state_gave, answered}
+use Rattle.tmc_device.proofs.Filling.{giving, some_gave, same_outputs, first_gave, answered}
 use Rattle.tmc_device.proofs.body.Body.fill_up.Goals as goal
 
 pub end_first-requires-clause-there : goal.end_first-requires-clause-there

@@ -1,6 +1,5 @@
-use Rattle.std.proofs.Common.{◌≡◌, ◌∙◌, ◌++◌, List, map, ap, sym, subst}
-use Rattle.tmc_law.specs.State.{Pending}
-use Rattle.tmc_law.specs.Put.{Put, ended, stalled}
+use Rattle.std.proofs.Common.{◌∙◌, ◌++◌, List, ap}
+use Rattle.tmc_law.specs.Put.{Put, stalled}
 use Rattle.tmc_law.specs.Halts.{all_ended}
 use Rattle.endpoint_pipes.specs.Held.{endpoint_of, list_of}
 use Rattle.tmc_device.specs.declared.outputs.Outputs.{Outputs}

@@ -1,4 +1,4 @@
-use Rattle.std.proofs.Common.{◌≡◌, ◌∙◌, ℕ, List, take, ap, sym, subst}
+use Rattle.std.proofs.Common.{◌∙◌, List, take, sym, subst}
 use Rattle.tmc_wire.specs.Standard.{header_size}
 use Rattle.tmc_wire.specs.Header.{IsOutHeader}
 use Rattle.tmc_law.specs.State.{Pending}

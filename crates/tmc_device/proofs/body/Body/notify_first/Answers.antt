@@ -1,10 +1,10 @@
-use Rattle.std.proofs.Common.{◌≡◌, ◌∙◌, refl, sym, ap, subst, ℕ, suc, List, [], ◌∷◌, ◌++◌, drop, length, arith, IsSome}
+use Rattle.std.proofs.Common.{◌≡◌, ◌∙◌, refl, sym, ap, subst, List, [], ◌∷◌, ◌++◌, drop, length, arith}
 use Rattle.usbip_wire.specs.declared.submit.SubmitHead.{SubmitHead}
 use Rattle.usbip_wire.specs.declared.urb.Dir.{Dir}
 use Rattle.usbip_wire.specs.declared.urb.Dir.TheVariants.{In}
 use Rattle.tmc_law.specs.Endpoint.{InterruptIn}
-use Rattle.tmc_law.specs.State.{State, Pending, Packet, StatusPacket, ServicePacket}
-use Rattle.tmc_law.specs.Put.{Put, answer_of, returned, success}
+use Rattle.tmc_law.specs.State.{Pending, Packet, StatusPacket, ServicePacket}
+use Rattle.tmc_law.specs.Put.{answer_of, returned, success}
 use Rattle.tmc_law.specs.Halts.{halt_answers}
 use Rattle.tmc_law.specs.Reached.{AllFit}
 use Rattle.tmc_law.specs.Status.{Gives, NoRoom, packet_bytes}
@@ -13,7 +13,6 @@ use Rattle.endpoint_pipes.specs.Held as pipes
 use Rattle.tmc_device.specs.Parts.{packet_of, presence_of}
 use Rattle.tmc_device.specs.Body.{state_of}
 use Rattle.tmc_device.proofs.Firsts.{first_is}
-use Rattle.tmc_device.proofs.Roomy.{few_interrupt_in}
 use Rattle.tmc_device.proofs.body.Body.notify_first.Goals as goal
 
 two : (packet : Packet) → 2 ≡ length (packet_bytes packet)

@@ -1,4 +1,4 @@
-use Rattle.std.proofs.Common.{◌≡◌, ◌∙◌, refl, sym, ap, subst, ℕ, false, true, List, [], ◌∷◌, ◌++◌, append-nil}
+use Rattle.std.proofs.Common.{◌≡◌, ◌∙◌, refl, sym, ap, subst, true, List, [], ◌∷◌, append-nil}
 use Rattle.usb_setup.specs.declared.setup.Setup.{Setup}
 use Rattle.usbip_wire.specs.declared.submit.SubmitHead.{SubmitHead}
 use Rattle.tmc_wire.specs.declared.class_request.ClassRequest.{ClassRequest}
@@ -6,7 +6,6 @@ use Rattle.tmc_wire.specs.declared.class_request.ClassRequest.TheVariants.{ReadS
 use Rattle.tmc_wire.specs.ControlTable.{IsRow}
 use Rattle.tmc_law.specs.Endpoint.{Control, ends}
 use Rattle.tmc_law.specs.State.{State, Pending}
-use Rattle.tmc_law.specs.Put.{Put}
 use Rattle.tmc_law.specs.Status.{Polls}
 use Rattle.tmc_law.specs.Class.{DoesPollFirst}
 use Rattle.endpoint_pipes.specs.Held as pipes

@@ -1,7 +1,6 @@
-use Rattle.std.proofs.Common.{◌≡◌, ◌<◌, ◌∙◌, refl, sym, ap, subst, ℕ, List, [], ◌∷◌, ◌++◌, length}
-use Rattle.tmc_law.specs.State.{State, Packet, StatusPacket}
-use Rattle.tmc_law.specs.Status.{Polls, DoesPoll}
-use Rattle.tmc_law.specs.Logging.{with_service}
+use Rattle.std.proofs.Common.{◌<◌, ◌∙◌, sym, ap, subst, ℕ, List, [], ◌∷◌, ◌++◌, length}
+use Rattle.tmc_law.specs.State.{Packet, StatusPacket}
+use Rattle.tmc_law.specs.Status.{DoesPoll}
 use Rattle.msg_exchange.specs.Held.{led_to}
 use Rattle.tmc_device.specs.Body.{state_of}
 use Rattle.tmc_device.proofs.Queueing.{place_behind_service}

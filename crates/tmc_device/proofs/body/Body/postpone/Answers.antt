@@ -1,4 +1,4 @@
-use Rattle.std.proofs.Common.{◌≡◌, refl, ap, subst, List, ℕ}
+use Rattle.std.proofs.Common.{refl, ap, subst}
 use Rattle.tmc_law.specs.Class.{StaysPending}
 use Rattle.tmc_device.specs.declared.postpone.Check.{Check}
 use Rattle.tmc_device.specs.Check.{layout_of}

@@ -1,6 +1,4 @@
 use Rattle.std.proofs.Common.{ℕ, List, refl, sym, subst, take}
-use Rattle.tmc_wire.specs.declared.header.OutHeader.{OutHeader}
-use Rattle.tmc_wire.specs.declared.header_fault.HeaderFault.{HeaderFault}
 use Rattle.tmc_wire.specs.Standard.{header_size}
 use Rattle.tmc_wire.specs.Header.{IsOutHeader}
 use Rattle.tmc_wire.specs.HeaderFault.{IsOutFault}

@@ -2,7 +2,6 @@ use Rattle.std.proofs.Common.{◌≡◌, ◌∙◌, refl, sym, ap, subst, arith,
 use Rattle.usbip_wire.specs.declared.submit.SubmitHead.{SubmitHead}
 use Rattle.tmc_law.specs.State.{State, Packet}
 use Rattle.tmc_law.specs.Control.{control_answer}
-use Rattle.tmc_law.specs.Aborts.{Served}
 use Rattle.tmc_law.specs.Logging.{is_queued}
 use Rattle.tmc_law.specs.Status.{BadTag, PolledBefore, Busy, PolledNow, Polls, is_status, status_layout}
 use Rattle.tmc_law.specs.Reached.{AreFew}

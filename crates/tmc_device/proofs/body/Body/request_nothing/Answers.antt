@@ -1,9 +1,7 @@
-use Rattle.std.proofs.Common.{refl}
 use Rattle.instr_plain.specs.declared.log.LogEntry.TheVariants as entry
-use Rattle.tmc_law.specs.BulkOut.{Triggers}
 use Rattle.tmc_device.specs.Body.{state_of}
 use Rattle.tmc_device.proofs.Making.{own}
-use Rattle.tmc_device.proofs.Effects.{logs_is, effect_is}
+use Rattle.tmc_device.proofs.Effects.{logs_is}
 use Rattle.tmc_device.proofs.body.Body.request_nothing.Goals as goal
 
 pub returns-clause-bare : goal.returns-clause-bare

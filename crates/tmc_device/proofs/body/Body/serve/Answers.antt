@@ -2,8 +2,7 @@ use Rattle.std.proofs.Common.{◌≡◌, ◌∙◌, refl, sym, ap, subst, Bool, 
 use Rattle.usb_setup.specs.declared.setup.Setup.{Setup}
 use Rattle.tmc_wire.specs.declared.class_request.ClassRequest.{ClassRequest}
 use Rattle.tmc_wire.specs.declared.class_request.ClassRequest.TheVariants as request
-use Rattle.tmc_law.specs.State.{State, Pending}
-use Rattle.tmc_law.specs.Aborts.{Served}
+use Rattle.tmc_law.specs.State.{Pending}
 use Rattle.tmc_law.specs.Class.{Serves, capabilities_layout}
 use Rattle.tmc_device.specs.Seen.{Seen}
 use Rattle.tmc_device.specs.Body.{state_of}

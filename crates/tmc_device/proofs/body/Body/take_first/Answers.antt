@@ -1,4 +1,4 @@
-use Rattle.std.proofs.Common.{◌≡◌, ◌∙◌, ◌<◌, ℕ, ap, sym, arith}
+use Rattle.std.proofs.Common.{◌≡◌, ◌∙◌, ap, sym, arith}
 use Rattle.tmc_law.specs.Endpoint.{BulkOut}
 use Rattle.endpoint_pipes.specs.declared.outcome.Pending.{Pending as First}
 use Rattle.tmc_device.proofs.Firsts.{first_is}

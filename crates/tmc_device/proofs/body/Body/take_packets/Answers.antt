@@ -1,4 +1,4 @@
-use Rattle.std.proofs.Common.{◌≡◌, ◌∙◌, List, length, ap, sym, arith}
+use Rattle.std.proofs.Common.{◌≡◌, ◌∙◌, List, length, ap, arith}
 use Rattle.tmc_law.specs.State.{Pending}
 use Rattle.endpoint_pipes.specs.Outcome.{left_of}
 use Rattle.tmc_device.specs.Body.{state_of}

@@ -1,8 +1,6 @@
-use Rattle.std.proofs.Common.{◌≡◌, ◌∙◌, ◌++◌, ◌≤◌, ◌<◌, ℕ, List, [], ◌∷◌, Some, None, Option, IsSome, length, take, refl, ap, sym, subst, arith}
-use Rattle.std.proofs.lemmas.List.{length-append}
-use Rattle.tmc_wire.specs.Transfer.{data_size}
-use Rattle.tmc_law.specs.State.{State, Pending, Transfer, transfer_size}
-use Rattle.tmc_law.specs.BulkOut.{TakesEffect, packets_of}
+use Rattle.std.proofs.Common.{◌≡◌, ◌∙◌, ◌++◌, ℕ, List, Some, Option, IsSome, length, refl, ap, sym, subst, arith}
+use Rattle.tmc_law.specs.State.{Pending, Transfer}
+use Rattle.tmc_law.specs.BulkOut.{packets_of}
 use Rattle.endpoint_pipes.specs.Held.{Held}
 use Rattle.endpoint_pipes.specs.Outcome.{first_of, left_of}
 use Rattle.tmc_device.specs.Parts.{taken_in}
@@ -10,7 +8,7 @@ use Rattle.tmc_device.specs.Body.{state_of}
 use Rattle.tmc_device.proofs.Firsts.{there}
 use Rattle.tmc_device.proofs.Making.{is_plugged}
 use Rattle.tmc_device.proofs.Wanting.{wanted, fits_buffer}
-use Rattle.tmc_device.proofs.TakeSteps.{on, rest_of, rest_made, whole_made, whole_there, rest_length}
+use Rattle.tmc_device.proofs.TakeSteps.{on, rest_made, whole_made, whole_there, rest_length}
 use Rattle.tmc_device.proofs.body.Body.take_rest.Goals as goal
 
 pub extend-requires : goal.extend-requires

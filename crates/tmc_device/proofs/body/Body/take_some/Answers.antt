@@ -1,4 +1,4 @@
-use Rattle.std.proofs.Common.{◌≡◌, ◌∙◌, ◌*◌, ◌++◌, ◌≤◌, ◌<◌, ℕ, List, Some, length, take, ap, sym, subst, arith}
+use Rattle.std.proofs.Common.{◌≡◌, ◌∙◌, ◌*◌, ◌++◌, ◌<◌, ℕ, List, Some, length, take, ap, subst, arith}
 use Rattle.std.proofs.lemmas.List.{length-take}
 use Rattle.tmc_law.specs.State.{Pending}
 use Rattle.tmc_law.specs.BulkOut.{packets_of}

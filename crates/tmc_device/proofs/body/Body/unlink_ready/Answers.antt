@@ -1,4 +1,4 @@
-use Rattle.std.proofs.Common.{rules, ◌≡◌, ◌<◌, ◌+◌, sym, subst, arith}
+use Rattle.std.proofs.Common.{rules, arith}
 use Rattle.tmc_law.specs.Queues.{IsUnlink}
 use Rattle.tmc_device.proofs.Making.{is_plugged}
 use Rattle.tmc_device.proofs.Unlinking.{polled_made, hit_made}

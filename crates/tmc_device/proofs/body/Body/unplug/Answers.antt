@@ -1,6 +1,6 @@
-use Rattle.std.proofs.Common.{◌≡◌, ◌∙◌, refl, sym, ap, true, List, [], ◌∷◌, ◌++◌, map}
+use Rattle.std.proofs.Common.{◌∙◌, refl, ap, true, List, [], ◌++◌, map}
 use Rattle.tmc_law.specs.Endpoint.{Control, BulkOut, BulkIn, InterruptIn}
-use Rattle.tmc_law.specs.State.{State, Pending, Unplugged}
+use Rattle.tmc_law.specs.State.{Pending, Unplugged}
 use Rattle.tmc_law.specs.Put.{Put, ended, unplugged}
 use Rattle.tmc_law.specs.Halts.{unplug_answers}
 use Rattle.endpoint_pipes.specs.Held as pipes

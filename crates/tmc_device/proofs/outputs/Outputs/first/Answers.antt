@@ -1,6 +1,5 @@
-use Rattle.std.proofs.Common.{[], refl, ap}
+use Rattle.std.proofs.Common.{refl, ap}
 use Rattle.tmc_law.specs.Put.{Submitted, Unlinked}
-use Rattle.tmc_device.specs.declared.outputs.Sent.{Sent}
 use Rattle.tmc_device.specs.Parts.{Outbox, put_of}
 use Rattle.tmc_device.proofs.Sending.{first_sent}
 use Rattle.tmc_device.proofs.outputs.Outputs.first.Goals as goal
