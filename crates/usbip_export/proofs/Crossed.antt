@@ -1,0 +1,232 @@
+-- what a node and a link do together, call by call
+use Rattle.std.proofs.Common.{◌≡◌, ◌≢◌, ◌⊎◌, inl, inr, ◌∙◌, ◌↔◌, ℕ, Bool, true, false, List, [], ◌++◌, take, drop, Option, Some, None, refl, sym, ap, subst, append_assoc, append-nil}
+use Rattle.tmc_base.specs.declared.field.Field.{Field}
+use Rattle.tmc_base.specs.Told.{Told, WentOut, CameIn, Exchanged, IsFront}
+use Rattle.tmc_device.specs.Seen.{is_closed}
+use Rattle.usbip_export.specs.declared.fed.Fed.{Fed}
+use Rattle.usbip_export.specs.declared.fed.Fed.TheVariants as fed
+use Rattle.usbip_export.specs.declared.serving.ServeEnd.{ServeEnd}
+use Rattle.usbip_export.specs.declared.serving.ServeEnd.TheVariants as end
+use Rattle.usbip_export.specs.Seen.{Seen, standing}
+use Rattle.usbip_export.specs.Events.{IsCalm}
+use Rattle.usbip_export.specs.Serving.{Works, Crosses}
+use Rattle.usbip_export.proofs.Worked.{sent_works, no_works, works_more, stays_closed}
+use Rattle.usbip_export.proofs.Exchanged.{exchanged_none, exchanged_out, exchanged_in, exchanged_more}
+
+-- the node's own work
+pub crosses_alone : {A : Type 0} (tells : A → Told) (ample : Type 0) (node later : Seen) (link : A) → Works [] [] node later
+    → Crosses tells ample node link later link
+crosses_alone tells ample node later link works = record {
+  bytes = [];
+  sent = [];
+  came = [];
+  told = exchanged_none (tells link);
+  works = works;
+  front = ([], refl);
+  shut = λ _. refl;
+  all = λ _ _. refl;
+}
+
+pub crosses_sent : {A : Type 0} (tells : A → Told) (ample : Type 0) (node later : Seen) (link after : A) (count : ℕ)
+    → WentOut (take count node.out) (tells link) (tells after) → later ≡ record node { out = drop count node.out }
+    → Crosses tells ample node link later after
+crosses_sent tells ample node later link after count went is = record {
+  bytes = [];
+  sent = take count node.out;
+  came = [];
+  told = exchanged_out [] [] (take count node.out) _ _ _ (exchanged_none (tells link)) went;
+  works = subst (λ (s : Seen). Works [] (take count node.out) node s) (sym is) (sent_works node count);
+  front = ([], refl);
+  shut = λ _. refl;
+  all = λ _ _. refl;
+}
+
+-- no byte moved
+pub crosses_unsent : {A : Type 0} (tells : A → Told) (ample : Type 0) (node : Seen) (link after : A) → WentOut [] (tells link) (tells after)
+    → Crosses tells ample node link node after
+crosses_unsent tells ample node link after went = record {
+  bytes = [];
+  sent = [];
+  came = [];
+  told = exchanged_out [] [] [] _ _ _ (exchanged_none (tells link)) went;
+  works = no_works node;
+  front = ([], refl);
+  shut = λ _. refl;
+  all = λ _ _. refl;
+}
+
+pub crosses_quiet : {A : Type 0} (tells : A → Told) (ample : Type 0) (node : Seen) (link after : A) → CameIn [] (tells link) (tells after)
+    → Crosses tells ample node link node after
+crosses_quiet tells ample node link after came = record {
+  bytes = [];
+  sent = [];
+  came = [];
+  told = exchanged_in [] [] [] _ _ _ (exchanged_none (tells link)) came;
+  works = no_works node;
+  front = ([], refl);
+  shut = λ _. refl;
+  all = λ _ _. refl;
+}
+
+-- bytes came, and the node was fed them
+pub crosses_fed : {A : Type 0} (tells : A → Told) (ample : Type 0) (node later : Seen) (link after : A) (bytes : List ℕ)
+    → CameIn bytes (tells link) (tells after) → (is_closed (standing node).presence ≡ false → Works bytes [] node later)
+    → (is_closed (standing node).presence ≡ true → later ≡ node) → Crosses tells ample node link later after
+crosses_fed {A} tells ample node later link after bytes came works same = by (is_closed (standing node).presence) refl where
+  told : Exchanged [] bytes (tells link) (tells after)
+  told = exchanged_in [] [] bytes _ _ _ (exchanged_none (tells link)) came
+
+  clash : true ≡ false → ⊥
+  clash e = cc
+
+  by : (shut : Bool) → is_closed (standing node).presence ≡ shut → Crosses tells ample node link later after
+  by true is = record {
+    bytes = [];
+    sent = [];
+    came = bytes;
+    told = told;
+    works = subst (λ (s : Seen). Works [] [] node s) (sym (same is)) (no_works node);
+    front = (bytes, refl);
+    shut = λ _. refl;
+    all = λ _ unshut. absurd (clash (sym is ∙ (sym (ap (λ (s : Seen). is_closed (standing s).presence) (same is)) ∙ unshut)));
+  }
+  by false is = record {
+    bytes = bytes;
+    sent = [];
+    came = bytes;
+    told = told;
+    works = works is;
+    front = ([], sym (append-nil bytes));
+    shut = λ shut. absurd (clash (sym shut ∙ is));
+    all = λ _ _. refl;
+  }
+
+-- bytes came, and memory was wanting to feed them
+pub crosses_lost : {A : Type 0} (tells : A → Told) (ample : Type 0) (node later : Seen) (link after : A) (bytes : List ℕ)
+    → CameIn bytes (tells link) (tells after) → later ≡ node → (ample → ⊥) → Crosses tells ample node link later after
+crosses_lost tells ample node later link after bytes came same wanting = record {
+  bytes = [];
+  sent = [];
+  came = bytes;
+  told = exchanged_in [] [] bytes _ _ _ (exchanged_none (tells link)) came;
+  works = subst (λ (s : Seen). Works [] [] node s) (sym same) (no_works node);
+  front = (bytes, refl);
+  shut = λ _. refl;
+  all = λ ample _. absurd (wanting ample);
+}
+
+-- the end of the serving tells what the node refused
+
+abbrev field_of : Option ServeEnd → Field → Field
+field_of (Some (end.Refused f)) otherwise = f
+field_of _ otherwise = otherwise
+
+abbrev fed_field : Fed → Field → Field
+fed_field (fed.Refused f) otherwise = f
+fed_field _ otherwise = otherwise
+
+pub refused_none : (bad : Option Field) → ((f : Field) → (fed.Ok ≡ fed.Refused f) ↔ (bad ≡ Some f)) → (f : Field)
+    → (None ≡ Some (end.Refused f)) ↔ (bad ≡ Some f)
+refused_none bad told f = (λ e. absurd (none e), λ is. absurd (good ((told f).1 is))) where
+  none : None ≡ Some (end.Refused f) → ⊥
+  none e = cc
+
+  good : fed.Ok ≡ fed.Refused f → ⊥
+  good e = cc
+
+pub refused_at : (g : Field) (bad : Option Field) → ((f : Field) → (fed.Refused g ≡ fed.Refused f) ↔ (bad ≡ Some f)) → (f : Field)
+    → (Some (end.Refused g) ≡ Some (end.Refused f)) ↔ (bad ≡ Some f)
+refused_at g bad told f = (
+  λ e. (told f).0 (ap fed.Refused (ap (λ o. field_of o g) e)),
+  λ is. ap (λ (x : Field). Some (end.Refused x)) (ap (λ o. fed_field o g) ((told f).1 is)),
+)
+
+-- a front of bytes that all were fed, and a front of those behind them
+front_more : (a b c d : List ℕ) → a ≡ c → IsFront b d → IsFront (a ++ b) (c ++ d)
+front_more a b c d same front = (front.0, ap (λ (l : List ℕ). c ++ l) front.1 ∙ (sym (append_assoc c b front.0) ∙ ap (λ (l : List ℕ). (l ++ b) ++ front.0) (sym same)))
+
+front_none : (a b c d : List ℕ) → IsFront a c → b ≡ [] → IsFront (a ++ b) (c ++ d)
+front_none a b c d front none = (
+  front.0 ++ d,
+  ap (λ (l : List ℕ). l ++ d) front.1
+      ∙ (append_assoc a front.0 d ∙ ap (λ (l : List ℕ). l ++ (front.0 ++ d)) (sym (append-nil a) ∙ ap (λ (l : List ℕ). a ++ l) (sym none))),
+)
+
+pub crosses_more : {A : Type 0} (tells : A → Told) (ample : Type 0) (node mid later : Seen) (link between after : A) → mid.refused ≡ None
+    → Crosses tells (Unit {0}) node link mid between → Crosses tells ample mid between later after → Crosses tells ample node link later after
+crosses_more {A} tells ample node mid later link between after unshut first second = record {
+  bytes = first.bytes ++ second.bytes;
+  sent = first.sent ++ second.sent;
+  came = first.came ++ second.came;
+  told = exchanged_more first.sent first.came second.sent second.came _ _ _ first.told second.told;
+  works = works_more first.bytes second.bytes first.sent second.sent node mid later unshut first.works second.works;
+  front = front (is_closed (standing mid).presence) refl;
+  shut = λ was.
+      let still = stays_closed first.works.took first.works.answered node mid was first.works.taken in
+      ap (λ (l : List ℕ). l ++ second.bytes) (first.shut was) ∙ second.shut still;
+  all = λ enough unclosed.
+      ap (λ (l : List ℕ). l ++ second.bytes) (first.all tt (before (is_closed (standing mid).presence) refl unclosed))
+      ∙ ap (λ (l : List ℕ). first.came ++ l) (second.all enough unclosed);
+} where
+  clash : true ≡ false → ⊥
+  clash e = cc
+
+  front : (shut : Bool) → is_closed (standing mid).presence ≡ shut → IsFront (first.bytes ++ second.bytes) (first.came ++ second.came)
+  front true is = front_none first.bytes second.bytes first.came second.came first.front (second.shut is)
+  front false is = front_more first.bytes second.bytes first.came second.came (first.all tt is) second.front
+
+  before : (shut : Bool) → is_closed (standing mid).presence ≡ shut → is_closed (standing later).presence ≡ false
+      → is_closed (standing mid).presence ≡ false
+  before false is unclosed = is
+  before true is unclosed = absurd (clash (sym (stays_closed second.works.took second.works.answered mid later is second.works.taken) ∙ unclosed))
+
+-- behind the node's own work
+pub crosses_settled : {A : Type 0} (tells : A → Told) (ample : Type 0) (node mid later : Seen) (link after : A) → mid.refused ≡ None
+    → Crosses tells (Unit {0}) node link mid after → Works [] [] mid later → Crosses tells ample node link later after
+crosses_settled tells ample node mid later link after unshut first works =
+    crosses_more tells ample node mid later link after after unshut first (crosses_alone tells ample mid later after works)
+
+-- where less is asked
+pub crosses_for : {A : Type 0} (tells : A → Told) (ample enough : Type 0) (node later : Seen) (link after : A) → (enough → ample)
+    → Crosses tells ample node link later after → Crosses tells enough node link later after
+crosses_for tells ample enough node later link after weaker crosses = record {
+  bytes = crosses.bytes;
+  sent = crosses.sent;
+  came = crosses.came;
+  told = crosses.told;
+  works = crosses.works;
+  front = crosses.front;
+  shut = crosses.shut;
+  all = λ e. crosses.all (weaker e);
+}
+
+abbrev end_in : Option ServeEnd → ServeEnd → ServeEnd
+end_in (Some e) otherwise = e
+end_in None otherwise = otherwise
+
+pub ends_refused : (e : ServeEnd) (bad : Option Field) → ((f : Field) → (Some e ≡ Some (end.Refused f)) ↔ (bad ≡ Some f)) → (f : Field)
+    → (e ≡ end.Refused f) ↔ (bad ≡ Some f)
+ends_refused e bad told f = (λ is. (told f).0 (ap Some is), λ is. ap (λ o. end_in o e) ((told f).1 is))
+
+pub goes_unrefused : (bad : Option Field) → ((f : Field) → (None ≡ Some (end.Refused f)) ↔ (bad ≡ Some f)) → bad ≡ None
+goes_unrefused None told = refl
+goes_unrefused (Some f) told = absurd (none ((told f).1 refl)) where
+  none : None ≡ Some (end.Refused f) → ⊥
+  none e = cc
+
+pub other_end : (e : ServeEnd) → e ≢ end.Memory → Some e ≢ Some end.Memory
+other_end e other same = other (ap (λ o. end_in o end.Closed) same)
+
+pub spent_unrefused : (bad : Option Field) → bad ≡ None → (f : Field) → (end.Spent ≡ end.Refused f) ↔ (bad ≡ Some f)
+spent_unrefused bad none f = (λ e. absurd (clash e), λ is. absurd (other (sym none ∙ is))) where
+  clash : end.Spent ≡ end.Refused f → ⊥
+  clash e = cc
+
+  other : None ≡ Some f → ⊥
+  other e = cc
+
+-- the last call ended the serving, behind the calm moves
+pub call_calm : (e : ServeEnd) (settled later : Seen) → IsCalm settled → (e ≡ end.Closed → later ≡ settled) → (e ≡ end.Spent → ⊥)
+    → (e ≡ end.Closed) ⊎ (e ≡ end.Spent) → IsCalm later
+call_calm e settled later calm same unspent (inl closed) = subst IsCalm (sym (same closed)) calm
+call_calm e settled later calm same unspent (inr spent) = absurd (unspent spent)

@@ -1,0 +1,14 @@
+pub mod Joined
+pub mod More
+pub mod Single
+pub mod Waiting
+pub mod Refused
+pub mod Weights
+pub mod Spelled
+pub mod Driven
+pub mod Calmed
+pub mod Worked
+pub mod Exchanged
+pub mod Crossed
+pub mod Failed
+pub mod Chained

@@ -1,0 +1,11 @@
+pub mod Identity
+pub mod Operations
+pub mod Seen
+pub mod TakenIn
+pub mod Events
+pub mod Work
+pub mod Body
+pub mod Taking
+pub mod Serving
+pub mod Failing
+pub mod Laws
