@@ -3,6 +3,8 @@ use super::session::{
     taken, unlink, unlinked,
 };
 use crate::{DevEvent, Device, LogEntry};
+use std::alloc::Global;
+use std::process::Abort;
 use std::test::Fail;
 
 #[test]
@@ -50,60 +52,61 @@ fn a_query_is_answered_in_two_pieces(rt: HostRuntime) -> Result<(), Fail> {
     Ok(())
 }
 
+/// A submit of this length begins a transfer of that one: its status, and how many bytes of it are taken.
+fn judged(
+    rt: &impl Abort,
+    alloc: Global,
+    length: usize,
+    transfer: u8,
+    status: i32,
+    actual: u32,
+) -> Result<(), Fail> {
+    assert!(rt; length <= 128);
+    let mut device = Device::new(alloc)?;
+    send(rt, &mut device, 7, &part(transfer)[..length])?;
+    goes(rt, &mut device, DevEvent::Take(2));
+    taken(rt, &mut device, 7, status, actual);
+    silent(rt, &device);
+    Ok(())
+}
+
 #[test]
 fn submits_are_judged_and_taken_by_their_length(rt: HostRuntime) -> Result<(), Fail> {
-    // the length of a submit, that of the transfer that it begins, its status, and how many bytes of it are taken
-    let rows: [(usize, u8, i32, u32); 8] = [
-        (0, 64, 0, 0),
-        (12, 64, -32, 0),
-        (63, 64, -32, 0),
-        (64, 64, 0, 64),
-        (64, 128, 0, 64),
-        (65, 68, -32, 0),
-        (65, 64, -32, 0),
-        (128, 128, 0, 128),
-    ];
-    for (length, transfer, status, actual) in rows {
-        assert!(rt; length <= 128);
-        let mut device = Device::new(rt.alloc())?;
-        send(&rt, &mut device, 7, &part(transfer)[..length])?;
-        if length == 128 {
-            goes(&rt, &mut device, DevEvent::Take(1));
-            silent(&rt, &device);
-        }
-        goes(&rt, &mut device, DevEvent::Take(2));
-        taken(&rt, &mut device, 7, status, actual);
-        silent(&rt, &device);
-    }
+    judged(&rt, rt.alloc(), 0, 64, 0, 0)?;
+    judged(&rt, rt.alloc(), 12, 64, -32, 0)?;
+    judged(&rt, rt.alloc(), 63, 64, -32, 0)?;
+    judged(&rt, rt.alloc(), 64, 64, 0, 64)?;
+    judged(&rt, rt.alloc(), 64, 128, 0, 64)?;
+    judged(&rt, rt.alloc(), 65, 68, -32, 0)?;
+    judged(&rt, rt.alloc(), 65, 64, -32, 0)?;
+    judged(&rt, rt.alloc(), 128, 128, 0, 128)
+}
+
+/// A submit of this length gets one full packet and an empty one: its status, and how many bytes go into it.
+fn given(
+    rt: &impl Abort,
+    alloc: Global,
+    length: u32,
+    status: i32,
+    count: usize,
+) -> Result<(), Fail> {
+    let mut device = Device::new(alloc)?;
+    begin_64(rt, &mut device)?;
+    ask(rt, &mut device, 3, 2, length)?;
+    goes(rt, &mut device, DevEvent::Fill(9));
+    filled(rt, &mut device, 3, status, count);
+    silent(rt, &device);
     Ok(())
 }
 
 #[test]
 fn submits_are_filled_by_their_length(rt: HostRuntime) -> Result<(), Fail> {
-    // the length of a submit, its status, and how many bytes go into it of one full packet and an empty one
-    let rows: [(u32, i32, usize); 6] = [
-        (0, -32, 0),
-        (12, -32, 0),
-        (63, -32, 0),
-        (64, 0, 64),
-        (65, 0, 64),
-        (128, 0, 64),
-    ];
-    for (length, status, count) in rows {
-        let mut device = Device::new(rt.alloc())?;
-        begin_64(&rt, &mut device)?;
-        ask(&rt, &mut device, 3, 2, length)?;
-        goes(&rt, &mut device, DevEvent::Fill(9));
-        filled(&rt, &mut device, 3, status, count);
-        if length == 64 {
-            ask(&rt, &mut device, 4, 2, 10)?;
-            goes(&rt, &mut device, DevEvent::Fill(9));
-            filled(&rt, &mut device, 4, 0, 0);
-        }
-        stays(&rt, &mut device, DevEvent::Fill(1));
-        silent(&rt, &device);
-    }
-    Ok(())
+    given(&rt, rt.alloc(), 0, -32, 0)?;
+    given(&rt, rt.alloc(), 12, -32, 0)?;
+    given(&rt, rt.alloc(), 63, -32, 0)?;
+    given(&rt, rt.alloc(), 64, 0, 64)?;
+    given(&rt, rt.alloc(), 65, 0, 64)?;
+    given(&rt, rt.alloc(), 128, 0, 64)
 }
 
 #[test]

@@ -3,6 +3,8 @@ use super::session::{
     unlink, unlinked,
 };
 use crate::{DevEvent, Device};
+use std::alloc::Global;
+use std::process::Abort;
 use std::test::Fail;
 
 /// A request about Bulk-OUT, about Bulk-IN, and one to the interface.
@@ -130,50 +132,44 @@ fn a_clear_ends_what_is_in_progress(rt: HostRuntime) -> Result<(), Fail> {
     Ok(())
 }
 
+/// A request is answered with at most wLength bytes of its layout.
+fn cut(
+    rt: &impl Abort,
+    device: &mut Device,
+    request: (u8, u8, u16, u16),
+    length: usize,
+    asked: u16,
+) -> Result<(), Fail> {
+    let (request_type, code, value, index) = request;
+    let bytes = setup(request_type, code, value, index, asked);
+    control(rt, device, 1, 65_535, bytes)?;
+    goes(rt, device, DevEvent::Answer);
+    filled(rt, device, 1, 0, length.min(asked as usize));
+    Ok(())
+}
+
+/// A request is answered with as much of its layout as it asks for.
+fn laid_out(
+    rt: &impl Abort,
+    alloc: Global,
+    request: (u8, u8, u16, u16),
+    length: u16,
+) -> Result<(), Fail> {
+    let mut device = Device::new(alloc)?;
+    cut(rt, &mut device, request, usize::from(length), 0)?;
+    cut(rt, &mut device, request, usize::from(length), 1)?;
+    cut(rt, &mut device, request, usize::from(length), length)?;
+    cut(rt, &mut device, request, usize::from(length), 65_535)
+}
+
 #[test]
 fn answers_are_cut_to_what_is_asked_for(rt: HostRuntime) -> Result<(), Fail> {
-    // a request, and the length of its layout; a request that is not known stalls
-    let rows: [([u8; 8], i32, usize); 9] = [
-        (setup(0x80, 0, 0, 0, 0), 0, 2),
-        (setup(0x82, 0, 0, 0x82, 0), 0, 2),
-        (setup(0x80, 6, 0x0100, 0, 0), 0, 18),
-        (setup(0x80, 6, 0x0200, 0, 0), 0, 39),
-        (setup(0x80, 6, 0x0301, 0x0409, 0), 0, 16),
-        (setup(0x80, 8, 0, 0, 0), 0, 1),
-        (class(OF_INTERFACE, 7, 0), 0, 24),
-        (class(OF_INTERFACE, 64, 0), 0, 1),
-        (setup(0x80, 6, 0x0304, 0, 0), -32, 0),
-    ];
-    for (row, status, length) in rows {
-        assert!(rt; length < 64);
-        let mut device = Device::new(rt.alloc())?;
-        for asked in [0, 1, length as u16, 65_535] {
-            let [
-                request_type,
-                request,
-                value_low,
-                value_high,
-                index_low,
-                index_high,
-                _,
-                _,
-            ] = row;
-            let [low, high] = asked.to_le_bytes();
-            let bytes = [
-                request_type,
-                request,
-                value_low,
-                value_high,
-                index_low,
-                index_high,
-                low,
-                high,
-            ];
-            control(&rt, &mut device, 1, 65_535, bytes)?;
-            goes(&rt, &mut device, DevEvent::Answer);
-            filled(&rt, &mut device, 1, status, length.min(asked as usize));
-            silent(&rt, &device);
-        }
-    }
-    Ok(())
+    laid_out(&rt, rt.alloc(), (0x80, 0, 0, 0), 2)?;
+    laid_out(&rt, rt.alloc(), (0x82, 0, 0, 0x82), 2)?;
+    laid_out(&rt, rt.alloc(), (0x80, 6, 0x0100, 0), 18)?;
+    laid_out(&rt, rt.alloc(), (0x80, 6, 0x0200, 0), 39)?;
+    laid_out(&rt, rt.alloc(), (0x80, 6, 0x0301, 0x0409), 16)?;
+    laid_out(&rt, rt.alloc(), (0x80, 8, 0, 0), 1)?;
+    laid_out(&rt, rt.alloc(), (0xA1, 7, 0, 0), 24)?;
+    laid_out(&rt, rt.alloc(), (0xA1, 64, 0, 0), 1)
 }

