@@ -119,42 +119,49 @@ fn link(
     )
 }
 
+/// The session is served in exactly so many calls on a link that moves at most `piece` bytes at a time.
+fn served(rt: &impl Abort, alloc: Global, piece: usize, turns: u64) -> Result<(), Fail> {
+    let mut node = Node::new(alloc)?;
+    let mut client = link(alloc, &UP[..264], piece, 0, 0)?;
+    assert_eq!(rt;
+        serve_link(&mut node, &mut client, turns),
+        ServeEnd::Spent,
+        "by {piece}"
+    );
+    assert_eq!(rt;
+        serve_link(&mut node, &mut client, 1),
+        ServeEnd::Closed,
+        "by {piece}"
+    );
+    answered(rt, client.sent(), &DOWN[..224]);
+    Ok(())
+}
+
 #[test]
 fn served_in_pieces(rt: HostRuntime) -> Result<(), Fail> {
-    for (piece, turns) in [(1, 809), (7, 118), (4_096, 3)] {
-        let mut node = Node::new(rt.alloc())?;
-        let mut client = link(rt.alloc(), &UP[..264], piece, 0, 0)?;
-        assert_eq!(rt;
-            serve_link(&mut node, &mut client, turns),
-            ServeEnd::Closed,
-            "by {piece}"
-        );
-        answered(&rt, client.sent(), &DOWN[..224]);
-        let mut node = Node::new(rt.alloc())?;
-        let mut client = link(rt.alloc(), &UP[..264], piece, 0, 0)?;
-        assert_eq!(rt;
-            serve_link(&mut node, &mut client, turns - 1),
-            ServeEnd::Spent,
-            "by {piece}"
-        );
-        answered(&rt, client.sent(), &DOWN[..224]);
-    }
+    served(&rt, rt.alloc(), 1, 808)?;
+    served(&rt, rt.alloc(), 7, 117)?;
+    served(&rt, rt.alloc(), 4_096, 2)
+}
+
+/// The send or the poll of this number fails, and then the session is served on.
+fn served_behind_a_fault(rt: &impl Abort, alloc: Global, send: u32, poll: u32) -> Result<(), Fail> {
+    let mut node = Node::new(alloc)?;
+    let mut client = link(alloc, &UP[..264], 64, send, poll)?;
+    assert_eq!(rt;
+        serve_link(&mut node, &mut client, 100),
+        ServeEnd::LinkFault
+    );
+    assert_eq!(rt; serve_link(&mut node, &mut client, 100), ServeEnd::Closed);
+    answered(rt, client.sent(), &DOWN[..224]);
     Ok(())
 }
 
 #[test]
 fn served_until_a_call_fails(rt: HostRuntime) -> Result<(), Fail> {
     for number in 1..=5 {
-        for (send, poll) in [(number, 0), (0, number)] {
-            let mut node = Node::new(rt.alloc())?;
-            let mut client = link(rt.alloc(), &UP[..264], 64, send, poll)?;
-            assert_eq!(rt;
-                serve_link(&mut node, &mut client, 100),
-                ServeEnd::LinkFault
-            );
-            assert_eq!(rt; serve_link(&mut node, &mut client, 100), ServeEnd::Closed);
-            answered(&rt, client.sent(), &DOWN[..224]);
-        }
+        served_behind_a_fault(&rt, rt.alloc(), number, 0)?;
+        served_behind_a_fault(&rt, rt.alloc(), 0, number)?;
     }
     Ok(())
 }
