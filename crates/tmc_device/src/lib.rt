@@ -34,8 +34,6 @@ mod side;
 mod standard;
 mod status;
 mod take;
-#[cfg(test)]
-mod tests;
 mod transfer;
 mod unplug;
 
