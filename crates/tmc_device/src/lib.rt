@@ -34,6 +34,8 @@ mod side;
 mod standard;
 mod status;
 mod take;
+#[cfg(test)]
+mod tests;
 mod transfer;
 mod unplug;
 
