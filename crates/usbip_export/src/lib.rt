@@ -16,8 +16,6 @@ mod operations;
 mod serving;
 mod spelling;
 mod taking;
-#[cfg(test)]
-mod tests;
 
 pub use fed::Fed;
 pub use laws::calls_join;
