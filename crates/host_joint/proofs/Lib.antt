@@ -24,3 +24,6 @@ mod Accepting
 mod Setting
 mod Examples
 mod Booking
+mod Tying
+mod Transfers
+mod Writing
