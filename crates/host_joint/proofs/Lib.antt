@@ -27,3 +27,5 @@ mod Booking
 mod Tying
 mod Transfers
 mod Writing
+mod Given
+mod Ending

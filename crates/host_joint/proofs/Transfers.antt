@@ -1,5 +1,5 @@
 -- the transfers that a host writes are taken, and those that it reads have no fault
-use Rattle.std.proofs.Common.{◌≡◌, ◌≢◌, ◌∙◌, ◌⊎◌, inl, inr, ℕ, ◌+◌, ◌-◌, ◌*◌, ◌/◌, ◌%◌, ◌^◌, ◌<◌, ◌≤◌, Bool, true, false, eqb, List, [], ◌∷◌, ◌++◌, length, take, drop, Option, Some, None, refl, ap, sym, subst, append_assoc, append-nil, length-append, arith, slice_index}
+use Rattle.std.proofs.Common.{◌≡◌, ◌∙◌, ℕ, ◌+◌, ◌-◌, ◌%◌, ◌^◌, ◌<◌, ◌≤◌, Bool, true, false, List, [], ◌∷◌, ◌++◌, length, take, drop, refl, ap, sym, subst, append_assoc, length-append, arith, slice_index}
 use Rattle.std.proofs.Math.Seq.{take-append_seam}
 use Rattle.std.proofs.lemmas.List.{length-replicate, take-append-drop, take-append-le}
 use Rattle.tmc_wire.specs.declared.header.OutHeader.{OutHeader}
@@ -7,13 +7,13 @@ use Rattle.tmc_wire.specs.declared.header.OutHeader.TheVariants.{Message, Reques
 use Rattle.tmc_wire.specs.declared.header.InHeader.{InHeader}
 use Rattle.tmc_wire.specs.declared.header_fault.HeaderFault.{HeaderFault}
 use Rattle.tmc_wire.specs.declared.header_fault.HeaderFault.TheVariants as fault
-use Rattle.tmc_wire.specs.Standard.{header_size, dev_dep_msg_out, request_dev_dep_msg_in, dev_dep_msg_in, trigger}
-use Rattle.tmc_wire.specs.Header.{IsTag, IsSize, IsOutHeader, IsInHeader, IsOutProper, OutFits, IsInProper, InFits, IsSized, IsTagged, prefix, sized, eom_bit, out_header_bytes, in_header_bytes}
+use Rattle.tmc_wire.specs.Standard.{header_size, dev_dep_msg_out, request_dev_dep_msg_in, dev_dep_msg_in}
+use Rattle.tmc_wire.specs.Header.{IsTag, IsOutHeader, IsInHeader, IsOutProper, OutFits, IsInProper, InFits, prefix, sized, eom_bit, out_header_bytes, in_header_bytes}
 use Rattle.tmc_wire.specs.HeaderFault.{MsgID, bTag, bTagInverse, TransferSize, is_out_message, HasFault, IsOutFault}
 use Rattle.tmc_wire.specs.Transfer.{OutText, InText, data_size, alignment_of}
 use Rattle.host_joint.specs.Jobs.{Job, IsJob}
 use Rattle.host_joint.specs.Hand.{IsTransfer}
-use Rattle.host_joint.specs.Pieces.{header_of, IsPiece, BeginsPiece, IsFaultless, IsWhole}
+use Rattle.host_joint.specs.Pieces.{header_of, IsPiece, IsFaultless, IsWhole}
 use Rattle.usbip_wire.specs.declared.submit.SubmitHead.{SubmitHead}
 
 -- what this asks of the laws of headers and transfers
@@ -113,6 +113,12 @@ front_of bytes more head rest twelve long e =
     sym (take-append-le header_size bytes more long) ∙ ap (λ (l : List ℕ). take header_size l) e ∙ subst (λ (n : ℕ). take n (head ++ rest) ≡ head) twelve (take-append_seam head rest) in
     sym (take-append-drop header_size bytes) ∙ ap (λ (l : List ℕ). l ++ drop header_size bytes) own
 
+pub begun_size : (laws : WireLaws) (tag size : ℕ) (bytes more carried : List ℕ) (eom : Bool) → IsPiece tag size eom carried (bytes ++ more) → header_size ≤ length bytes → TransferSize bytes ≡ length carried
+begun_size laws tag size bytes more carried eom piece long =
+    let text = piece.text in
+    let twelve = laws.in_size (header_of tag (length carried) eom) text.head text.headed in
+    let front = front_of bytes more text.head (carried ++ text.alignment) twelve long text.layout in
+    ap TransferSize front ∙ (fields_of laws tag (length carried) eom text.head (drop header_size bytes) text.headed).counted
 
 pub begun_faultless : (laws : WireLaws) (tag size : ℕ) (bytes more carried : List ℕ) (eom : Bool) → IsPiece tag size eom carried (bytes ++ more) → header_size ≤ length bytes → IsFaultless tag size bytes
 begun_faultless laws tag size bytes more carried eom piece long =

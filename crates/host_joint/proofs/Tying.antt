@@ -1,14 +1,13 @@
 -- a tie stays under each step of a device, and under each run
-use Rattle.std.proofs.Common.{◌≡◌, ◌≢◌, ◌∙◌, ◌⊎◌, inl, inr, ℕ, ◌+◌, ◌<◌, ◌≤◌, Bool, true, false, cond, eqb, List, [], ◌∷◌, ◌++◌, length, Option, Some, None, refl, ap, sym, subst, append_assoc, append-nil, arith}
+use Rattle.std.proofs.Common.{◌≡◌, ◌≢◌, ◌∙◌, ℕ, Bool, true, false, List, [], ◌∷◌, ◌++◌, length, Option, None, refl, sym, subst, append_assoc, append-nil, arith}
 use Rattle.std.proofs.lemmas.List.{append_cancel_left}
 use Rattle.usbip_wire.specs.declared.submit.SubmitHead.{SubmitHead}
 use Rattle.usbip_wire.specs.declared.unlink.UnlinkHead.{UnlinkHead}
 use Rattle.usbip_wire.specs.Up as up
-use Rattle.tmc_wire.specs.declared.header.OutHeader.TheVariants.{Request}
 use Rattle.instr_plain.specs.declared.log.LogEntry.{LogEntry}
 use Rattle.instr_plain.specs.declared.log.LogEntry.TheVariants as entry
 use Rattle.instr_plain.specs.Log.{Response}
-use Rattle.tmc_law.specs.Endpoint.{Endpoint, Control, BulkOut, BulkIn, InterruptIn, number_of}
+use Rattle.tmc_law.specs.Endpoint.{Endpoint, Control, BulkOut, BulkIn}
 use Rattle.tmc_law.specs.State.{State, Pending, start, queue_of, is_halted}
 use Rattle.tmc_law.specs.Logging.{unread}
 use Rattle.tmc_law.specs.Put.{Put}
@@ -22,14 +21,13 @@ use Rattle.tmc_law.specs.Step.{Move, Comes, Halt, Unplug, Steps}
 use Rattle.tmc_law.specs.Run.{Entry, Runs, taken, inputs, outputs}
 use Rattle.host_joint.specs.Lines.{Lines, EmptyLine, unlinks_in, unlinked_by, Fitting, AllFitting, InOrder}
 use Rattle.host_joint.specs.Unlinking.{IsBulk}
-use Rattle.host_joint.specs.Jobs.{Job, last_header}
+use Rattle.host_joint.specs.Jobs.{Job}
 use Rattle.host_joint.specs.Reads.{Flow}
 use Rattle.host_joint.specs.Stage.{Ran, NoExec, Stage, Follows, Gathers, Waits, Rests, Owes, Sends, Sent, Tears, Barred, Dropped}
 use Rattle.host_joint.specs.Asking.{Ask, Asking}
-use Rattle.host_joint.specs.Positions.{IsAt, rests}
-use Rattle.host_joint.specs.Requests.{NoBulk}
+use Rattle.host_joint.specs.Positions.{rests}
 use Rattle.host_joint.specs.Hand.{Hand, Free, Says, Said, Reads, Pauses}
-use Rattle.host_joint.specs.Tie.{IsUndisturbed, asked_of, IsGood, IsSaying, HasSaid, IsReading, HasRead, Holds, Tie}
+use Rattle.host_joint.specs.Tie.{IsUndisturbed, asked_of, IsGood, Holds, Tie}
 use Rattle.host_joint.proofs.Flows.{lines_step, fitting_behind, all_answered}
 use Rattle.host_joint.proofs.Running.{AskLaws, asking_step, safe_move}
 use Rattle.host_joint.proofs.Accepting.{by_itself}
@@ -150,7 +148,7 @@ ran_step laws n message response s t move puts ups step rises ran =
     ran_keeps n message response s t move (ran_waits_not n message response (taken move ++ ups) s rises ran) (laws.logs s t move puts step) ran
 
 -- between pieces, what is unread goes on where they ended
-record Between (last : ℕ) (message sofar : List ℕ) (s : State) : Type 0 where
+pub record Between (last : ℕ) (message sofar : List ℕ) (s : State) : Type 0 where
   pub response : List ℕ
   pub ran : Ran last message response s.log
   pub all : response ≡ sofar ++ unread s
@@ -168,7 +166,7 @@ between last message tag size past todo sofar flow s none some (Sent response ca
 between last message tag size past todo sofar flow s none some (Tears response carried bytes dropped waits part idle ran all torn fits text empty at) = no_last past tag size none at
 between last message tag size past todo sofar flow s none some (Dropped response closed waits part idle ran all still over at) = no_last past tag size none at
 
-asks_between : (ask : Ask) (ups : List up.Message) (downs : List Put) (s : State) → ask.written ≡ [] → ask.sofar ≢ [] → Asking ask ups downs s → Between ask.last ask.message ask.sofar s
+pub asks_between : (ask : Ask) (ups : List up.Message) (downs : List Put) (s : State) → ask.written ≡ [] → ask.sofar ≢ [] → Asking ask ups downs s → Between ask.last ask.message ask.sofar s
 asks_between ask ups downs s none some a =
     between ask.last ask.message ask.tag ask.size a.past a.todo ask.sofar a.flow s (none_front a.past a.todo a.hit (sym none ∙ a.whole)).0 some a.stage
 

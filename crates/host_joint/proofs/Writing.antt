@@ -1,23 +1,20 @@
 -- a tie stays under what a host writes
-use Rattle.std.proofs.Common.{◌≡◌, ◌≢◌, ◌∙◌, ◌⊎◌, inl, inr, ℕ, ◌+◌, ◌<◌, ◌≤◌, Bool, true, false, cond, eqb, List, [], ◌∷◌, ◌++◌, length, Option, Some, None, refl, ap, sym, subst, append_assoc, append-nil, length-append, arith}
+use Rattle.std.proofs.Common.{◌≡◌, ◌≢◌, ◌∙◌, ◌⊎◌, inl, inr, ℕ, ◌+◌, true, false, eqb, List, [], ◌∷◌, ◌++◌, length, Option, Some, None, refl, ap, sym, subst, append-nil, length-append, arith}
 use Rattle.std.proofs.lemmas.Bool.{eq-eqb}
 use Rattle.usbip_wire.specs.declared.submit.SubmitHead.{SubmitHead}
 use Rattle.usbip_wire.specs.declared.unlink.UnlinkHead.{UnlinkHead}
 use Rattle.usbip_wire.specs.Up as up
 use Rattle.tmc_wire.specs.declared.header.OutHeader.{OutHeader}
 use Rattle.tmc_wire.specs.declared.header.OutHeader.TheVariants.{Message, Request}
-use Rattle.tmc_law.specs.Endpoint.{Endpoint, Control, BulkOut, BulkIn, InterruptIn, number_of}
+use Rattle.tmc_law.specs.Endpoint.{Endpoint, Control, BulkOut, BulkIn, number_of}
 use Rattle.tmc_law.specs.State.{State}
 use Rattle.tmc_law.specs.Put.{Put}
-use Rattle.tmc_law.specs.BulkOut.{message_most}
-use Rattle.tmc_law.specs.Numbers.{AllBelow, Rises, numbers}
-use Rattle.host_joint.specs.Lines.{Lines, EmptyLine, sent_to, events_of, unlinks_in, unlinked_by, Fitting, AllFitting}
+use Rattle.host_joint.specs.Lines.{EmptyLine, unlinks_in, unlinked_by, Fitting, AllFitting}
 use Rattle.host_joint.specs.Unlinking.{IsNamed}
-use Rattle.host_joint.specs.Jobs.{Job, IsJob, last_header, data_in}
+use Rattle.host_joint.specs.Jobs.{Job, last_header, data_in}
 use Rattle.host_joint.specs.Reads.{IsRead}
-use Rattle.host_joint.specs.Stage.{Carries, NoneComes, Inner, Final, IsInner, IsFinal}
-use Rattle.host_joint.specs.Asking.{Ask, Asking, AtRest, IsQuiet}
-use Rattle.host_joint.specs.Positions.{IsAt, rests}
+use Rattle.host_joint.specs.Stage.{NoneComes, Inner, Final, IsInner, IsFinal}
+use Rattle.host_joint.specs.Asking.{Asking, AtRest, IsQuiet}
 use Rattle.host_joint.specs.Hand.{Hand, Free, Says, Said, Reads, Pauses, IsTransfer, Speaks, Writes, WritesPart, WritesLast, WritesRequest, WritesNext, WritesRead}
 use Rattle.host_joint.specs.Tie.{asked_of, transfers_of, IsSaying, HasSaid, IsReading, HasRead, Holds, Tie, ask_with}
 use Rattle.host_joint.proofs.Queues.{Apart, which}

@@ -1,6 +1,6 @@
 -- what a host has in hand that writes one submit at a time and that nothing disturbs, and what it writes (USBTMC 1.0, sections
 -- 3.2 and 3.3)
-use Rattle.std.specs.Prelude.{◌≡◌, ℕ, ◌≤◌, true, false, List, [], ◌∷◌, ◌++◌, length}
+use Rattle.std.specs.Prelude.{◌≡◌, ℕ, ◌≤◌, true, false, List, [], ◌++◌, length}
 use Rattle.usbip_wire.specs.declared.submit.SubmitHead.{SubmitHead}
 use Rattle.usbip_wire.specs.declared.urb.Dir.TheVariants.{Out}
 use Rattle.tmc_wire.specs.declared.header.OutHeader.{OutHeader}

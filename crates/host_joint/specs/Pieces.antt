@@ -1,8 +1,8 @@
 -- the Bulk-IN transfers that answer a request: nothing of them is refused (USBTMC 1.0, section 3.3)
-use Rattle.std.specs.Prelude.{◌≡◌, ◌≢◌, ◌⊎◌, ℕ, ◌+◌, ◌-◌, ◌%◌, ◌≤◌, Bool, List, ◌++◌, length, take, drop, slice_index}
+use Rattle.std.specs.Prelude.{◌≡◌, ◌≢◌, ℕ, ◌+◌, ◌-◌, ◌%◌, ◌≤◌, Bool, List, ◌++◌, length, take, drop, slice_index}
 use Rattle.tmc_wire.specs.declared.header.InHeader.{InHeader}
 use Rattle.tmc_wire.specs.Standard.{header_size, dev_dep_msg_in}
-use Rattle.tmc_wire.specs.Header.{IsInHeader, IsTag, IsSize, eom_bit}
+use Rattle.tmc_wire.specs.Header.{IsInHeader, IsTag, eom_bit}
 use Rattle.tmc_wire.specs.HeaderFault.{MsgID, bTag, bTagInverse, TransferSize}
 use Rattle.tmc_wire.specs.Transfer.{InText}
 

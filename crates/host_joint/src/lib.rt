@@ -22,5 +22,8 @@ pub use lines::{hosts_keep_lines, lines_stay, what_is_answered_is_over};
 pub use numbers::{new_numbers_are_unused, new_numbers_rise, what_ran_is_kept};
 pub use owned::what_is_read_is_owned;
 pub use recovery::{asks_hand_over, devices_rest, drains_stay, requests_stay};
-pub use ties::{ties_begin, ties_stay};
+pub use ties::{
+    answers_are_the_expected, pieces_have_no_fault, tickets_end, ties_begin, ties_own, ties_stay,
+    writes_keep_ties,
+};
 pub use worked::worked_asks_are_in_hand;

@@ -1,6 +1,6 @@
-use Rattle.std.proofs.Common.{◌≡◌, [], List, None, refl, ap, ◌++◌}
+use Rattle.std.proofs.Common.{[], List, None, refl, ap, ◌++◌}
 use Rattle.tmc_law.specs.Endpoint.{Endpoint, Control, BulkOut, BulkIn, InterruptIn}
-use Rattle.tmc_law.specs.State.{State, Pending}
+use Rattle.tmc_law.specs.State.{Pending}
 use Rattle.host_joint.specs.Lines.{Line, heads}
 use Rattle.host_joint.specs.Tie.{asked_of}
 use Rattle.host_joint.proofs.Booking.{begins}

@@ -1,4 +1,4 @@
-use Rattle.host_joint.proofs.Tying.{TieLaws, tie_run, ran_run}
+use Rattle.host_joint.proofs.Tying.{tie_run, ran_run}
 use Rattle.host_joint.proofs.ties.ties_stay.Goals as goal
 
 pub returns-clause-tie : goal.returns-clause-tie
