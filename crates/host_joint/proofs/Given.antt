@@ -40,7 +40,7 @@ clash b off on = let e : false ≡ true = sym off ∙ on in absurd (cc)
 none_left : (head : SubmitHead) (rest : List SubmitHead) → head ∷ [] ≡ head ∷ rest → [] ≡ rest
 none_left head rest e = cc
 
-lines_behind : (hand : Hand) (head : SubmitHead) (a : RetSubmitHead) (transferred : List ℕ) (next : ℕ) (ups : List up.Message) (downs : List Put) (s : State)
+pub lines_behind : (hand : Hand) (head : SubmitHead) (a : RetSubmitHead) (transferred : List ℕ) (next : ℕ) (ups : List up.Message) (downs : List Put) (s : State)
     → Tie hand (Some head) next ups (Submitted head a transferred ∷ downs) s → Lines (asked_of None) [] ups downs s
 lines_behind hand head a transferred next ups downs s tie =
     let fits = tie.good.0.0 in

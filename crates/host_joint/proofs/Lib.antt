@@ -29,3 +29,4 @@ mod Transfers
 mod Writing
 mod Given
 mod Ending
+mod Joining

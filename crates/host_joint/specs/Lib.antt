@@ -17,5 +17,6 @@ pub mod Drains
 pub mod Hand
 pub mod Pieces
 pub mod Tie
+pub mod Joint
 -- examples
 pub mod WorkedAsks

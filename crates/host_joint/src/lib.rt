@@ -8,6 +8,7 @@
 mod accepted;
 mod asks;
 mod host_moves;
+mod joints;
 mod lines;
 mod numbers;
 mod owned;
@@ -18,6 +19,9 @@ mod worked;
 pub use accepted::{asks_halt_nothing, no_submit_is_refused};
 pub use asks::{asking_stays, asks_begin, cancelled_asks_stay, unplugged_asks_were_in_hand};
 pub use host_moves::{answers_are_taken, asks_are_settled_late, messages_are_written};
+pub use joints::{
+    joints_begin, joints_stay, no_answer_is_refused, the_next_answer_is_read, writes_keep_joints,
+};
 pub use lines::{hosts_keep_lines, lines_stay, what_is_answered_is_over};
 pub use numbers::{new_numbers_are_unused, new_numbers_rise, what_ran_is_kept};
 pub use owned::what_is_read_is_owned;
