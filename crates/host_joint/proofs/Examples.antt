@@ -180,7 +180,7 @@ query_lines InterruptIn = refl
 good : (ask : Ask) (ups : List up.Message) (head : SubmitHead) (a : RetSubmitHead) (downs : List Put) (s : State) → a.status ≡ success → OutAnswered ask ups head a downs s
     → Asking (record ask { answered = ask.answered + 1 }) ups downs s
 good ask ups head a downs s ok (inl h) = h.2
-good ask ups head a downs s ok (inr e) = let f : success ≡ stalled = sym ok ∙ e in absurd (cc)
+good ask ups head a downs s ok (inr e) = let f : success ≡ stalled = sym ok ∙ e.0 in absurd (cc)
 
 piece_ends : (ask : Ask) (ups : List up.Message) (head : SubmitHead) (a : RetSubmitHead) (transferred : List ℕ) (downs : List Put) (s : State) → length transferred < read_size
     → s.halted.bulk_in ≡ false → InAnswered ask ups (Gives head a transferred) downs s → PieceEnd ask transferred ups downs s

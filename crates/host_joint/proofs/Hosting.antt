@@ -42,13 +42,13 @@ other_event e head a transferred downs n is other = rw (ap (λ (k : ℕ). eqb k 
 -- it says that the transfer was taken whole, or that Bulk-OUT halted
 pub out_answered : (last : ℕ) (message : List ℕ) (tag size : ℕ) (written : List Job) (answered : ℕ) (sofar read : List ℕ) (gone : Bool) (ups : List up.Message) (head : SubmitHead) (a : RetSubmitHead) (transferred : List ℕ) (downs : List Put) (s : State)
     → head.ep ≡ 1 → Asking (ask_of last message tag size written answered sofar read gone) ups (Submitted head a transferred ∷ downs) s
-    → ((a.status ≡ success) × (a.actual ≡ head.length) × Asking (ask_of last message tag size written (answered + 1) sofar read gone) ups downs s) ⊎ (a.status ≡ stalled)
+    → ((a.status ≡ success) × (a.actual ≡ head.length) × Asking (ask_of last message tag size written (answered + 1) sofar read gone) ups downs s) ⊎ ((a.status ≡ stalled) × (s.halted.bulk_out ≡ true))
 out_answered last message tag size written answered sofar read gone ups head a transferred downs s own h =
     by (subst (λ (l : List Event). AllTaken s.halted.bulk_out h.came l) (own_event BulkOut head a transferred downs own) h.taken)
   where
     by : AllTaken s.halted.bulk_out h.came (Gives head a transferred ∷ events_of BulkOut downs)
-        → ((a.status ≡ success) × (a.actual ≡ head.length) × Asking (ask_of last message tag size written (answered + 1) sofar read gone) ups downs s) ⊎ (a.status ≡ stalled)
-    by (inr k) = inr k.0
+        → ((a.status ≡ success) × (a.actual ≡ head.length) × Asking (ask_of last message tag size written (answered + 1) sofar read gone) ups downs s) ⊎ ((a.status ≡ stalled) × (s.halted.bulk_out ≡ true))
+    by (inr k) = inr (k.0, k.1)
     by (inl k) = inl (
       k.0,
       k.1,
@@ -129,7 +129,7 @@ same_length a b none differ =
     let same : length a ≡ length (a ++ b) = sym (ap (λ (l : List ℕ). length l) (ap (λ (l : List ℕ). a ++ l) none ∙ append-nil a)) in
     let e : true ≡ false = sym (eq-eqb (length a) (length (a ++ b)) same) ∙ differ in cc
 
-not_nothing : (sofar carried : List ℕ) → 1 ≤ length carried → sofar ++ carried ≢ []
+pub not_nothing : (sofar carried : List ℕ) → 1 ≤ length carried → sofar ++ carried ≢ []
 not_nothing [] [] some e = omega (arith, some)
 not_nothing [] (x ∷ carried) some e = cc
 not_nothing (x ∷ sofar) carried some e = cc

@@ -24,3 +24,8 @@ mod Accepting
 mod Setting
 mod Examples
 mod Booking
+mod Tying
+mod Transfers
+mod Writing
+mod Given
+mod Ending

@@ -15,11 +15,11 @@ use Rattle.host_joint.specs.Reads.{Answered, answer, read_size, IsHalted}
 use Rattle.host_joint.specs.Stage.{Ran, Carries, IsInner}
 use Rattle.host_joint.specs.Asking.{Ask, Asking}
 
--- An answer to a transfer was taken: the transfer was taken whole, and the ask goes on; or Bulk-OUT halted.
+-- An answer to a transfer was taken: the transfer was taken whole, and the ask goes on; or Bulk-OUT is halted.
 abbrev pub OutAnswered : Ask → List up.Message → SubmitHead → RetSubmitHead → List Put → State → Type 0
 OutAnswered ask ups head answer downs s =
     ((answer.status ≡ success) × (answer.actual ≡ head.length) × Asking (record ask { answered = ask.answered + 1 }) ups downs s)
-    ⊎ (answer.status ≡ stalled)
+    ⊎ ((answer.status ≡ stalled) × (s.halted.bulk_out ≡ true))
 
 -- What a host has behind the last read of a piece, which had these bytes.
 pub record PieceEnd (ask : Ask) (bytes : List ℕ) (ups : List up.Message) (downs : List Put) (s : State) : Type 0 where

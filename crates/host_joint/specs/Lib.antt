@@ -13,5 +13,9 @@ pub mod Hosted
 pub mod Positions
 pub mod Requests
 pub mod Drains
+-- a host that nothing disturbs
+pub mod Hand
+pub mod Pieces
+pub mod Tie
 -- examples
 pub mod WorkedAsks

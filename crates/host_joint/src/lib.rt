@@ -12,6 +12,7 @@ mod lines;
 mod numbers;
 mod owned;
 mod recovery;
+mod ties;
 mod worked;
 
 pub use accepted::{asks_halt_nothing, no_submit_is_refused};
@@ -21,4 +22,8 @@ pub use lines::{hosts_keep_lines, lines_stay, what_is_answered_is_over};
 pub use numbers::{new_numbers_are_unused, new_numbers_rise, what_ran_is_kept};
 pub use owned::what_is_read_is_owned;
 pub use recovery::{asks_hand_over, devices_rest, drains_stay, requests_stay};
+pub use ties::{
+    answers_are_the_expected, pieces_have_no_fault, tickets_end, ties_begin, ties_own, ties_stay,
+    writes_keep_ties,
+};
 pub use worked::worked_asks_are_in_hand;
