@@ -30,3 +30,4 @@ mod Writing
 mod Given
 mod Ending
 mod Joining
+mod Tied

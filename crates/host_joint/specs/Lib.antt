@@ -20,3 +20,4 @@ pub mod Tie
 pub mod Joint
 -- examples
 pub mod WorkedAsks
+pub mod WorkedTies
