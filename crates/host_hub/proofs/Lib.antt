@@ -32,3 +32,6 @@ pub mod Numbered
 pub mod Determined
 pub mod Own
 pub mod Polls
+pub mod Plain
+pub mod InHand
+pub mod Joining

@@ -147,7 +147,7 @@ not_listen (ClearHalt endpoint) proper = refl
 not_listen (Unlink target) proper = refl
 
 -- at depth 1 a ticket that has begun and waits for something has nothing to write
-waits_first : (s : Setting) (now : List Piece) (waits : List Sent) (order : Order) → s.depth ≡ 1 → IsProper order → When s now waits order → waits ≡ []
+pub waits_first : (s : Setting) (now : List Piece) (waits : List Sent) (order : Order) → s.depth ≡ 1 → IsProper order → When s now waits order → waits ≡ []
 waits_first s now waits (Part tag text eom) d proper h = h
 waits_first s now waits (Request tag size) d proper h =
     subst (λ (n : ℕ). MatchBool (nat_lt 1 n && is_empty now) (Unit {0}) (waits ≡ [])) d h

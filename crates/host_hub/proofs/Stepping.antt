@@ -28,7 +28,7 @@ use Rattle.host_hub.proofs.Quiets.{as_law, listens_wrote, mine, more, none_plann
 
 -- ---- a ticket is asked
 
-last_unbegun : (t : ℕ) (past : Past) → is_begun t past ≡ false → last t past ≡ None
+pub last_unbegun : (t : ℕ) (past : Past) → is_begun t past ≡ false → last t past ≡ None
 last_unbegun t [] h = refl
 last_unbegun t (Wrote n o k ∷ past) h =
     let e : (is_of t o ≡ false) × (is_begun t past ≡ false) = neither (is_of t o) (is_begun t past) h in

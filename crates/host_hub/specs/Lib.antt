@@ -29,3 +29,4 @@ pub mod WorkedStops
 pub mod WorkedStatus
 pub mod WorkedWrong
 pub mod Sentences
+pub mod Joined

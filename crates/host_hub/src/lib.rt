@@ -10,6 +10,7 @@ mod kind;
 mod laws;
 mod limits;
 mod outcome;
+mod ownership;
 mod refusals;
 pub mod refused;
 mod sentences;
@@ -38,6 +39,7 @@ pub use limits::{
     hub_limits_are_the_products,
 };
 pub use outcome::{End, Outcome};
+pub use ownership::joined_try;
 pub use refusals::{AskFault, ClearFault};
 pub use sentences::{
     bytes_keep_the_limit, each_submit_is_unlinked, hubs_are_determined, messages_are_in_a_row,
