@@ -12,6 +12,7 @@ use Rattle.tmc_wire.specs.declared.header_fault.HeaderFault.TheVariants.{Length,
 use Rattle.tmc_wire.specs.Header.{IsInHeader, prefix, sized}
 use Rattle.tmc_wire.specs.HeaderFault.{MsgID, bTag, bTagInverse, TransferSize, IsInFault, place_of}
 use Rattle.tmc_wire.specs.Transfer.{InText}
+use Rattle.host_joint.specs.Pieces.{IsFaultless, header_of}
 use Rattle.host_transfers.specs.declared.piece.Piece as assembly
 use Rattle.host_transfers.specs.declared.piece.Piece.TheVariants.{Data, Ended, Bad}
 use Rattle.host_transfers.specs.Answer.{Answers, GoesOn, Refuses, Faulty, OtherTag, TooMuch, EndsEarly, GoesFurther, field_of}
@@ -292,3 +293,19 @@ pub eom_as : ((header : InHeader) (message bytes : List ℕ) → InText header m
     → Says piece.tag piece.size piece.bytes bytes (nat_lt head.actual 4096) (Ended from to eom) → eom_of (extended head bytes piece).bytes ≡ eom
 eom_as law piece head bytes from to eom s =
     ap eom_of (bytes_same piece head bytes) ∙ (law s.2 (data_of (piece.bytes ++ bytes)) (piece.bytes ++ bytes) s.3.text ∙ s.4)
+
+-- ---- a piece that host_joint calls faultless
+
+pub faultless : (p : Piece) → IsFaultless p.tag p.size p.bytes → (is_some p.over ≡ true → 12 + TransferSize p.bytes ≤ length p.bytes) → first_fault (transfer_faults p) ≡ None
+faultless p f whole = fine p (header_of p.tag (TransferSize p.bytes) f.eom) head refl f.few f.within whole
+  where
+    head : Headed (header_of p.tag (TransferSize p.bytes) f.eom) p.bytes
+    head = record {
+      whole = f.long;
+      id = f.kind;
+      tag = f.tagged;
+      inverse = f.inverse ∙ ap (λ (n : ℕ). 255 - n) (sym f.tagged);
+      size = refl;
+      tagged = let some : p.tag ≢ 0 = f.named in omega (arith, some);
+      counted = f.some;
+    }

@@ -93,7 +93,7 @@ joined_with s past bytes read steps state e p v o j = record {
 }
 
 -- what is the same of a ticket
-owns_kept : (past new : Past) (t : ℕ) (a : Asking) (piece : Piece) (log : List LogEntry) → message_end t new ≡ message_end t past → got t new ≡ got t past
+pub owns_kept : (past new : Past) (t : ℕ) (a : Asking) (piece : Piece) (log : List LogEntry) → message_end t new ≡ message_end t past → got t new ≡ got t past
     → OwnsPiece past t a piece log → OwnsPiece new t a piece log
 owns_kept past new t a piece log e f o = record {
   response = o.response;
@@ -202,7 +202,7 @@ joined_wrote laws s past n t k bytes read steps state simple p h j =
 
 -- ---- an answer is taken
 
-is_read_of : (s : Setting) (k : Order) → IsSimple s → IsPlainOrder k → endpoint_of s.ends k ≡ 2 → k ≡ Read
+pub is_read_of : (s : Setting) (k : Order) → IsSimple s → IsPlainOrder k → endpoint_of s.ends k ≡ 2 → k ≡ Read
 is_read_of s (Part tag text eom) simple p e = absurd (omega (arith, e, simple.writes_to))
 is_read_of s (Request tag size) simple p e = absurd (omega (arith, e, simple.writes_to))
 is_read_of s Read simple p e = refl
@@ -212,11 +212,11 @@ is_read_of s (Class request) simple p e = absurd p
 is_read_of s (ClearHalt endpoint) simple p e = absurd p
 is_read_of s (Unlink target) simple p e = absurd p
 
-not_read_of : (s : Setting) (k : Order) → IsSimple s → endpoint_of s.ends k ≡ 1 → k ≡ Read → ⊥
+pub not_read_of : (s : Setting) (k : Order) → IsSimple s → endpoint_of s.ends k ≡ 1 → k ≡ Read → ⊥
 not_read_of s k simple e f = let g : endpoint_of s.ends Read ≡ 1 = subst (λ (j : Order). endpoint_of s.ends j ≡ 1) f e in omega (arith, g, simple.reads_from)
 
 -- the entries that the reader of answers knows
-entries_same : (s : Setting) (past : Past) (n t : ℕ) (k : Order) → Lawful s past → IsPlainOrder k → outstanding past ≡ record { number = n; owner = Of t; order = k } ∷ []
+pub entries_same : (s : Setting) (past : Past) (n t : ℕ) (k : Order) → Lawful s past → IsPlainOrder k → outstanding past ≡ record { number = n; owner = Of t; order = k } ∷ []
     → entries_of (urbs.outstanding (crossings s past)) ≡ entries_for (Some (head_of s n k))
 entries_same s past n t k h p e =
     ap (λ (xs : List Awaited). entries_of xs) (sym (same_outstanding s past h))
@@ -231,19 +231,19 @@ pub record Reading (s : Setting) (past : Past) (t : ℕ) (a : Asking) : Type 0 w
   pub unread : piece.over ≡ None
   pub unshut : piece.shut ≡ None
 
-reading : (s : Setting) (past : Past) (t : ℕ) (a : Asking) → last t past ≡ Some Read → outstanding past ≢ [] → Stage s past t a → Reading s past t a
+pub reading : (s : Setting) (past : Past) (t : ℕ) (a : Asking) → last t past ≡ Some Read → outstanding past ≢ [] → Stage s past t a → Reading s past t a
 reading s past t a l out (AtPart k text m e q more) = let f : Some (Part k text false) ≡ Some Read = sym m ∙ l in cc
 reading s past t a l out (AtEnd k text m e q) = let f : Some (Part k text true) ≡ Some Read = sym m ∙ l in cc
 reading s past t a l out (AtRequest k size piece earlier ask m e q over shut) = let f : Some (Request k size) ≡ Some Read = sym m ∙ l in cc
 reading s past t a l out (AtRead piece earlier ask m e q over shut unmade) = record { piece = piece; earlier = earlier; ended = e; has = q; unread = over out; unshut = shut }
 
-extended_full : (head : RetSubmitHead) (bytes : List ℕ) (piece : Piece) → head.actual ≡ 4096 → extended head bytes piece ≡ record piece { bytes = piece.bytes ++ bytes; full = piece.full + 1 }
+pub extended_full : (head : RetSubmitHead) (bytes : List ℕ) (piece : Piece) → head.actual ≡ 4096 → extended head bytes piece ≡ record piece { bytes = piece.bytes ++ bytes; full = piece.full + 1 }
 extended_full head bytes piece e = ap (λ (b : Bool). grown b) (le-ltb head.actual 4096 (omega (arith, e)))
   where
     grown : Bool → Piece
     grown b = if b then record piece { bytes = piece.bytes ++ bytes; over = Some head.seqnum } else record piece { bytes = piece.bytes ++ bytes; full = piece.full + 1 }
 
-extended_short : (head : RetSubmitHead) (bytes : List ℕ) (piece : Piece) → head.actual < 4096 → extended head bytes piece ≡ record piece { bytes = piece.bytes ++ bytes; over = Some head.seqnum }
+pub extended_short : (head : RetSubmitHead) (bytes : List ℕ) (piece : Piece) → head.actual < 4096 → extended head bytes piece ≡ record piece { bytes = piece.bytes ++ bytes; over = Some head.seqnum }
 extended_short head bytes piece e = ap (λ (b : Bool). grown b) (lt-ltb head.actual 4096 e)
   where
     grown : Bool → Piece
@@ -258,11 +258,11 @@ abbrev paused : List ℕ → Hand → Hand
 paused more (Reads last message tag size sofar read) = Pauses last message (sofar ++ data_of (read ++ more))
 paused more hand = Free
 
-abbrev last_in : Hand → ℕ
+abbrev pub last_in : Hand → ℕ
 last_in (Reads last message tag size sofar read) = last
 last_in hand = 0
 
-abbrev message_in : Hand → List ℕ
+abbrev pub message_in : Hand → List ℕ
 message_in (Reads last message tag size sofar read) = message
 message_in hand = []
 
@@ -270,7 +270,7 @@ abbrev held_in : List ℕ → Hand → List ℕ
 held_in more (Reads last message tag size sofar read) = sofar ++ data_of (read ++ more)
 held_in more hand = []
 
-abbrev bytes_in : List ℕ → Hand → List ℕ
+abbrev pub bytes_in : List ℕ → Hand → List ℕ
 bytes_in more (Reads last message tag size sofar read) = read ++ more
 bytes_in more hand = []
 
@@ -530,7 +530,7 @@ joined_took laws s past head data_bytes bytes read this more steps state simple 
     st = stands s past simple h.0 j.plain j.served running
 
     a : Answered past head
-    a = answered_one s past head data_bytes h st.out
+    a = answered_one s past head data_bytes h.0 h.1.1 st.out
 
     x : Expected s past a.number a.order head data_bytes (next s.first past) bytes (read ++ this) steps state
     x = expected s past a.number a.order head data_bytes (next s.first past) bytes read this steps state
@@ -541,7 +541,7 @@ joined_took laws s past head data_bytes bytes read this more steps state simple 
     b = behind laws s past head data_bytes (next s.first past) x.ups x.downs state a simple st x.status j.owns x.goes
 
 -- an answer to an unlink comes to no such hub
-unlink_never : {P : Type 0} (s : Setting) (past : Past) (head : RetUnlinkHead) (this : List ℕ) → Lawful s past → Out past
+pub unlink_never : {P : Type 0} (s : Setting) (past : Past) (head : RetUnlinkHead) (this : List ℕ) → Lawful s past → Out past
     → SpellsAnswer (entries_of (urbs.outstanding (crossings s past))) (down.RetUnlink head) this → P
 unlink_never {P} s past head this h (NoneOut e) k = no (subst (λ (es : List Outstanding). is_unlink (dirs.find head.seqnum es) ≡ true) entries k.0)
   where
@@ -698,7 +698,7 @@ asked_hand s past u b h = by (in_hand past) refl
         ∙ (ap (λ (c : Bool). if has t (live past) then hand_with (if c then Some b else asking_of t past) (message_end t past) (parts t past) (pieces t past) else Free) (differ u t (other t e))
         ∙ sym (ap (λ (o : Option ℕ). hand_in o past) e)))
 
-joined_asked : (s : Setting) (past : Past) (u : ℕ) (b : Asking) (bytes read : List ℕ) (steps : List RunStep) (state : State) → IsPlain (Asked u b) → Lawful s (Asked u b ∷ past)
+pub joined_asked : (s : Setting) (past : Past) (u : ℕ) (b : Asking) (bytes read : List ℕ) (steps : List RunStep) (state : State) → IsPlain (Asked u b) → Lawful s (Asked u b ∷ past)
     → IsJoined s past bytes read steps state → IsJoined s (Asked u b ∷ past) bytes read steps state
 joined_asked s past u b bytes read steps state p h j =
     joined_with s new bytes read steps state h.1.0.running (p, j.plain) (tt, j.served) owns
@@ -719,7 +719,7 @@ joined_asked s past u b bytes read steps state p h j =
 -- ---- any happening
 
 -- the end of a hub moves nothing
-joined_stopped : (s : Setting) (past : Past) (e : End) (bytes read : List ℕ) (steps : List RunStep) (state : State) → IsJoined s past bytes read steps state
+pub joined_stopped : (s : Setting) (past : Past) (e : End) (bytes read : List ℕ) (steps : List RunStep) (state : State) → IsJoined s past bytes read steps state
     → IsJoined s (Stopped e ∷ past) bytes read steps state
 joined_stopped s past e bytes read steps state j = record {
   plain = (tt, j.plain);
@@ -732,7 +732,7 @@ given_hand : (past : Past) (o : Option ℕ) → hand_in o (GaveUp ∷ past) ≡ 
 given_hand past None = refl
 given_hand past (Some t) = refl
 
-joined_given : (s : Setting) (past : Past) (bytes read : List ℕ) (steps : List RunStep) (state : State) → ended past ≡ None → IsJoined s past bytes read steps state
+pub joined_given : (s : Setting) (past : Past) (bytes read : List ℕ) (steps : List RunStep) (state : State) → ended past ≡ None → IsJoined s past bytes read steps state
     → IsJoined s (GaveUp ∷ past) bytes read steps state
 joined_given s past bytes read steps state running j =
     joined_with s (GaveUp ∷ past) bytes read steps state running (tt, j.plain) (tt, j.served)
@@ -740,7 +740,7 @@ joined_given s past bytes read steps state running j =
     (subst (λ (w : Hand). Joint s.devid w (waits_of s past) (next s.first past) bytes read steps state) (sym (given_hand past (in_hand past))) (joint_now s past bytes read steps state running j))
 
 -- a ticket settles, while the hub runs or behind its end
-joined_settles : Laws → (s : Setting) (past : Past) (t : ℕ) (o : Outcome) (bytes read : List ℕ) (steps : List RunStep) (state : State) → IsSimple s → Lawful s (Settled t o ∷ past)
+pub joined_settles : Laws → (s : Setting) (past : Past) (t : ℕ) (o : Outcome) (bytes read : List ℕ) (steps : List RunStep) (state : State) → IsSimple s → Lawful s (Settled t o ∷ past)
     → IsJoined s past bytes read steps state → IsJoined s (Settled t o ∷ past) bytes read steps state
 joined_settles laws s past t o bytes read steps state simple h j = by (ended past) refl
   where
@@ -753,7 +753,3 @@ joined_settles laws s past t o bytes read steps state simple h j = by (ended pas
           (sym (ap (λ (w : Option End). if is_some w then ran past else Settled t o ∷ past) e)) j.joint;
       owns = λ u b piece earlier asked q over. owns_kept past (Settled t o ∷ past) u b piece state.log refl refl (j.owns u b piece earlier asked q over);
     }
-
-pub step_used : Laws → (s : Setting) (past : Past) (t : ℕ) (o : Outcome) (bytes read : List ℕ) (steps : List RunStep) (state : State) → IsSimple s → Lawful s (Settled t o ∷ past)
-    → IsJoined s past bytes read steps state → IsJoined s (Settled t o ∷ past) bytes read steps state
-step_used = joined_settles

@@ -35,3 +35,4 @@ pub mod Polls
 pub mod Plain
 pub mod InHand
 pub mod Joining
+pub mod Going

@@ -15,6 +15,8 @@ use Rattle.host_hub.specs.Order.{Order, Part, Read, Request, Setting, Trigger, L
 use Rattle.host_hub.specs.Record.{Asked, Asking, Cancelled, Cleared, Fell, GaveUp, Happening, Of, Owner, Past, Recovers, Recovery, Settled, Stopped, Took, Wrote, next}
 use Rattle.host_hub.specs.Book.{active, asking_of, has, live, or_else, remove, tickets}
 use Rattle.host_hub.specs.Calls.{All}
+use Rattle.host_hub.specs.Crossings.{crossings}
+use Rattle.host_urbs.specs.Law.{MayTake}
 use Rattle.host_hub.specs.Causes.{cause, causes, ends_as, reached, stops}
 use Rattle.host_hub.specs.Hand.{ended, ended_by, in_hand, is_begun, is_of}
 use Rattle.host_hub.specs.Joined.{IsPlain, IsPlainAsking, IsPlainKind, IsPlainOrder, IsServed, IsSimple}
@@ -442,18 +444,18 @@ pub record Answered (past : Past) (head : RetSubmitHead) : Type 0 where
   pub lives : has ticket (live past) ≡ true
   pub last_is : last ticket past ≡ Some order
 
-pub answered_one : (s : Setting) (past : Past) (head : RetSubmitHead) (bytes : List ℕ) → Lawful s (Took (down.RetSubmit head bytes) ∷ past) → Out past → Answered past head
-answered_one s past head bytes h (NoneOut e) = absurd (no (answers_submit s past head bytes h.0 h.1.1))
+pub answered_one : (s : Setting) (past : Past) (head : RetSubmitHead) (bytes : List ℕ) → Lawful s past → MayTake (crossings s past) (down.RetSubmit head bytes) → Out past → Answered past head
+answered_one s past head bytes h may (NoneOut e) = absurd (no (answers_submit s past head bytes h may))
   where
     no : Answers s past head.seqnum false → ⊥
     no a = let f : find head.seqnum [] ≡ Some a.0 = subst (λ (xs : List Sent). find head.seqnum xs ≡ Some a.0) e a.1 in cc
-answered_one s past head bytes h (OneOut t n k p e hand lives l) = by (n == head.seqnum) refl
+answered_one s past head bytes h may (OneOut t n k p e hand lives l) = by (n == head.seqnum) refl
   where
     x : Sent
     x = record { number = n; owner = Of t; order = k }
 
     a : Answers s past head.seqnum false
-    a = answers_submit s past head bytes h.0 h.1.1
+    a = answers_submit s past head bytes h may
 
     there : (if n == head.seqnum then Some x else None) ≡ Some a.0
     there = subst (λ (xs : List Sent). find head.seqnum xs ≡ Some a.0) e a.1
@@ -657,7 +659,7 @@ stands_took s past head bytes simple p e h st = record { out = NoneOut a.none_le
     new = Took (down.RetSubmit head bytes) ∷ past
 
     a : Answered past head
-    a = answered_one s past head bytes h st.out
+    a = answered_one s past head bytes h.0 h.1.1 st.out
 
     hand : (u : ℕ) → in_hand past ≡ Some u → has u (live past) ≡ true → InHand s new u
     hand u f lives =

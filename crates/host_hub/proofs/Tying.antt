@@ -12,7 +12,7 @@ use Rattle.host_hub.specs.Record.{Owner, Happening, Past, Wrote, Took, Fell, wri
 use Rattle.host_hub.specs.Crossings.{crossings}
 use Rattle.host_hub.specs.Tied.{bytes_of, spelled, Tied, MovesNothing}
 
-spelled_more : (ms : List up.Message) (m : up.Message) → spelled (ms ++ m ∷ []) ≡ spelled ms ++ bytes_of m
+pub spelled_more : (ms : List up.Message) (m : up.Message) → spelled (ms ++ m ∷ []) ≡ spelled ms ++ bytes_of m
 spelled_more [] m = append-nil (bytes_of m)
 spelled_more (n ∷ ms) m =
     ap (λ (bytes : List ℕ). bytes_of n ++ bytes) (spelled_more ms m) ∙ sym (append_assoc (bytes_of n) (spelled ms) (bytes_of m))
