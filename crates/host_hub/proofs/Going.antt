@@ -1,6 +1,6 @@
 -- no answer ends a hub that nothing disturbs, and it stays joined as its record goes on
-use Rattle.std.proofs.Common.{◌≡◌, ◌≢◌, ◌⊎◌, ℕ, pos, ◌+◌, ◌<◌, ◌≤◌, ◌||◌, ◌&&◌, Bool, true, false, List, [], ◌∷◌, ◌++◌, length, Option, Some, None, inl, inr, refl, sym, subst, ◌∙◌, ap, arith, append_assoc, length-append}
-use Rattle.std.specs.Prelude.{◌==◌, ℤ, is_some, nat_lt, if◌then◌else◌}
+use Rattle.std.proofs.Common.{◌≡◌, ◌≢◌, ℕ, pos, ◌+◌, ◌<◌, ◌≤◌, ◌||◌, ◌&&◌, Bool, true, false, List, [], ◌∷◌, ◌++◌, length, Option, Some, None, refl, sym, subst, ◌∙◌, ap, arith, append_assoc}
+use Rattle.std.specs.Prelude.{ℤ, is_some, if◌then◌else◌}
 use Rattle.std.specs.Ordering.{int_eq}
 use Rattle.std.proofs.lemmas.Bool.{le-ltb}
 use Rattle.std.proofs.lemmas.List.{append-nil}
@@ -18,16 +18,14 @@ use Rattle.tmc_wire.specs.HeaderFault.{TransferSize}
 use Rattle.tmc_law.specs.Put.{Put}
 use Rattle.tmc_law.specs.State.{State}
 use Rattle.host_joint.specs.Hand.{Hand, Reads}
-use Rattle.host_joint.specs.Joint.{Joint}
 use Rattle.host_joint.specs.Pieces.{BeginsPiece, IsFaultless, IsPiece, IsWhole}
 use Rattle.host_joint.specs.Tie.{Goes, TakesFull, TakesLast, TakesPiece, TakesTransfer}
 use Rattle.host_urbs.specs.Law.{MayTake}
 use Rattle.host_urbs.specs.Record as urbs
 use Rattle.host_hub.specs.declared.outcome.End.TheVariants as end
-use Rattle.host_hub.specs.declared.outcome.Outcome.{Outcome}
 use Rattle.host_hub.specs.Order.{Order, Part, Read, Request, Setting, Trigger, Listen, Class, ClearHalt, Unlink, endpoint_of, is_bulk, size_of}
 use Rattle.host_hub.specs.Order as order
-use Rattle.host_hub.specs.Record.{Asked, Asking, Cancelled, Cleared, Fell, GaveUp, Happening, Of, Owner, Past, Recovers, Recovery, Settled, Stopped, Took, Wrote, next, written}
+use Rattle.host_hub.specs.Record.{Asked, Asking, Cancelled, Cleared, Fell, GaveUp, Of, Past, Recovers, Recovery, Settled, Stopped, Took, Wrote, next, written}
 use Rattle.host_hub.specs.Book.{asking_of}
 use Rattle.host_hub.specs.Calls.{All}
 use Rattle.host_hub.specs.Crossings.{crossings}
@@ -43,8 +41,8 @@ use Rattle.host_hub.specs.Tied.{bytes_of, spelled}
 use Rattle.host_hub.proofs.Assembled.{faultless}
 use Rattle.host_hub.proofs.InHand.{head_of, reads_is}
 use Rattle.host_hub.proofs.Joining.{Expected, Laws, Reading, bytes_in, expected, extended_full, extended_short, is_read_of, joined_asked, joined_given, joined_settles, joined_stopped, joined_took, joined_wrote, joint_now, next_answer, not_read_of, reading, unlink_never}
-use Rattle.host_hub.proofs.Lists.{and_false, clash, own}
-use Rattle.host_hub.proofs.Plain.{Answered, InHand, Out, Stands, answered_one, stands}
+use Rattle.host_hub.proofs.Lists.{and_false, clash}
+use Rattle.host_hub.proofs.Plain.{Answered, InHand, Stands, answered_one, stands}
 use Rattle.host_hub.proofs.Tying.{spelled_more}
 
 -- what host_joint says of pieces

@@ -1,38 +1,35 @@
 -- what a hub that nothing disturbs has in hand, and what each submit makes of it
 use Rattle.std.proofs.Common.{◌≡◌, ◌≢◌, ◌⊎◌, ℕ, zero, suc, ◌+◌, ◌-◌, ◌*◌, ◌<◌, ◌≤◌, nat_le, min, Bool, true, false, List, [], ◌∷◌, ◌++◌, length, take, drop, Option, Some, None, inl, inr, refl, sym, subst, ◌∙◌, ap, arith, length-append, length-drop}
-use Rattle.std.specs.Prelude.{◌==◌, ◌^◌, is_some, slice_index, if◌then◌else◌}
+use Rattle.std.specs.Prelude.{◌==◌, ◌^◌, is_some, if◌then◌else◌}
 use Rattle.std.proofs.lemmas.Bool.{cases_lt, eqb-false, leb-true}
 use Rattle.std.proofs.lemmas.List.{append-nil, length-take, length-take-le, take_all, take-append-drop}
 use Rattle.std.proofs.Math.ListN.{drop_of_length-le}
 use Rattle.std.proofs.Math.Seq.{take-append-add}
 use Rattle.usbip_wire.specs.declared.submit.SubmitHead.{SubmitHead}
-use Rattle.usbip_wire.specs.Submit.{SpellsSubmit, Carries, submit_bytes, submit_words, unused}
+use Rattle.usbip_wire.specs.Submit.{SpellsSubmit, Carries, submit_bytes, unused}
 use Rattle.usbip_wire.specs.Urb.{AreWide, direction_code}
 use Rattle.usbip_wire.specs.declared.urb.Dir.{Dir}
 use Rattle.usbip_wire.specs.declared.urb.Dir.TheVariants.{Out, In}
 use Rattle.usbip_wire.specs.Up as up
 use Rattle.tmc_wire.specs.declared.header.OutHeader.{OutHeader}
 use Rattle.tmc_wire.specs.declared.header.OutHeader.TheVariants as header
-use Rattle.tmc_wire.specs.Header.{out_header_bytes, IsOutProper, OutFits}
+use Rattle.tmc_wire.specs.Header.{out_header_bytes}
 use Rattle.tmc_wire.specs.Transfer.{alignment_of}
 use Rattle.host_transfers.specs.Piece.{eom_of}
 use Rattle.host_joint.specs.Hand.{Hand, Free, Says, Said, Reads, Pauses, IsTransfer, Speaks, Writes, WritesPart, WritesLast, WritesRequest, WritesNext, WritesRead}
-use Rattle.host_joint.specs.Reads.{IsRead}
 use Rattle.host_hub.specs.declared.kind.Kind.{Kind}
 use Rattle.host_hub.specs.declared.kind.Kind.TheVariants as kind
-use Rattle.host_hub.specs.Order.{Order, Part, Read, Request, Setting, Trigger, Listen, Class, ClearHalt, Unlink, message_of, no_setup, size_of, text_of, transfer, way_of, endpoint_of, setup_of}
-use Rattle.host_hub.specs.Record.{Asking, Happening, Of, Past, Wrote, next}
-use Rattle.host_hub.specs.Book.{active, asking_of, has, live, is_live}
+use Rattle.host_hub.specs.Order.{Order, Part, Read, Request, Setting, Trigger, Listen, Class, ClearHalt, Unlink, message_of, size_of, text_of, transfer, way_of, endpoint_of, setup_of}
+use Rattle.host_hub.specs.Record.{Asking, Of, Past, Wrote}
+use Rattle.host_hub.specs.Book.{active, asking_of, has, live}
 use Rattle.host_hub.specs.Hand.{in_hand, is_begun}
 use Rattle.host_hub.specs.Joined.{IsPlainAsking, IsPlainKind, IsPlainOrder, IsSimple, hand_in, hand_of, hand_with, hand_with_pieces}
 use Rattle.host_hub.specs.Law.{Lawful}
 use Rattle.host_hub.specs.Pieces.{Piece, data_in, opened, pieces, requested}
-use Rattle.host_hub.specs.Plan.{message_end, next_tag, last_tag, part_of, parts, request_of, ended_at, is_part}
-use Rattle.host_hub.specs.Tied.{bytes_of}
-use Rattle.host_hub.proofs.Lists.{clash, own, same}
-use Rattle.host_hub.proofs.Numbers.{may_next}
+use Rattle.host_hub.specs.Plan.{message_end, next_tag, part_of, parts}
+use Rattle.host_hub.proofs.Lists.{clash, same}
 use Rattle.host_hub.proofs.Pasts.{begun_active, hand_begun}
-use Rattle.host_hub.proofs.Plain.{AtEnd, AtPart, AtRead, AtRequest, BeginsWith, GoesOnWith, InHand, IsUnmade, Move, Moves, ReadsWith, RequestsFirst, RequestsNext, Stage, end_unbegun, end_wrote, later, parts_unbegun, parts_wrote, pieces_wrote}
+use Rattle.host_hub.proofs.Plain.{BeginsWith, GoesOnWith, Move, ReadsWith, RequestsFirst, RequestsNext, end_unbegun, end_wrote, parts_unbegun, parts_wrote, pieces_wrote}
 use Rattle.host_hub.proofs.Within.{never_passes, none_unbegun}
 
 -- ---- what is in hand, by how far the ticket has come
@@ -327,15 +324,15 @@ spells s n k simple p low l =
       setup = b.1;
       carried = carries s n k p;
       wide =
-        wide 1 (n ∷ s.devid ∷ direction_code (way_of k) ∷ endpoint_of s.ends k ∷ 0 ∷ size_of s.ends k ∷ 0 ∷ 4294967295 ∷ 0 ∷ []) (omega arith)
-        (wide n (s.devid ∷ direction_code (way_of k) ∷ endpoint_of s.ends k ∷ 0 ∷ size_of s.ends k ∷ 0 ∷ 4294967295 ∷ 0 ∷ []) low
-        (wide s.devid (direction_code (way_of k) ∷ endpoint_of s.ends k ∷ 0 ∷ size_of s.ends k ∷ 0 ∷ 4294967295 ∷ 0 ∷ []) simple.device
-        (wide (direction_code (way_of k)) (endpoint_of s.ends k ∷ 0 ∷ size_of s.ends k ∷ 0 ∷ 4294967295 ∷ 0 ∷ []) (direction_small (way_of k))
-        (wide (endpoint_of s.ends k) (0 ∷ size_of s.ends k ∷ 0 ∷ 4294967295 ∷ 0 ∷ []) (omega (arith, b.0))
-        (wide 0 (size_of s.ends k ∷ 0 ∷ 4294967295 ∷ 0 ∷ []) (omega arith)
-        (wide (size_of s.ends k) (0 ∷ 4294967295 ∷ 0 ∷ []) (omega (arith, l))
-        (wide 0 (4294967295 ∷ 0 ∷ []) (omega arith)
-        (wide 4294967295 (0 ∷ []) (omega arith)
-        (wide 0 [] (omega arith) wide_none)))))))));
+          wide 1 (n ∷ s.devid ∷ direction_code (way_of k) ∷ endpoint_of s.ends k ∷ 0 ∷ size_of s.ends k ∷ 0 ∷ 4294967295 ∷ 0 ∷ []) (omega arith)
+          (wide n (s.devid ∷ direction_code (way_of k) ∷ endpoint_of s.ends k ∷ 0 ∷ size_of s.ends k ∷ 0 ∷ 4294967295 ∷ 0 ∷ []) low
+          (wide s.devid (direction_code (way_of k) ∷ endpoint_of s.ends k ∷ 0 ∷ size_of s.ends k ∷ 0 ∷ 4294967295 ∷ 0 ∷ []) simple.device
+          (wide (direction_code (way_of k)) (endpoint_of s.ends k ∷ 0 ∷ size_of s.ends k ∷ 0 ∷ 4294967295 ∷ 0 ∷ []) (direction_small (way_of k))
+          (wide (endpoint_of s.ends k) (0 ∷ size_of s.ends k ∷ 0 ∷ 4294967295 ∷ 0 ∷ []) (omega (arith, b.0))
+          (wide 0 (size_of s.ends k ∷ 0 ∷ 4294967295 ∷ 0 ∷ []) (omega arith)
+          (wide (size_of s.ends k) (0 ∷ 4294967295 ∷ 0 ∷ []) (omega (arith, l))
+          (wide 0 (4294967295 ∷ 0 ∷ []) (omega arith)
+          (wide 4294967295 (0 ∷ []) (omega arith)
+          (wide 0 [] (omega arith) wide_none)))))))));
       layout = refl;
     }

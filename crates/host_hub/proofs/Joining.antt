@@ -1,10 +1,10 @@
 -- a hub and a lawful device that nothing disturbs stay joined
-use Rattle.std.proofs.Common.{◌≡◌, ◌≢◌, ◌⊎◌, ℕ, pos, ◌+◌, ◌-◌, ◌*◌, ◌<◌, ◌≤◌, min, nat_le, take, drop, Bool, true, false, List, [], ◌∷◌, ◌++◌, length, Option, Some, None, inl, inr, refl, sym, subst, ◌∙◌, ap, arith, append_assoc, length-append}
-use Rattle.std.specs.Prelude.{◌==◌, ◌%◌, is_some, nat_lt, replicate, if◌then◌else◌}
-use Rattle.std.proofs.lemmas.Bool.{eqb-false, eqb-true, le-ltb, lt-ltb}
+use Rattle.std.proofs.Common.{◌≡◌, ◌≢◌, ◌⊎◌, ℕ, pos, ◌+◌, ◌-◌, ◌*◌, ◌<◌, ◌≤◌, min, nat_le, take, drop, Bool, true, false, List, [], ◌∷◌, ◌++◌, length, Option, Some, None, inl, inr, refl, sym, subst, ◌∙◌, ap, arith, length-append}
+use Rattle.std.specs.Prelude.{◌==◌, ◌%◌, is_some, if◌then◌else◌}
+use Rattle.std.proofs.lemmas.Bool.{eqb-true, le-ltb, lt-ltb}
 use Rattle.std.proofs.lemmas.List.{append-nil, length-replicate, length-take}
 use Rattle.tmc_base.specs.declared.run_step.RunStep.{RunStep}
-use Rattle.tmc_base.specs.Told.{in_bytes, out_bytes}
+use Rattle.tmc_base.specs.Told.{out_bytes}
 use Rattle.usbip_wire.specs.declared.dirs.Outstanding.{Outstanding}
 use Rattle.usbip_wire.specs.declared.dirs.Outstanding.TheVariants.{Submit}
 use Rattle.usbip_wire.specs.declared.ret_unlink.RetUnlinkHead.{RetUnlinkHead}
@@ -21,35 +21,34 @@ use Rattle.tmc_wire.specs.declared.header.InHeader.{InHeader}
 use Rattle.tmc_wire.specs.Transfer.{InText, alignment_of}
 use Rattle.instr_plain.specs.declared.log.LogEntry.{LogEntry}
 use Rattle.tmc_law.specs.State.{State}
-use Rattle.tmc_law.specs.Put.{Put, Submitted}
+use Rattle.tmc_law.specs.Put.{Put}
 use Rattle.tmc_law.specs.Laws.{message_of}
 use Rattle.host_transfers.specs.Piece.{data_of, eom_of}
-use Rattle.host_joint.specs.Hand.{Hand, Free, Says, Said, Reads, Pauses, Writes}
+use Rattle.host_joint.specs.Hand.{Hand, Free, Said, Reads, Pauses, Writes}
 use Rattle.host_joint.specs.Joint.{Joint, IsNextAnswer, entries_for}
-use Rattle.host_joint.specs.Pieces.{BeginsPiece, IsFaultless, IsPiece, IsWhole, header_of}
+use Rattle.host_joint.specs.Pieces.{IsPiece, header_of}
 use Rattle.host_joint.specs.Stage.{Ran}
-use Rattle.host_joint.specs.Tie.{Goes, IsGiven, Owns, TakesFull, TakesLast, TakesPiece, TakesTransfer, Tie}
+use Rattle.host_joint.specs.Tie.{Goes, TakesFull, TakesLast, TakesPiece, TakesTransfer, Tie}
 use Rattle.host_urbs.specs.Record as urbs
-use Rattle.host_hub.specs.declared.kind.Kind.TheVariants as kind
 use Rattle.host_hub.specs.declared.outcome.End.{End}
 use Rattle.host_hub.specs.declared.outcome.Outcome.{Outcome}
 use Rattle.host_hub.specs.Order.{Order, Part, Read, Request, Setting, Trigger, Listen, Class, ClearHalt, Unlink, endpoint_of, size_of, text_of}
 use Rattle.host_hub.specs.Order as order
-use Rattle.host_hub.specs.Record.{Asked, Asking, Cancelled, Cleared, Fell, GaveUp, Happening, Of, Owner, Past, Recovers, Recovery, Settled, Stopped, Took, Wrote, next, written}
-use Rattle.host_hub.specs.Book.{active, asking_of, has, live, remove, tickets}
+use Rattle.host_hub.specs.Record.{Asked, Asking, GaveUp, Of, Past, Settled, Stopped, Took, Wrote, next, written}
+use Rattle.host_hub.specs.Book.{asking_of, has, live, remove, tickets}
 use Rattle.host_hub.specs.Calls.{All}
 use Rattle.host_hub.specs.Causes.{cause}
 use Rattle.host_hub.specs.Crossings.{crossings}
-use Rattle.host_hub.specs.Hand.{ended, in_hand, is_begun, is_of}
-use Rattle.host_hub.specs.Joined.{IsJoined, IsPlain, IsPlainOrder, IsServed, IsSimple, OwnsPiece, OwnsWhole, ReadsOn, hand_in, hand_of, hand_with, head_in, ran, waits_in, waits_of}
+use Rattle.host_hub.specs.Hand.{ended, in_hand}
+use Rattle.host_hub.specs.Joined.{IsJoined, IsPlain, IsPlainOrder, IsServed, IsSimple, OwnsPiece, OwnsWhole, hand_in, hand_of, hand_with, head_in, ran, waits_in, waits_of}
 use Rattle.host_hub.specs.Law.{Lawful}
-use Rattle.host_hub.specs.Outstanding.{Sent, awaited_by, find, outstanding}
+use Rattle.host_hub.specs.Outstanding.{Sent, awaited_by, outstanding}
 use Rattle.host_hub.specs.Owned.{IsFront}
 use Rattle.host_hub.specs.Pieces.{Piece, answered, answered_for, data_in, extended, got, opened, pieces, requested}
 use Rattle.host_hub.specs.Plan.{ended_at, last, message_end, next_tag, part_of, parts}
 use Rattle.host_hub.specs.Tied.{bytes_of, spelled}
 use Rattle.host_hub.proofs.InHand.{head_of, free_is, is_submit, pauses_is, reads_is, said_is, spells, whole_is, wrote_writes}
-use Rattle.host_hub.proofs.Lists.{clash, differ, first_has, has_added, has_front, has_removed, own, same}
+use Rattle.host_hub.proofs.Lists.{clash, differ, has_added, has_front, has_removed, same}
 use Rattle.host_hub.proofs.Numbered.{submit_last}
 use Rattle.host_hub.proofs.Numbers.{may_next, same_outstanding}
 use Rattle.host_hub.proofs.Pasts.{begun_known, hand_begun, unasked_begun}

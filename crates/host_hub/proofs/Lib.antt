@@ -36,3 +36,4 @@ pub mod Plain
 pub mod InHand
 pub mod Joining
 pub mod Going
+pub mod Owns

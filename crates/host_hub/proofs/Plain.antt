@@ -1,5 +1,5 @@
 -- where a hub stands that nothing disturbs: what is out, how far the ticket in hand has come, and what is made
-use Rattle.std.proofs.Common.{◌≡◌, ◌≢◌, ◌⊎◌, ℕ, pos, ◌+◌, ◌-◌, ◌*◌, ◌/◌, ◌<◌, ◌≤◌, ◌||◌, ◌&&◌, not, nat_le, Bool, true, false, List, [], ◌∷◌, ◌++◌, length, take, drop, Option, Some, None, inl, inr, refl, sym, subst, ◌∙◌, ap, arith}
+use Rattle.std.proofs.Common.{◌≡◌, ◌≢◌, ◌⊎◌, ℕ, pos, ◌+◌, ◌-◌, ◌*◌, ◌<◌, ◌||◌, ◌&&◌, not, nat_le, Bool, true, false, List, [], ◌∷◌, ◌++◌, length, take, drop, Option, Some, None, inl, inr, refl, sym, subst, ◌∙◌, ap, arith}
 use Rattle.std.specs.Prelude.{◌==◌, ℤ, is_some, nat_lt, min, if◌then◌else◌}
 use Rattle.std.specs.Bool.{MatchBool}
 use Rattle.std.specs.Ordering.{int_eq}
@@ -12,8 +12,8 @@ use Rattle.host_hub.specs.declared.kind.Kind.TheVariants as kind
 use Rattle.host_hub.specs.declared.outcome.Outcome.{Outcome}
 use Rattle.host_hub.specs.declared.outcome.Outcome.TheVariants as outcome
 use Rattle.host_hub.specs.Order.{Order, Part, Read, Request, Setting, Trigger, Listen, Class, ClearHalt, Unlink, endpoint_of, is_listen}
-use Rattle.host_hub.specs.Record.{Asked, Asking, Cancelled, Cleared, Fell, GaveUp, Happening, Of, Owner, Past, Recovers, Recovery, Settled, Stopped, Took, Wrote, next}
-use Rattle.host_hub.specs.Book.{active, asking_of, has, live, or_else, remove, tickets}
+use Rattle.host_hub.specs.Record.{Asked, Asking, Cancelled, Cleared, Fell, GaveUp, Happening, Of, Past, Recovers, Recovery, Settled, Stopped, Took, Wrote}
+use Rattle.host_hub.specs.Book.{asking_of, has, live, or_else, remove}
 use Rattle.host_hub.specs.Calls.{All}
 use Rattle.host_hub.specs.Crossings.{crossings}
 use Rattle.host_urbs.specs.Law.{MayTake}
@@ -538,7 +538,7 @@ has_come limit (piece ∷ earlier) o e = by (is_some piece.over) refl e
     by false f k = cc
 
 -- what it makes of its ticket
-made_is : (s : Setting) (past : Past) (head : RetSubmitHead) (bytes : List ℕ) (a : Answered past head) (b : Asking) → asking_of a.ticket past ≡ Some b → head.status ≡ pos 0
+pub made_is : (s : Setting) (past : Past) (head : RetSubmitHead) (bytes : List ℕ) (a : Answered past head) (b : Asking) → asking_of a.ticket past ≡ Some b → head.status ≡ pos 0
     → made_at s a.ticket past (Took (down.RetSubmit head bytes)) ≡ served b.kind b.limit a.order bytes (standing s a.ticket (Took (down.RetSubmit head bytes) ∷ past))
 made_is s past head bytes a b asked e =
     ap (λ (o : Option Asking). made_by s a.ticket past o (find head.seqnum (outstanding past)) head bytes now) asked
@@ -555,7 +555,7 @@ made_is s past head bytes a b asked e =
         ap (λ (z : ℤ). if int_eq z (pos 0) then served b.kind b.limit a.order bytes now
         else if int_eq z stalled then Some (outcome.Halted (endpoint_of s.ends a.order)) else Some (outcome.DeviceFault z)) e
 
-made_other : (s : Setting) (past : Past) (head : RetSubmitHead) (bytes : List ℕ) (a : Answered past head) (u : ℕ) → (a.ticket ≡ u → ⊥)
+pub made_other : (s : Setting) (past : Past) (head : RetSubmitHead) (bytes : List ℕ) (a : Answered past head) (u : ℕ) → (a.ticket ≡ u → ⊥)
     → made_at s u past (Took (down.RetSubmit head bytes)) ≡ None
 made_other s past head bytes a u other = by (asking_of u past)
   where

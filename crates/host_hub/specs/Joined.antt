@@ -1,13 +1,12 @@
 -- a hub's record and a lawful device at the two ends of a link, while nothing disturbs them: what the hub has in hand, and whose
 -- bytes its tickets have
-use Rattle.std.specs.Prelude.{◌≡◌, ℕ, pos, ◌*◌, ◌^◌, ◌==◌, ◌<◌, ◌≤◌, Bool, true, false, Option, Some, None, is_some, List, [], ◌∷◌, ◌++◌, length, take, if◌then◌else◌}
+use Rattle.std.specs.Prelude.{◌≡◌, ℕ, pos, ◌*◌, ◌^◌, ◌==◌, ◌<◌, ◌≤◌, true, false, Option, Some, None, is_some, List, [], ◌∷◌, ◌++◌, length, take, if◌then◌else◌}
 use Rattle.tmc_base.specs.declared.run_step.RunStep.{RunStep}
 use Rattle.usbip_wire.specs.declared.submit.SubmitHead.{SubmitHead}
 use Rattle.usbip_wire.specs.Awaited.{entries_of}
 use Rattle.usbip_wire.specs.Down as down
 use Rattle.usbip_wire.specs.Down.{SpellsAnswer}
 use Rattle.usbip_wire.specs.Up as up
-use Rattle.usb_setup.specs.declared.ends.Ends.{Ends}
 use Rattle.instr_plain.specs.declared.log.LogEntry.{LogEntry}
 use Rattle.tmc_law.specs.Endpoint.{BulkIn, BulkOut}
 use Rattle.tmc_law.specs.Endpoint as endpoint
@@ -22,7 +21,7 @@ use Rattle.host_hub.specs.declared.kind.Kind.{Kind}
 use Rattle.host_hub.specs.declared.kind.Kind.TheVariants as kind
 use Rattle.host_hub.specs.declared.limits.TheConstants.{MESSAGE_MAX}
 use Rattle.host_hub.specs.Order.{Order, Part, Request, Read, Setting, message_of, number_of}
-use Rattle.host_hub.specs.Record.{Happening, Past, Wrote, Took, Fell, Stopped, Recovers, Asked, Cancelled, Cleared, GaveUp, Settled, Owner, Of, Recovery, Asking, next, written}
+use Rattle.host_hub.specs.Record.{Happening, Past, Wrote, Took, Fell, Recovers, Asked, Cancelled, Cleared, Owner, Of, Recovery, Asking, next, written}
 use Rattle.host_hub.specs.Crossings.{crossings}
 use Rattle.host_hub.specs.Hand.{in_hand, ended}
 use Rattle.host_hub.specs.Outstanding.{Sent, outstanding}
@@ -31,7 +30,6 @@ use Rattle.host_hub.specs.Calls.{All}
 use Rattle.host_hub.specs.Owned.{IsFront}
 use Rattle.host_hub.specs.Pieces.{Piece, data_in, got, pieces}
 use Rattle.host_hub.specs.Plan.{message_end, parts}
-use Rattle.host_hub.specs.Tied.{spelled}
 
 -- ---- what is left out until cancels, clears, status reads and recoveries come
 

@@ -39,7 +39,9 @@ pub use limits::{
     hub_limits_are_the_products,
 };
 pub use outcome::{End, Outcome};
-pub use ownership::{hubs_begin_joined, hubs_stay_joined, no_answer_ends_a_hub};
+pub use ownership::{
+    hubs_begin_joined, hubs_stay_joined, no_answer_ends_a_hub, tickets_own_their_bytes,
+};
 pub use refusals::{AskFault, ClearFault};
 pub use sentences::{
     bytes_keep_the_limit, each_submit_is_unlinked, hubs_are_determined, messages_are_in_a_row,

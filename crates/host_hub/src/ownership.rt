@@ -1,6 +1,7 @@
 //! Whose bytes the tickets of an undisturbed hub have. Each function does nothing, and its contract is the law.
 
 ghost use Rattle.std.specs.Prelude.{◌≡◌, ◌++◌, ℕ, List, [], None};
+ghost use Rattle.host_hub.specs.BookSeen.{Seen};
 ghost use Rattle.host_hub.specs.Calls.{All};
 ghost use Rattle.host_hub.specs.Crossings.{crossings};
 ghost use Rattle.host_hub.specs.Ends.{ends_by};
@@ -8,7 +9,9 @@ ghost use Rattle.host_hub.specs.Hand.{ended};
 ghost use Rattle.host_hub.specs.Joined.{IsJoined, IsPlain, IsServed, IsSimple, ReadsOn};
 ghost use Rattle.host_hub.specs.Law.{Lawful};
 ghost use Rattle.host_hub.specs.Order.{Setting};
+ghost use Rattle.host_hub.specs.Owned.{Owned};
 ghost use Rattle.host_hub.specs.Record.{Past, Took, written};
+ghost use Rattle.host_hub.specs.Shown.{ShowsTicket};
 ghost use Rattle.host_hub.specs.Tied.{spelled};
 ghost use Rattle.host_joint.specs.Hand.{Free};
 ghost use Rattle.host_joint.specs.Joint.{Joint, TellsCalmly};
@@ -21,7 +24,8 @@ ghost use Rattle.usbip_wire.specs.Down as down;
 ghost use Rattle.usbip_wire.specs.Down.{SpellsAnswer};
 
 use host_joint::{
-    joints_stay, pieces_have_no_fault, the_next_answer_is_read, tickets_end, writes_keep_joints,
+    joints_stay, pieces_have_no_fault, the_next_answer_is_read, tickets_end, ties_own,
+    writes_keep_joints,
 };
 use host_transfers::a_piece_is_its_transfer;
 use host_urbs::what_is_spelled_may_come;
@@ -62,4 +66,13 @@ pub fn no_answer_ends_a_hub()
     pieces_have_no_fault();
     a_piece_is_its_transfer();
     what_is_spelled_may_come();
+}
+
+/// What a ticket of such a hub has is at every moment a front of the response that the device's log gives to its own message, executed
+/// once and under its own number; all of it where it is complete, and the first bytes of a longer one where it reached its limit.
+pub fn tickets_own_their_bytes()
+    ensures { (setting : Setting) (past : Past) (bytes read : List ℕ) (steps : List RunStep) (state : State) → IsSimple setting → Lawful setting past
+        → IsJoined setting past bytes read steps state → (ticket : ℕ) (seen : Seen) → ShowsTicket past ticket seen → Owned seen state.log }
+{
+    ties_own();
 }

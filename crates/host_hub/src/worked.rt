@@ -4,7 +4,9 @@ ghost use Rattle.std.specs.Prelude.{◌≡◌, ◌++◌, [], ◌∷◌, Some, co
 ghost use Rattle.host_hub.specs.declared.outcome.End.TheVariants as end;
 ghost use Rattle.host_hub.specs.declared.outcome.Outcome.TheVariants as outcome;
 ghost use Rattle.host_hub.specs.Book.{outcome_of};
+ghost use Rattle.host_hub.specs.Calls.{All};
 ghost use Rattle.host_hub.specs.Hand.{ended, start};
+ghost use Rattle.host_hub.specs.Joined.{IsPlain, IsServed, IsSimple};
 ghost use Rattle.host_hub.specs.Status.{poll, service};
 ghost use Rattle.host_hub.specs.WorkedStatus.{status_record};
 ghost use Rattle.host_hub.specs.Law.{Kept};
@@ -15,12 +17,15 @@ ghost use Rattle.host_hub.specs.declared.book.BookEntry.TheVariants as entry;
 ghost use Rattle.host_hub.specs.WorkedStops.{race_record, cancel_record, aborted_record, split_record, unanswered_record};
 ghost use Rattle.host_hub.specs.Worked.{setting, identity, values, query_record, full_record, limited_record, unplugged_record, halted_record};
 
-/// `*IDN?` is answered in one read.
+/// `*IDN?` is answered in one read, and nothing disturbs it.
 pub fn a_query_is_answered()
     ensures kept { Kept setting query_record }
     ensures outcome { outcome_of 1 query_record ≡ outcome.Complete }
     ensures bytes { got 1 query_record ≡ identity }
     ensures last { message_end 1 query_record ≡ 1 }
+    ensures simple { IsSimple setting }
+    ensures plain { All IsPlain query_record }
+    ensures served { All IsServed query_record }
 {}
 
 /// A response of 4,084 bytes fills the first read of its transfer, and the second one ends it.

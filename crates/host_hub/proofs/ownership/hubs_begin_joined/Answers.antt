@@ -1,4 +1,3 @@
-use Rattle.std.proofs.Common.{[]}
 use Rattle.host_hub.proofs.ownership.hubs_begin_joined.Goals as goal
 
 pub returns : goal.returns

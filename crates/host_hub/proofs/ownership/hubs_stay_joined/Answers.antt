@@ -1,5 +1,3 @@
-use Rattle.std.proofs.Common.{[]}
-use Rattle.host_hub.specs.Joined.{OwnsPiece}
 use Rattle.host_hub.proofs.Going.{joined_on}
 use Rattle.host_hub.proofs.ownership.hubs_stay_joined.Goals as goal
 
