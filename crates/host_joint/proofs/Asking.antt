@@ -41,7 +41,7 @@ use Rattle.host_joint.proofs.Rebuilding.{other_event, other_ended, Effect, effec
 all_more : (shut : Bool) (came : ℕ) (a b : List Event) → AllTaken shut came a → AllTaken shut 0 b → AllTaken shut came (a ++ b)
 all_more shut came [] b h k = subst (λ (n : ℕ). AllTaken shut n b) (sym h) k
 all_more shut came (Gives head answer transferred ∷ a) b (inl h) k = inl (h.0, h.1, h.2, h.3, all_more shut h.2 a b h.4 k)
-all_more shut came (Gives head answer transferred ∷ a) b (inr h) k = inr h
+all_more shut came (Gives head answer transferred ∷ a) b (inr h) k = inr (h.0, h.1, h.2, all_more shut 0 a b h.3 k)
 all_more shut came (Drops n ∷ a) b h k = all_more shut came a b h k
 
 -- one more, where Bulk-OUT is not halted
@@ -209,17 +209,27 @@ own_event e head answer transferred puts is = rw (eq-eqb head.ep (number_of e) i
 stalled_taken : (queue : List Pending) → AllFit BulkOut queue → AllTaken true 0 (events_of BulkOut (all_ended stalled queue))
 stalled_taken [] fit = refl
 stalled_taken (first ∷ others) fit =
-    subst (λ (l : List Event). AllTaken true 0 l) (sym (own_event BulkOut first.head _ _ (map (λ submit. answer_of submit.head stalled []) others) fit.0.number)) (inr (refl, refl, refl))
+    subst (λ (l : List Event). AllTaken true 0 l) (sym (own_event BulkOut first.head _ _ (map (λ submit. answer_of submit.head stalled []) others) fit.0.number)) (inr (refl, refl, refl, rest others fit.1))
+  where
+    rest : (l : List Pending) → AllFit BulkOut l → AllTaken true 0 (events_of BulkOut (map (λ submit. answer_of submit.head stalled []) l))
+    rest [] h = refl
+    rest (x ∷ l) h =
+        subst (λ (k : List Event). AllTaken true 0 k) (sym (own_event BulkOut x.head _ _ (map (λ submit. answer_of submit.head stalled []) l) h.0.number)) (inr (refl, refl, refl, rest l h.1))
 
 stalled_halted : (queue : List Pending) → AllFit BulkIn queue → reads.IsHalted (gives (events_of BulkIn (all_ended stalled queue)))
 stalled_halted [] fit = tt
 stalled_halted (first ∷ others) fit =
-    subst (λ (l : List Event). reads.IsHalted (gives l)) (sym (own_event BulkIn first.head _ _ (map (λ submit. answer_of submit.head stalled []) others) fit.0.number)) refl
+    subst (λ (l : List Event). reads.IsHalted (gives l)) (sym (own_event BulkIn first.head _ _ (map (λ submit. answer_of submit.head stalled []) others) fit.0.number)) (refl, rest others fit.1)
+  where
+    rest : (l : List Pending) → AllFit BulkIn l → reads.IsHalted (gives (events_of BulkIn (map (λ submit. answer_of submit.head stalled []) l)))
+    rest [] h = tt
+    rest (x ∷ l) h =
+        subst (λ (k : List Event). reads.IsHalted (gives k)) (sym (own_event BulkIn x.head _ _ (map (λ submit. answer_of submit.head stalled []) l) h.0.number)) (refl, rest l h.1)
 
 shut_taken : (shut : Bool) (came : ℕ) (events : List Event) → AllTaken shut came events → AllTaken true came events
 shut_taken shut came [] h = h
 shut_taken shut came (Gives head answer transferred ∷ events) (inl h) = inl (h.0, h.1, h.2, h.3, shut_taken shut h.2 events h.4)
-shut_taken shut came (Gives head answer transferred ∷ events) (inr h) = inr (h.0, refl, h.2)
+shut_taken shut came (Gives head answer transferred ∷ events) (inr h) = inr (h.0, refl, h.2, shut_taken shut 0 events h.3)
 shut_taken shut came (Drops n ∷ events) h = shut_taken shut came events h
 
 halts_itself : (last : ℕ) (message : List ℕ) (tag size : ℕ) (written : List Job) (answered : ℕ) (sofar read : List ℕ) (gone : Bool) (ups : List up.Message) (downs puts : List Put) (s t : State) (e : Endpoint) → IsSound s
@@ -354,7 +364,7 @@ arrives last message tag size written answered sofar read gone head transferred 
         (subst (λ (l : List Sent). InLine s.halted.bulk_in gone a.flow read (gives (events_of BulkIn downs)) l s.bulk_in) (sent_other BulkIn head transferred ups 1 own refl) a.ins))
         (subst (λ (l : List Sent). SentReads l) (sent_other BulkIn head transferred ups 1 own refl) a.reads)
         (more_parts written a.past a.todo a.hit answered s.halted.bulk_out (events_of BulkOut downs) (events_of BulkOut puts)
-        (subst (λ (l : List Event). AllTaken s.halted.bulk_out 0 l) (sym (ap (λ (p : List Put). events_of BulkOut p) put ∙ own_event BulkOut head _ _ [] own)) (inr (refl, halted, refl)))
+        (subst (λ (l : List Event). AllTaken s.halted.bulk_out 0 l) (sym (ap (λ (p : List Put). events_of BulkOut p) put ∙ own_event BulkOut head _ _ [] own)) (inr (refl, halted, refl, refl)))
         a.whole a.came a.taken a.counted)
     by BulkIn h =
         let own : head.ep ≡ 2 = fits.number ∙ ap number_of h in

@@ -145,7 +145,7 @@ given_in : (laws : WireLaws) (last tag size : ℕ) (message sofar read : List �
     → (h : IsReading last message tag size sofar read (Some head) ups (Submitted head a transferred ∷ downs) s)
     → InAnswered (ask_with last message tag size h.written h.answered sofar read) ups (Gives head a transferred) downs s
     → IsGiven (Reads last message tag size sofar read) head (Submitted head a transferred) next ups downs s
-given_in laws last tag size message sofar read head a transferred next ups downs s own tie h (TookHalt shuts halted) = clash s.halted.bulk_in tie.in_usable shuts
+given_in laws last tag size message sofar read head a transferred next ups downs s own tie h (TookHalt shuts halted later) = clash s.halted.bulk_in tie.in_usable shuts
 given_in laws last tag size message sofar read head a transferred next ups downs s own tie h (TookFull x is full goes) =
     let same : transferred ≡ x.bytes = cc in
     let told : a ≡ record { seqnum = x.head.seqnum; status = success; actual = length x.bytes } = cc in

@@ -42,13 +42,29 @@ other_event e head a transferred downs n is other = rw (ap (λ (k : ℕ). eqb k 
 -- it says that the transfer was taken whole, or that Bulk-OUT halted
 pub out_answered : (last : ℕ) (message : List ℕ) (tag size : ℕ) (written : List Job) (answered : ℕ) (sofar read : List ℕ) (gone : Bool) (ups : List up.Message) (head : SubmitHead) (a : RetSubmitHead) (transferred : List ℕ) (downs : List Put) (s : State)
     → head.ep ≡ 1 → Asking (ask_of last message tag size written answered sofar read gone) ups (Submitted head a transferred ∷ downs) s
-    → ((a.status ≡ success) × (a.actual ≡ head.length) × Asking (ask_of last message tag size written (answered + 1) sofar read gone) ups downs s) ⊎ ((a.status ≡ stalled) × (s.halted.bulk_out ≡ true))
+    → ((a.status ≡ success) × (a.actual ≡ head.length) × Asking (ask_of last message tag size written (answered + 1) sofar read gone) ups downs s) ⊎ ((a.status ≡ stalled) × (s.halted.bulk_out ≡ true) × Asking (ask_of last message tag size written answered sofar read gone) ups downs s)
 out_answered last message tag size written answered sofar read gone ups head a transferred downs s own h =
     by (subst (λ (l : List Event). AllTaken s.halted.bulk_out h.came l) (own_event BulkOut head a transferred downs own) h.taken)
   where
     by : AllTaken s.halted.bulk_out h.came (Gives head a transferred ∷ events_of BulkOut downs)
-        → ((a.status ≡ success) × (a.actual ≡ head.length) × Asking (ask_of last message tag size written (answered + 1) sofar read gone) ups downs s) ⊎ ((a.status ≡ stalled) × (s.halted.bulk_out ≡ true))
-    by (inr k) = inr (k.0, k.1)
+        → ((a.status ≡ success) × (a.actual ≡ head.length) × Asking (ask_of last message tag size written (answered + 1) sofar read gone) ups downs s) ⊎ ((a.status ≡ stalled) × (s.halted.bulk_out ≡ true) × Asking (ask_of last message tag size written answered sofar read gone) ups downs s)
+    by (inr k) = inr (k.0, k.1, record {
+      past = h.past;
+      todo = h.todo;
+      hit = h.hit;
+      whole = h.whole;
+      flow = h.flow;
+      short = h.short;
+      jobs = h.jobs;
+      out = h.out;
+      stage = h.stage;
+      ins = subst (λ (l : List Event). InLine s.halted.bulk_in gone h.flow read (gives l) (sent_to BulkIn ups) s.bulk_in) (other_event BulkIn head a transferred downs 1 own refl) h.ins;
+      reads = h.reads;
+      came = 0;
+      taken = k.3;
+      counted = h.counted ∙ omega (arith, k.2);
+      calm = h.calm;
+    })
     by (inl k) = inl (
       k.0,
       k.1,
@@ -184,7 +200,23 @@ in_answered last message tag size written answered sofar read gone ups head a tr
 
     by : NextRead s.halted.bulk_in gone h.flow read (Gives head a transferred) (gives (events_of BulkIn downs)) (sent_to BulkIn ups) s.bulk_in
         → InAnswered (ask_of last message tag size written answered sofar read gone) ups (Gives head a transferred) downs s
-    by (HaltCame shuts halted) = TookHalt shuts halted
+    by (HaltCame shuts halted line) = TookHalt shuts halted (record {
+      past = h.past;
+      todo = h.todo;
+      hit = h.hit;
+      whole = h.whole;
+      flow = h.flow;
+      short = h.short;
+      jobs = h.jobs;
+      out = h.out;
+      stage = h.stage;
+      ins = line;
+      reads = h.reads;
+      came = h.came;
+      taken = taken;
+      counted = h.counted;
+      calm = h.calm;
+    })
     by (ShortCame x bytes is small over whole line) = TookEnd x is small (ended x.bytes bytes whole over line)
     by (FullCame x is full line) = TookFull x is full (record {
       past = h.past;
