@@ -63,10 +63,11 @@ pub record Asking (ask : Ask) (ups : List up.Message) (downs : List Put) (s : St
   pub todo : List Job
   pub hit : List Job
   pub whole : ask.written ≡ past ++ (todo ++ hit)
+  pub missed : ask.gone ≡ false → s.halted.bulk_out ≡ false → hit ≡ []
   pub jobs : AllJobs todo
   pub short : length ask.message ≤ message_most
   -- Bulk-OUT: where the transfers are
-  pub out : OutLine s.halted.bulk_out todo (sent_to BulkOut ups) s.bulk_out s.transfer
+  pub out : OutLine s.halted.bulk_out ask.gone todo (sent_to BulkOut ups) s.bulk_out s.transfer
   -- how many good answers to them are on their way, so that the host comes to know how many were taken
   pub came : ℕ
   pub taken : AllTaken s.halted.bulk_out came (events_of BulkOut downs)
