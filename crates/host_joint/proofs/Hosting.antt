@@ -253,10 +253,10 @@ sent-append e (up.Submit head transferred ∷ a) b = by (eqb head.ep (number_of 
     by false h = h
 sent-append e (up.Unlink head ∷ a) b = sent-append e a b
 
-sent_one : (job : Job) → IsJob job → sent_to BulkOut (up.Submit job.head job.bytes ∷ []) ≡ record { head = job.head; transferred = job.bytes } ∷ []
+pub sent_one : (job : Job) → IsJob job → sent_to BulkOut (up.Submit job.head job.bytes ∷ []) ≡ record { head = job.head; transferred = job.bytes } ∷ []
 sent_one job is = rw (eq-eqb job.head.ep 1 is.number) refl
 
-sent_same : (e : Endpoint) (job : Job) (ups : List up.Message) → IsJob job → eqb 1 (number_of e) ≡ false → sent_to e (ups ++ up.Submit job.head job.bytes ∷ []) ≡ sent_to e ups
+pub sent_same : (e : Endpoint) (job : Job) (ups : List up.Message) → IsJob job → eqb 1 (number_of e) ≡ false → sent_to e (ups ++ up.Submit job.head job.bytes ∷ []) ≡ sent_to e ups
 sent_same e job ups is other =
     sent-append e ups (up.Submit job.head job.bytes ∷ []) ∙ ap (λ (l : List OnWay). sent_to e ups ++ l) (rw (ap (λ (n : ℕ). eqb n (number_of e)) is.number ∙ other) refl) ∙ append-nil (sent_to e ups)
 
@@ -331,10 +331,10 @@ next_part last message tag size past job sofar flow s next usable (Dropped respo
 next_part last message tag size past job sofar flow s next usable (Barred shuts another part idle none empty still over at) = let e : false ≡ true = sym usable ∙ shuts in absurd (cc)
 
 -- the stage with the request on its way
-abbrev IsStarted : List ℕ → Type 0
+abbrev pub IsStarted : List ℕ → Type 0
 IsStarted sofar = sofar ≢ []
 
-asks_next : (last : ℕ) (message : List ℕ) (tag size : ℕ) (past : List Job) (job : Job) (sofar : List ℕ) (flow : Flow) (s : State) → job.header ≡ Request tag size → IsUnasked past sofar → s.halted.bulk_out ≡ false
+pub asks_next : (last : ℕ) (message : List ℕ) (tag size : ℕ) (past : List Job) (job : Job) (sofar : List ℕ) (flow : Flow) (s : State) → job.header ≡ Request tag size → IsUnasked past sofar → s.halted.bulk_out ≡ false
     → ((past ≡ []) → IsStarted sofar) → (sofar ≢ [] → unread s ≢ []) → Stage last message tag size past [] sofar flow s → Stage last message tag size past (job ∷ []) sofar flow s
 asks_next last message tag size past job sofar flow s header done usable started more (Waits waits part idle none empty still asks at) = Waits waits part idle none empty still (OneComes job refl header) at
 asks_next last message tag size past job sofar flow s header done usable started more (Rests response waits part idle ran all still asks at further) = Rests response waits part idle ran all still (OneComes job refl header) at

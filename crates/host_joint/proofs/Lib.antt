@@ -31,3 +31,4 @@ mod Given
 mod Ending
 mod Joining
 mod Tied
+mod Ahead

@@ -15,10 +15,10 @@ use Rattle.host_joint.proofs.Counting.{all_past}
 use Rattle.host_joint.proofs.Hosting.{inner_final, inner_request, unasked}
 use Rattle.host_joint.proofs.Handing.{none_front, no_last}
 
-abbrev NotAsked : List Job → Type 0
+abbrev pub NotAsked : List Job → Type 0
 NotAsked past = (t n : ℕ) → last_header past ≡ Some (Request t n) → ⊥
 
-sets_request : (last : ℕ) (message : List ℕ) (tag size later more : ℕ) (past : List Job) (sofar : List ℕ) (flow : Flow) (s : State) → NotAsked past
+pub sets_request : (last : ℕ) (message : List ℕ) (tag size later more : ℕ) (past : List Job) (sofar : List ℕ) (flow : Flow) (s : State) → NotAsked past
     → Stage last message tag size past [] sofar flow s → Stage last message later more past [] sofar flow s
 sets_request last message tag size later more past sofar flow s free (Follows seq earlier waits other part idle none empty still carries at) = Follows seq earlier waits other part idle none empty still tt at
 sets_request last message tag size later more past sofar flow s free (Gathers done rest whole waits part idle none empty still carries at own) = Gathers done rest whole waits part idle none empty still tt at own
