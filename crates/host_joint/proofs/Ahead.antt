@@ -1,17 +1,16 @@
 -- the host writes the request right behind the last transfer of the message, before that one was answered
-use Rattle.std.proofs.Common.{◌≡◌, ◌≢◌, ◌∙◌, ◌⊎◌, inl, inr, ℕ, zero, suc, ◌+◌, ◌≤◌, Bool, true, false, List, [], ◌∷◌, ◌++◌, length, Option, Some, None, refl, ap, sym, subst, append_assoc, append-nil, length-append, arith}
-use Rattle.usbip_wire.specs.declared.submit.SubmitHead.{SubmitHead}
+use Rattle.std.proofs.Common.{◌≡◌, ◌∙◌, inl, inr, ℕ, zero, suc, Bool, true, false, List, [], ◌∷◌, ◌++◌, length, Option, Some, refl, ap, sym, subst, append_assoc, append-nil, length-append, arith}
 use Rattle.usbip_wire.specs.Up as up
 use Rattle.tmc_wire.specs.declared.header.OutHeader.{OutHeader}
-use Rattle.tmc_wire.specs.declared.header.OutHeader.TheVariants.{Message, Request}
+use Rattle.tmc_wire.specs.declared.header.OutHeader.TheVariants.{Request}
 use Rattle.tmc_law.specs.Endpoint.{Control, BulkOut, BulkIn}
 use Rattle.tmc_law.specs.State.{State, Pending, Transfer}
 use Rattle.tmc_law.specs.Put.{Put}
-use Rattle.host_joint.specs.Lines.{Sent as OnWay, sent_to, Event, events_of, unlinks_in}
+use Rattle.host_joint.specs.Lines.{Sent as OnWay, sent_to, events_of}
 use Rattle.host_joint.specs.Jobs.{Job, IsJob, AllJobs, OutLine, Unbegun, Partly, Cut, Shut, sent, last_header}
 use Rattle.host_joint.specs.Reads.{Flow, InLine, gives}
-use Rattle.host_joint.specs.Stage.{NextPart, Inner, Final, NoneComes, OneComes, Carries, Stage, Follows, Gathers, Waits, Rests, Owes, Sends, Sent, Tears, Barred, Dropped, IsInner, IsFinal}
-use Rattle.host_joint.specs.Asking.{Ask, Asking, SentReads}
+use Rattle.host_joint.specs.Stage.{NextPart, Inner, Final, OneComes, Stage, Follows, Gathers, Waits, Rests, Owes, Sends, Sent, Tears, Barred, Dropped, IsInner, IsFinal}
+use Rattle.host_joint.specs.Asking.{Asking, SentReads}
 use Rattle.host_joint.proofs.Parts.{ask_of}
 use Rattle.host_joint.proofs.Counting.{all_past, not_inner, not_final}
 use Rattle.host_joint.proofs.Listing.{last_more}

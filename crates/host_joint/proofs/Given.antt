@@ -143,16 +143,16 @@ some_long (x ∷ l) some = omega arith
 given_in : (laws : WireLaws) (last tag size : ℕ) (message sofar read : List ℕ) (head : SubmitHead) (a : RetSubmitHead) (transferred : List ℕ) (next : ℕ) (ups : List up.Message) (downs : List Put) (s : State)
     → head.ep ≡ 2 → Tie (Reads last message tag size sofar read) (Some head) next ups (Submitted head a transferred ∷ downs) s
     → (h : IsReading last message tag size sofar read (Some head) ups (Submitted head a transferred ∷ downs) s)
-    → InAnswered (ask_with last message tag size h.written h.answered sofar read) ups (Gives head a transferred) downs s
+    → InAnswered (ask_with last message tag size (h.front ++ h.request ∷ []) h.answered sofar read) ups (Gives head a transferred) downs s
     → IsGiven (Reads last message tag size sofar read) head (Submitted head a transferred) next ups downs s
 given_in laws last tag size message sofar read head a transferred next ups downs s own tie h (TookHalt shuts halted later) = clash s.halted.bulk_in tie.in_usable shuts
 given_in laws last tag size message sofar read head a transferred next ups downs s own tie h (TookFull x is full goes) =
     let same : transferred ≡ x.bytes = cc in
     let told : a ≡ record { seqnum = x.head.seqnum; status = success; actual = length x.bytes } = cc in
     let all : length transferred ≡ read_size = ap (λ (l : List ℕ). length l) same ∙ full in
-    let later = subst (λ (l : List ℕ). Asking (ask_with last message tag size h.written h.answered sofar (read ++ l)) ups downs s) (sym same) goes in
+    let later = subst (λ (l : List ℕ). Asking (ask_with last message tag size (h.front ++ h.request ∷ []) h.answered sofar (read ++ l)) ups downs s) (sym same) goes in
     let long : 12 ≤ length (read ++ transferred) = omega (arith, all, length-append read transferred) in
-    let piece = begins_piece laws last message tag size h.written h.answered sofar (read ++ transferred) s h.tagged h.sized.1 long (owned_of last message tag size h.written h.answered sofar (read ++ transferred) ups downs s later) in
+    let piece = begins_piece laws last message tag size (h.front ++ h.request ∷ []) h.answered sofar (read ++ transferred) s h.tagged h.sized.1 long (owned_of last message tag size (h.front ++ h.request ∷ []) h.answered sofar (read ++ transferred) ups downs s later) in
     record {
       answer = a;
       transferred = transferred;
@@ -161,11 +161,13 @@ given_in laws last tag size message sofar read head a transferred next ups downs
       status = ap (λ (r : RetSubmitHead). r.status) told;
       goes = TakesFull last tag size message sofar read refl own (ap (λ (r : RetSubmitHead). r.actual) told ∙ ap (λ (l : List ℕ). length l) (sym same)) all piece
           (behind (Reads last message tag size sofar read) (Reads last message tag size sofar (read ++ transferred)) head a transferred next ups downs s tie (record {
-            written = h.written;
+            front = h.front;
+            request = h.request;
             answered = h.answered;
             asking = later;
             counted = omega (arith, h.counted, no_transfer head own);
-            requested = h.requested;
+            behind = h.behind;
+            header = h.header;
             tagged = h.tagged;
             sized = h.sized;
             long = inr long;
@@ -186,7 +188,7 @@ given_in laws last tag size message sofar read head a transferred next ups downs
     short : length transferred < read_size
     short = subst (λ (l : List ℕ). length l < read_size) (sym same) small
 
-    all : h.answered ≡ length h.written
+    all : h.answered ≡ length (h.front ++ h.request ∷ [])
     all = omega (arith, h.counted, no_transfer head own)
 
     piece : IsPiece tag size ends.eom ends.carried (read ++ transferred)
@@ -260,19 +262,21 @@ given_own laws (Reads last message tag size sofar read) head a transferred next 
   where
     by : (head.ep ≡ 1) ⊎ (head.ep ≡ 2) → IsGiven (Reads last message tag size sofar read) head (Submitted head a transferred) next ups downs s
     by (inl out) =
-        let taken = was_taken last message tag size h.written h.answered sofar read ups head a transferred downs s out tie.out_usable h.asking in
+        let taken = was_taken last message tag size (h.front ++ h.request ∷ []) h.answered sofar read ups head a transferred downs s out tie.out_usable h.asking in
         given_out (Reads last message tag size sofar read) (Reads last message tag size sofar read) _ _ head a transferred next ups downs s out refl tie taken (record {
-          written = h.written;
+          front = h.front;
+          request = h.request;
           answered = h.answered + 1;
           asking = taken.asking;
-          counted = counts_it h.written h.answered head out h.counted;
-          requested = h.requested;
+          counted = counts_it (h.front ++ h.request ∷ []) h.answered head out h.counted;
+          behind = h.behind;
+          header = h.header;
           tagged = h.tagged;
           sized = h.sized;
           long = h.long;
           bulk = tt;
         })
-    by (inr own) = given_in laws last tag size message sofar read head a transferred next ups downs s own tie h (in_answered last message tag size h.written h.answered sofar read false ups head a transferred downs s own h.asking)
+    by (inr own) = given_in laws last tag size message sofar read head a transferred next ups downs s own tie h (in_answered last message tag size (h.front ++ h.request ∷ []) h.answered sofar read false ups head a transferred downs s own h.asking)
 given_own laws (Pauses last message sofar) head a transferred next ups downs s tie h = let e : Some head ≡ None = h.none in absurd (cc)
 
 -- it is to the one submit that is not answered

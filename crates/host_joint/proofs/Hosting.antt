@@ -48,24 +48,28 @@ out_answered last message tag size written answered sofar read gone ups head a t
   where
     by : AllTaken s.halted.bulk_out h.came (Gives head a transferred ∷ events_of BulkOut downs)
         → ((a.status ≡ success) × (a.actual ≡ head.length) × Asking (ask_of last message tag size written (answered + 1) sofar read gone) ups downs s) ⊎ ((a.status ≡ stalled) × (s.halted.bulk_out ≡ true) × Asking (ask_of last message tag size written answered sofar read gone) ups downs s)
-    by (inr k) = inr (k.0, k.1, record {
-      past = h.past;
-      todo = h.todo;
-      hit = h.hit;
-      whole = h.whole;
-      missed = h.missed;
-      flow = h.flow;
-      short = h.short;
-      jobs = h.jobs;
-      out = h.out;
-      stage = h.stage;
-      ins = subst (λ (l : List Event). InLine s.halted.bulk_in gone h.flow read (gives l) (sent_to BulkIn ups) s.bulk_in) (other_event BulkIn head a transferred downs 1 own refl) h.ins;
-      reads = h.reads;
-      came = 0;
-      taken = k.3;
-      counted = h.counted ∙ omega (arith, k.2);
-      calm = h.calm;
-    })
+    by (inr k) = inr (
+      k.0,
+      k.1,
+      record {
+        past = h.past;
+        todo = h.todo;
+        hit = h.hit;
+        whole = h.whole;
+        missed = h.missed;
+        flow = h.flow;
+        short = h.short;
+        jobs = h.jobs;
+        out = h.out;
+        stage = h.stage;
+        ins = subst (λ (l : List Event). InLine s.halted.bulk_in gone h.flow read (gives l) (sent_to BulkIn ups) s.bulk_in) (other_event BulkIn head a transferred downs 1 own refl) h.ins;
+        reads = h.reads;
+        came = 0;
+        taken = k.3;
+        counted = h.counted ∙ omega (arith, k.2);
+        calm = h.calm;
+      },
+    )
     by (inl k) = inl (
       k.0,
       k.1,

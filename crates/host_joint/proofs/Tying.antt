@@ -242,11 +242,13 @@ held_step laws (Said last message) waits next ups downs puts s t move calm none 
 }
 held_step laws (Reads last message tag size sofar read) waits next ups downs puts s t move calm none tie h = record {
   held = record {
-    written = h.written;
+    front = h.front;
+    request = h.request;
     answered = h.answered;
     asking = asking_held laws _ tie.run s t move ups downs puts tie.reached calm tie.fitting none h.asking;
     counted = h.counted;
-    requested = h.requested;
+    behind = h.behind;
+    header = h.header;
     tagged = h.tagged;
     sized = h.sized;
     long = h.long;
