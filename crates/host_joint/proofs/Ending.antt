@@ -107,6 +107,6 @@ owns laws Free waits next ups downs s tie h = tt
 owns laws (Says message said) waits next ups downs s tie h = tt
 owns laws (Said last message) waits next ups downs s tie h = tt
 owns laws (Reads last message tag size sofar read) waits next ups downs s tie h =
-    reads_own laws last message tag size (h.front ++ h.request ∷ []) h.answered sofar read waits ups downs s h (owned_of last message tag size (h.front ++ h.request ∷ []) h.answered sofar read ups downs s h.asking)
+    reads_own laws last message tag size (h.front ++ h.request ∷ []) h.answered sofar read waits ups downs s h (owned_of last message tag size (h.front ++ h.request ∷ []) h.answered sofar read false ups downs s h.asking)
 owns laws (Pauses last message sofar) waits next ups downs s tie h =
     let b = asks_between _ ups downs s refl h.some h.asking in (b.response, b.ran, (unread s, b.all))

@@ -133,7 +133,7 @@ out-append (x ∷ a) b = ap (λ (l : List ℕ). x.put ++ l) (out-append a b) ∙
 
 -- ---- the one submit that is not answered is one that the device can take
 
-rising_asked : (waits : Option SubmitHead) (e : Endpoint) → Rising (asked_of waits e)
+pub rising_asked : (waits : Option SubmitHead) (e : Endpoint) → Rising (asked_of waits e)
 rising_asked None e = tt
 rising_asked (Some head) e = by (eqb head.ep (number_of e))
   where

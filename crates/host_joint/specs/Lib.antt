@@ -18,6 +18,8 @@ pub mod Hand
 pub mod Pieces
 pub mod Tie
 pub mod Joint
+-- a host that cancels, and recovers
+pub mod Bond
 -- examples
 pub mod WorkedAsks
 pub mod WorkedTies

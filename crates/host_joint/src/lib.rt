@@ -7,6 +7,7 @@
 
 mod accepted;
 mod asks;
+mod bonds;
 mod host_moves;
 mod joints;
 mod lines;
@@ -18,6 +19,9 @@ mod worked;
 
 pub use accepted::{asks_halt_nothing, no_submit_is_refused};
 pub use asks::{asking_stays, asks_begin, cancelled_asks_stay, unplugged_asks_were_in_hand};
+pub use bonds::{
+    bonds_stay, cancelled_answers_are_taken, cancels_begin, recoveries_end, recoveries_go_on,
+};
 pub use host_moves::{answers_are_taken, asks_are_settled_late, messages_are_written};
 pub use joints::{
     joints_begin, joints_stay, no_answer_is_refused, the_next_answer_is_read, writes_keep_joints,
