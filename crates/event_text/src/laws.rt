@@ -10,6 +10,8 @@ ghost use Rattle.event_text.specs.declared.line_fault.LineWhat.{LineWhat};
 ghost use Rattle.event_text.specs.declared.script.Line.{Line};
 ghost use Rattle.event_text.specs.declared.script.Line.TheVariants.{Bytes};
 ghost use Rattle.event_text.specs.declared.script.Phase.{Phase};
+ghost use Rattle.event_text.specs.declared.event.Script.{Script};
+ghost use Rattle.event_text.specs.EventScript.{IsEventScript, IsRefusedEvent};
 ghost use Rattle.event_text.specs.Message.{stream_of};
 ghost use Rattle.event_text.specs.Pieces.{merged, bytes_in, IsTextOf};
 ghost use Rattle.event_text.specs.Shown.{Standing, Prints, Shown, ShownOf, IsRefused};
@@ -41,6 +43,16 @@ pub fn scripts_are_determined()
     bad_fields_are_alone();
     bad_fields_stay();
 }
+
+/// No text is both a script of events and refused. It is at most one script, and at most one line of it is refused, for
+/// one fault.
+pub fn event_scripts_are_determined()
+    ensures script { (source : List ℕ) (script other : Script) → IsEventScript source script → IsEventScript source other → script ≡ other }
+    ensures line { (source : List ℕ) (number second : ℕ) (what other : LineWhat)
+        → IsRefusedEvent source number what → IsRefusedEvent source second other → (number ≡ second) × (what ≡ other) }
+    ensures either { (source : List ℕ) (script : Script) (number : ℕ) (what : LineWhat)
+        → IsEventScript source script → IsRefusedEvent source number what → ⊥ }
+{}
 
 /// Pieces are one text: two pieces behind one another print what they print as one. So of lines that differ only in
 /// how the bytes are cut into pieces the same text is shown, and no other. A client's text is that of the bytes of all
