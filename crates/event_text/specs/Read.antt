@@ -1,6 +1,8 @@
 -- what the functions of the code gave
-use Rattle.std.specs.Prelude.{◌≡◌, ⊤, ℕ, ◌<◌, ◌≤◌, Option, Some, None, Result, Ok, Err, List, [], ◌++◌, length, take, Bool, false, nat_le, ◌&&◌, ◌∷◌}
+use Rattle.std.specs.Prelude.{◌≡◌, ⊤, ℕ, ◌<◌, ◌≤◌, Option, Some, None, Result, Ok, Err, List, [], ◌++◌, length, take, Bool, true, false, nat_le, ◌&&◌, ◌∷◌}
+use Rattle.hex.specs.Hex.{decode_of}
 use Rattle.tmc_base.specs.declared.field.Field.{Field}
+use Rattle.tmc_base.specs.declared.memory.Memory as want
 use Rattle.usbip_wire.specs.declared.dirs.Outstanding.{Outstanding}
 use Rattle.usbip_wire.specs.declared.down.Down.{Down}
 use Rattle.usbip_wire.specs.declared.down.Down.TheVariants as got
@@ -40,7 +42,7 @@ use Rattle.event_text.specs.Message.{Stream, Requests, Urbs, Parts, Answers, dev
 use Rattle.event_text.specs.Printed.{message_line, request_line, submit_line, unlink_line, part_line, ret_submit_line, ret_unlink_line, bad_line}
 use Rattle.event_text.specs.Script.{lines_most, line_most, said_fault, later_said}
 use Rattle.event_text.specs.Shown.{Standing, Stops, stopped, taken, Prints}
-use Rattle.event_text.specs.Words.{words_of}
+use Rattle.event_text.specs.Words.{words_of, bytes_of}
 
 -- a word that begins with a digit, which is a zero only where it is alone
 abbrev pub starts_plain : List ℕ → Bool
@@ -199,7 +201,13 @@ LineTaken place number line old (Err (Wrong what)) new = line_said place number 
 LineTaken place number line old (Err Memory) new = ⊤
 
 -- the bytes of a word were appended, or it is no HEX and nothing was; and nothing was where memory was wanting
-abbrev pub HexRead : List ℕ → List ℕ → Result Bool Memory → List ℕ → Type 0
+abbrev pub HexRead : List ℕ → List ℕ → Result Bool want.Memory → List ℕ → Type 0
 HexRead word old (Ok true) new = (bytes : List ℕ) × (bytes_of word ≡ Some bytes) × (new ≡ old ++ bytes)
 HexRead word old (Ok false) new = (bytes_of word ≡ None) × (new ≡ old)
 HexRead word old (Err memory) new = new ≡ old
+
+-- digits of either case were decoded, or the word is none such; nothing was appended then, and where memory was wanting
+abbrev pub Decoded : List ℕ → List ℕ → Result Bool want.Memory → List ℕ → Type 0
+Decoded word old (Ok true) new = (bytes : List ℕ) × (decode_of word ≡ Ok bytes) × (new ≡ old ++ bytes)
+Decoded word old (Ok false) new = ((bytes : List ℕ) → decode_of word ≡ Ok bytes → ⊥) × (new ≡ old)
+Decoded word old (Err memory) new = new ≡ old

@@ -28,7 +28,7 @@ pub(crate) fn first_word<'a>(line: &'a [u8]) -> (&'a [u8], Behind<'a>)
 impl<'a> Behind<'a> {
     /// Whether there is no word.
     pub(crate) fn none(self) -> Option<()>
-        ensures { result ≡ if_none (words_behind self) }
+        ensures { result ≡ if_none (words_behind self.entry) }
     {
         match self {
             Behind::Nothing => Some(()),
@@ -38,7 +38,7 @@ impl<'a> Behind<'a> {
 
     /// The word, where there is exactly one.
     pub(crate) fn one(self) -> Option<&'a [u8]>
-        ensures { MatchOption result (if_one (words_behind self) ≡ None) (λ word. if_one (words_behind self) ≡ Some word.now) }
+        ensures { MatchOption result (if_one (words_behind self.entry) ≡ None) (λ word. if_one (words_behind self.entry) ≡ Some word.now) }
     {
         let Behind::Words(rest) = self else {
             return None;
@@ -50,7 +50,7 @@ impl<'a> Behind<'a> {
 
     /// The words, where there are exactly two.
     pub(crate) fn two(self) -> Option<(&'a [u8], &'a [u8])>
-        ensures { MatchOption result (if_two (words_behind self) ≡ None) (λ words. if_two (words_behind self) ≡ Some (words.0.now, words.1.now)) }
+        ensures { MatchOption result (if_two (words_behind self.entry) ≡ None) (λ words. if_two (words_behind self.entry) ≡ Some (words.0.now, words.1.now)) }
     {
         let Behind::Words(rest) = self else {
             return None;
@@ -62,8 +62,8 @@ impl<'a> Behind<'a> {
 
     /// The words, where there are exactly three.
     pub(crate) fn three(self) -> Option<(&'a [u8], &'a [u8], &'a [u8])>
-        ensures { MatchOption result (if_three (words_behind self) ≡ None)
-            (λ words. if_three (words_behind self) ≡ Some (words.0.now, (words.1.now, words.2.now))) }
+        ensures { MatchOption result (if_three (words_behind self.entry) ≡ None)
+            (λ words. if_three (words_behind self.entry) ≡ Some (words.0.now, (words.1.now, words.2.now))) }
     {
         let Behind::Words(rest) = self else {
             return None;

@@ -22,7 +22,7 @@ pub fn read_dev(line: &[u8]) -> Result<DevEvent, LineWhat>
 
 /// The event of these words.
 pub(crate) fn dev_words(head: &[u8], behind: Behind) -> Result<DevEvent, LineWhat>
-    ensures { result ≡ dev_said (head.now ∷ words_behind behind) }
+    ensures { result ≡ dev_said (head.now ∷ words_behind behind.entry) }
 {
     if is(head, "take") {
         Ok(DevEvent::Take(read_count(behind)?))
@@ -41,7 +41,7 @@ pub(crate) fn dev_words(head: &[u8], behind: Behind) -> Result<DevEvent, LineWha
 
 /// A number of at least 1, where it is the only word.
 pub(crate) fn read_count(behind: Behind) -> Result<u32, LineWhat>
-    ensures { result ≡ count_said (words_behind behind) }
+    ensures { result ≡ count_said (words_behind behind.entry) }
 {
     let word = behind.one().ok_or(LineWhat::Words)?;
     number_within(word, 1, u32::MAX).ok_or(LineWhat::Number)
@@ -49,7 +49,7 @@ pub(crate) fn read_count(behind: Behind) -> Result<u32, LineWhat>
 
 /// An endpoint, where it is the only word.
 fn read_endpoint(behind: Behind) -> Result<u8, LineWhat>
-    ensures { result ≡ endpoint_said (words_behind behind) }
+    ensures { result ≡ endpoint_said (words_behind behind.entry) }
 {
     let word = behind.one().ok_or(LineWhat::Words)?;
     let endpoint = number_within(word, 1, 3).ok_or(LineWhat::Number)?;

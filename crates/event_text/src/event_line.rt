@@ -64,7 +64,7 @@ pub(crate) fn read_line(
 }
 
 fn said_words(alloc: Global, place: Place, head: &[u8], behind: Behind) -> Result<Said, LineStop>
-    ensures { IsRead result (line_words place (head.now ∷ words_behind behind)) }
+    ensures { IsRead result (line_words place (head.now ∷ words_behind behind.entry)) }
 {
     match place {
         Place::Start if is(head, "first") => Ok(Said::First(read_count(behind)?)),
@@ -77,7 +77,7 @@ fn said_words(alloc: Global, place: Place, head: &[u8], behind: Behind) -> Resul
 
 /// A depth, where it is the only word.
 fn read_depth(behind: Behind) -> Result<u8, LineWhat>
-    ensures { result ≡ depth_said (words_behind behind) }
+    ensures { result ≡ depth_said (words_behind behind.entry) }
 {
     let word = behind.one().ok_or(LineWhat::Words)?;
     let depth = read_number(word).ok_or(LineWhat::Number)?;
@@ -89,7 +89,7 @@ fn read_depth(behind: Behind) -> Result<u8, LineWhat>
 
 /// The event of these words.
 fn event_words(alloc: Global, head: &[u8], behind: Behind) -> Result<Event, LineStop>
-    ensures { IsRead result (event_said (head.now ∷ words_behind behind)) }
+    ensures { IsRead result (event_said (head.now ∷ words_behind behind.entry)) }
 {
     if is(head, "ask") {
         read_ask(alloc, behind)
@@ -102,7 +102,7 @@ fn event_words(alloc: Global, head: &[u8], behind: Behind) -> Result<Event, Line
 
 /// The event of words of which none is HEX.
 fn short_words(head: &[u8], behind: Behind) -> Result<Event, LineWhat>
-    ensures { result ≡ short_said (head.now ∷ words_behind behind) }
+    ensures { result ≡ short_said (head.now ∷ words_behind behind.entry) }
 {
     if is(head, "up") {
         Ok(Event::Up(read_count(behind)?))
@@ -122,7 +122,7 @@ fn short_words(head: &[u8], behind: Behind) -> Result<Event, LineWhat>
 }
 
 fn read_ask(alloc: Global, behind: Behind) -> Result<Event, LineStop>
-    ensures { IsRead result (ask_said (words_behind behind)) }
+    ensures { IsRead result (ask_said (words_behind behind.entry)) }
 {
     let (session, limit, message) = behind.three().ok_or(LineWhat::Words)?;
     let session = read_session(session)?;
@@ -136,7 +136,7 @@ fn read_ask(alloc: Global, behind: Behind) -> Result<Event, LineStop>
 }
 
 fn read_tell(alloc: Global, behind: Behind) -> Result<Event, LineStop>
-    ensures { IsRead result (tell_said (words_behind behind)) }
+    ensures { IsRead result (tell_said (words_behind behind.entry)) }
 {
     let (session, message) = behind.two().ok_or(LineWhat::Words)?;
     let session = read_session(session)?;
@@ -154,7 +154,7 @@ fn read_session(word: &[u8]) -> Result<u8, LineWhat>
 
 /// Which call of the link fails.
 fn read_fail(behind: Behind) -> Result<Event, LineWhat>
-    ensures { result ≡ fail_said (words_behind behind) }
+    ensures { result ≡ fail_said (words_behind behind.entry) }
 {
     let word = behind.one().ok_or(LineWhat::Words)?;
     if is(word, "send") {

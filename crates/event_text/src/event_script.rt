@@ -9,7 +9,6 @@ ghost use Rattle.event_text.specs.Read.{LineTaken};
 
 use crate::event::{Events, Script};
 use crate::event_line::{Place, Said, read_line};
-use crate::laws::event_scripts_are_determined;
 use crate::line_fault::LineFault;
 use crate::line_stop::LineStop;
 use crate::words::first_line;
@@ -25,7 +24,6 @@ pub fn read_script(alloc: Global, source: &[u8]) -> Result<Script, LineFault>
     ensures all_refused { (number : ℕ) (what : LineWhat) → IsRefusedEvent source.now number what
         → (result ≡ Err (At number what)) ⊎ (result ≡ Err Memory) }
 {
-    event_scripts_are_determined();
     script_of(alloc, source)
 }
 

@@ -1,10 +1,11 @@
 //! Lines, words, numbers and HEX.
 
 ghost use Rattle.std.specs.Prelude.{◌≡◌, ◌==◌, ◌<◌, ◌∷◌, length, map, Some, None, IfOk};
-ghost use Rattle.std.specs.List.{position};
+ghost use Rattle.std.specs.Char.{is_ascii_uppercase};
+ghost use Rattle.std.specs.List.{list_any, position};
 ghost use Rattle.std.specs.Str.{bytes_eq};
 ghost use Rattle.event_text.specs.Words.{lines_of, words_of, number_of, bytes_of};
-ghost use Rattle.event_text.specs.Read.{starts_plain, HexRead};
+ghost use Rattle.event_text.specs.Read.{starts_plain, HexRead, Decoded};
 
 use std::alloc::Global;
 use tmc_base::{Memory, Octets};
@@ -78,9 +79,26 @@ pub fn read_hex(word: &[u8], out: &mut Vec<u8>) -> Result<bool, Memory>
     if is(word, "-") {
         return Ok(true);
     }
-    if word.is_empty() || word.iter().any(u8::is_ascii_uppercase) {
+    if word.is_empty() {
         return Ok(false);
     }
+    if has_upper(word) {
+        return Ok(false);
+    }
+    decode_behind(word, out)
+}
+
+/// Whether a byte is an upper-case letter.
+fn has_upper(word: &[u8]) -> bool
+    ensures { result ≡ list_any is_ascii_uppercase word.now }
+{
+    word.iter().any(|byte| byte.is_ascii_uppercase())
+}
+
+/// Decodes digits of either case straight behind what `out` has.
+fn decode_behind(word: &[u8], out: &mut Vec<u8>) -> Result<bool, Memory>
+    ensures { Decoded word.now out.old.items result out.new.items }
+{
     let start = out.len();
     out.resize(start + word.len() / 2, 0)?;
     match hex::decode_to_slice(word, &mut out[start..]) {
