@@ -185,7 +185,6 @@ pairs i (high ∷ low ∷ rest) bytes plain e =
     let lower : (t.first * 16 + t.second) % 16 ≡ t.second = omega (arith, h.small, l.small) in
     rw (sym t.made, upper, lower, h.back, l.back) (ap (λ (z : List ℕ). high ∷ low ∷ z) more)
 
-
 odd_by : {A : Type 0} (f : FromHexError) (r : Result A FromHexError) (x : A) (b : Bool) → cond b (Err f) r ≡ Ok x → r ≡ Ok x
 odd_by {A} f r x true e = absurd (clash e)
   where

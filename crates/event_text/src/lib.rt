@@ -8,6 +8,8 @@ mod dev_line;
 mod event;
 mod event_line;
 mod event_script;
+#[cfg(test)]
+mod event_tests;
 mod laws;
 mod limits;
 mod line_fault;

@@ -19,9 +19,9 @@ returns-in-Ok c =
     let size : length (take (length room - start) (drop start room)) ≡ half = omega (arith, long, length-take (length room - start) (drop start room), length-drop start room) in
     let kept : length digits ≡ length (take (length room - start) (drop start room)) = c.decode_to_slice.auto.out in
     let done = decoded_as _ c.decode_to_slice.result digits c.decode_to_slice.ensures.value c.in-Ok.is in
-    let decoded : decode_of c.args.word.now ≡ Ok digits = sym (sized c.args.word.now _ size) ∙ done in
-    (
-      digits, decoded,
+    let decoded : decode_of c.args.word.now ≡ Ok digits = sym (sized c.args.word.now _ size) ∙ done in (
+      digits,
+      decoded,
       filled old room digits _ _ start c.resize.new.self.len (room_front old room start (start + half) (start + half - count) place made (omega arith))
-      (c.in_ok-resize.ensures.len ∙ omega (arith, place, size, kept)) (none_behind start room)
+          (c.in_ok-resize.ensures.len ∙ omega (arith, place, size, kept)) (none_behind start room),
     )
