@@ -22,3 +22,4 @@ pub mod EventsDetermined
 pub mod EventProgress
 pub mod EventAnswered
 pub mod Decoding
+pub mod Spelled

@@ -8,3 +8,4 @@ pub mod Pieces
 pub mod Text
 pub mod EventLine
 pub mod EventScript
+pub mod EventSpelled

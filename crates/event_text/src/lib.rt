@@ -27,8 +27,8 @@ pub use dev_line::read_dev;
 pub use event::{Event, Events, Script};
 pub use event_script::read_script;
 pub use laws::{
-    event_scripts_are_determined, pieces_are_one_text, scripts_are_determined,
-    words_spell_their_values,
+    event_scripts_are_determined, events_have_their_lines, pieces_are_one_text,
+    scripts_are_determined, words_spell_their_values,
 };
 pub use limits::{LINE_MOST, LINES_MOST, script_limits_are_the_products};
 pub use line_fault::{LineFault, LineWhat};
