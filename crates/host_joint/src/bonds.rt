@@ -16,7 +16,7 @@ ghost use Rattle.host_joint.specs.Reads.{IsRead};
 ghost use Rattle.host_joint.specs.Stage.{Ran};
 ghost use Rattle.host_joint.specs.Asking.{StaysPlugged};
 ghost use Rattle.host_joint.specs.Hand as hand;
-ghost use Rattle.host_joint.specs.Tie.{Tie};
+ghost use Rattle.host_joint.specs.Tie.{Tie, Owns, IsOwned};
 ghost use Rattle.host_joint.specs.Bond.{Situation, Reading, Read, Stands, Requests, Drains, Letter, IsOf, finds, Resting, ToAbortIn, ToAbortFirst, WantsPacket, Anywhere, BehindClear, Bound, StillGoes, Said, Drained, taken_of, IsUnlinkOf};
 
 use crate::{drains_stay, requests_stay};
@@ -80,6 +80,18 @@ pub fn cancelled_answers_are_taken()
     ensures unlink_read { (last : ℕ) (message sofar : List ℕ) (waits : Option SubmitHead) (unlink : UnlinkHead) (next : ℕ) (asked : UnlinkHead) (answer : RetUnlinkHead) (ups : List up.Message) (downs : List Put) (s : State)
         → IsUnlinkOf waits unlink → Bound (Read last message sofar) waits (unlink ∷ []) next ups (Unlinked asked answer ∷ downs) s
         → (answer.seqnum ≡ unlink.seqnum) × Bound (Read last message sofar) None [] next ups downs s }
+{
+    headers_are_read_again();
+    header_offsets_are_laid_out();
+    transfers_are_read_again();
+}
+
+/// What a cancelled ask has of its response is a front of it at any moment, also of the piece in hand.
+pub fn cancelled_asks_own()
+    ensures reading { (last : ℕ) (message : List ℕ) (tag size : ℕ) (sofar read : List ℕ) (taken : Bool) (waits : Option SubmitHead) (unlinks : List UnlinkHead) (next : ℕ) (ups : List up.Message) (downs : List Put) (s : State)
+        → Bound (Reading last message tag size sofar read taken) waits unlinks next ups downs s → Owns (hand.Reads last message tag size sofar read) s }
+    ensures read { (last : ℕ) (message sofar : List ℕ) (waits : Option SubmitHead) (unlinks : List UnlinkHead) (next : ℕ) (ups : List up.Message) (downs : List Put) (s : State)
+        → Bound (Read last message sofar) waits unlinks next ups downs s → IsOwned last message sofar s }
 {
     headers_are_read_again();
     header_offsets_are_laid_out();

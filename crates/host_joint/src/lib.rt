@@ -18,9 +18,13 @@ mod ties;
 mod worked;
 
 pub use accepted::{asks_halt_nothing, no_submit_is_refused};
-pub use asks::{asking_stays, asks_begin, cancelled_asks_stay, unplugged_asks_were_in_hand};
+pub use asks::{
+    asking_stays, asks_begin, cancelled_asks_stay, nothing_comes_unasked,
+    unplugged_asks_were_in_hand, unplugging_is_the_end,
+};
 pub use bonds::{
-    bonds_stay, cancelled_answers_are_taken, cancels_begin, recoveries_end, recoveries_go_on,
+    bonds_stay, cancelled_answers_are_taken, cancelled_asks_own, cancels_begin, recoveries_end,
+    recoveries_go_on,
 };
 pub use host_moves::{answers_are_taken, asks_are_settled_late, messages_are_written};
 pub use joints::{
