@@ -18,7 +18,7 @@ use Rattle.host_joint.specs.Owned.{Owned, NothingRead, PiecesRead, PieceRead}
 use Rattle.host_joint.specs.Hand.{Hand, Free, Says, Said, Reads, Pauses}
 use Rattle.host_joint.specs.Pieces.{header_of}
 use Rattle.host_joint.specs.Bond.{WasReading, WasRead}
-use Rattle.host_joint.specs.Tie.{IsOwned, asked_of, IsReading, Holds, Tie, ask_with, data_in_read, Owns, WasAccepted}
+use Rattle.host_joint.specs.Tie.{IsOwned, asked_of, Holds, Tie, ask_with, data_in_read, Owns, WasAccepted}
 use Rattle.tmc_wire.specs.Header.{IsTag}
 use Rattle.host_joint.proofs.Parts.{ask_of}
 use Rattle.host_joint.proofs.Counting.{all_past}

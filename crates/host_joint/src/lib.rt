@@ -38,4 +38,4 @@ pub use ties::{
     answers_are_the_expected, pieces_have_no_fault, tickets_end, ties_begin, ties_own, ties_stay,
     writes_keep_ties,
 };
-pub use worked::{worked_asks_are_in_hand, worked_hosts_are_tied};
+pub use worked::{worked_asks_are_in_hand, worked_cancels_are_bound, worked_hosts_are_tied};

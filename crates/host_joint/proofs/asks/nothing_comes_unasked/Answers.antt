@@ -1,15 +1,9 @@
-use Rattle.std.proofs.Common.{◌≡◌, ◌≢◌, ◌∙◌, ℕ, Bool, true, List, [], ◌∷◌, Option, Some, None, refl, ap, sym, subst}
-use Rattle.usbip_wire.specs.declared.submit.SubmitHead.{SubmitHead}
-use Rattle.usbip_wire.specs.declared.ret_submit.RetSubmitHead.{RetSubmitHead}
-use Rattle.usbip_wire.specs.Up as up
+use Rattle.std.proofs.Common.{◌≡◌, ◌≢◌, ◌∙◌, ℕ, List, [], ◌∷◌, Some, None, refl, sym, subst}
 use Rattle.tmc_law.specs.Endpoint.{BulkIn}
-use Rattle.tmc_law.specs.State.{State, Pending, Transfer}
-use Rattle.tmc_law.specs.Put.{Put, Submitted, stalled}
+use Rattle.tmc_law.specs.State.{Pending, Transfer}
 use Rattle.tmc_law.specs.Reached.{GoesOn}
-use Rattle.host_joint.specs.Lines.{Event, Gives, events_of, sent_to}
-use Rattle.host_joint.specs.Reads.{Flow, Still, Over, InLine, gives}
-use Rattle.host_joint.specs.Asking.{Ask, Asking}
-use Rattle.host_joint.proofs.Owning.{NextRead, FullCame, ShortCame, HaltCame, next_read}
+use Rattle.host_joint.specs.Lines.{Event, events_of, sent_to}
+use Rattle.host_joint.specs.Reads.{InLine, gives}
 use Rattle.host_joint.proofs.Hosting.{own_event}
 use Rattle.host_joint.proofs.Handing.{none_front}
 use Rattle.host_joint.proofs.Setting.{still_flow, still_read}

@@ -1,5 +1,5 @@
 use Rattle.std.proofs.Common.{◌≡◌, ◌∙◌, ap, sym}
-use Rattle.tmc_law.specs.State.{State, Presence, Plugged, Unplugged}
+use Rattle.tmc_law.specs.State.{State, Plugged, Unplugged}
 use Rattle.host_joint.proofs.asks.unplugging_is_the_end.Goals as goal
 
 pub returns-clause-answered : goal.returns-clause-answered
