@@ -17,9 +17,10 @@ pub mod Drains
 pub mod Hand
 pub mod Pieces
 pub mod Tie
-pub mod Joint
 -- a host that cancels, and recovers
 pub mod Bond
+-- both over a link
+pub mod Joint
 -- examples
 pub mod WorkedAsks
 pub mod WorkedTies

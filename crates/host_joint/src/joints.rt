@@ -15,10 +15,13 @@ ghost use Rattle.tmc_law.specs.State.{State, start, Closed};
 ghost use Rattle.host_joint.specs.Stage.{Ran};
 ghost use Rattle.host_joint.specs.Hand.{Hand, Free, Writes};
 ghost use Rattle.host_joint.specs.Tie.{Tie};
-ghost use Rattle.host_joint.specs.Joint.{TellsCalmly, Joint, entries_for, IsNextAnswer};
+ghost use Rattle.usbip_wire.specs.declared.unlink.UnlinkHead.{UnlinkHead};
+ghost use Rattle.host_joint.specs.Bond.{Situation, Bound};
+ghost use Rattle.host_joint.specs.Joint.{TellsCalmly, TellsPlugged, Joint, Joined, entries_for, IsNextAnswer};
 
 use crate::{
-    answers_are_the_expected, no_submit_is_refused, ties_begin, ties_stay, writes_keep_ties,
+    answers_are_the_expected, bonds_stay, no_submit_is_refused, ties_begin, ties_stay,
+    writes_keep_ties,
 };
 use tmc_law::{messages_are_refused_by_what_is_pending, runs_join, runs_take_in_messages};
 use usbip_wire::{
@@ -36,8 +39,8 @@ pub fn joints_begin()
     ties_begin();
 }
 
-/// They stay joined while the link tells more steps of the device that nothing disturbs, which took in no more than was written.
-/// None of the bytes is refused, and a message that was executed keeps its response.
+/// They stay joined while the link tells more steps of the device that nothing disturbs, which took in no more than was written; and behind a
+/// cancel, of a device that is not unplugged. None of the bytes is refused, and a message that was executed keeps its response.
 pub fn joints_stay()
     ensures joint { (devid : ℕ) (hand : Hand) (waits : Option SubmitHead) (next : ℕ) (written read : List ℕ) (steps more : List RunStep) (s t : State)
         → TellsCalmly devid s more t → IsFront (in_bytes (steps ++ more)) written
@@ -45,8 +48,15 @@ pub fn joints_stay()
     ensures ran { (devid : ℕ) (hand : Hand) (waits : Option SubmitHead) (next n : ℕ) (message response written read : List ℕ) (steps more : List RunStep) (s t : State)
         → TellsCalmly devid s more t → IsFront (in_bytes (steps ++ more)) written
         → Joint devid hand waits next written read steps s → Ran n message response s.log → Ran n message response t.log }
+    ensures joined { (devid : ℕ) (situation : Situation) (waits : Option SubmitHead) (unlinks : List UnlinkHead) (next : ℕ) (written read : List ℕ) (steps more : List RunStep) (s t : State)
+        → TellsPlugged devid s more t → IsFront (in_bytes (steps ++ more)) written
+        → Joined devid situation waits unlinks next written read steps s → Joined devid situation waits unlinks next written read (steps ++ more) t }
+    ensures ran_joined { (devid : ℕ) (situation : Situation) (waits : Option SubmitHead) (unlinks : List UnlinkHead) (next n : ℕ) (message response written read : List ℕ) (steps more : List RunStep) (s t : State)
+        → TellsPlugged devid s more t → IsFront (in_bytes (steps ++ more)) written
+        → Joined devid situation waits unlinks next written read steps s → Ran n message response s.log → Ran n message response t.log }
 {
     ties_stay();
+    bonds_stay();
     no_submit_is_refused();
     runs_join();
     runs_take_in_messages();
