@@ -41,7 +41,11 @@ use Rattle.host_joint.specs.Tie.{IsUndisturbed, asked_of, IsGood, Tie, IsGiven}
 use Rattle.host_joint.specs.Asking.{StaysPlugged}
 use Rattle.host_joint.specs.Bond.{Situation, Bound}
 use Rattle.usbip_wire.specs.declared.unlink.UnlinkHead.{UnlinkHead}
-use Rattle.host_joint.specs.Joint.{TellsBy, JointBy, TellsCalmly, Joint, entries_for, IsNextAnswer}
+use Rattle.std.proofs.lemmas.Bool.{ne_eqb}
+use Rattle.usbip_wire.specs.Dirs.{is_unlink}
+use Rattle.host_joint.proofs.Booking.{submit_answered, unlink_answered}
+use Rattle.host_joint.proofs.Given.{the_one}
+use Rattle.host_joint.specs.Joint.{TellsBy, JointBy, Joined, entries_of, IsApart, IsNextOf, Joint, entries_for, IsNextAnswer}
 use Rattle.host_joint.proofs.Flows.{all_answered}
 use Rattle.host_joint.proofs.Tying.{none_unlinked}
 use Rattle.host_joint.proofs.Hosting.{own_event}
@@ -414,3 +418,108 @@ never_bad reads laws devid hand (Some head) next written read rest more steps s 
         let worse = ((laws.stay (entries_for (Some head)) rest more f).0 bad).0 in
         (laws.alone (entries_for (Some head)) (rest ++ more) f worse).0 (message_of put) front after
         (spelled_put head put front given.answer given.transferred given.is given.number one) (sym comes ∙ e)
+
+-- ---- behind a cancel
+
+-- one more message was written, or none
+pub writes_on : (Before After : List up.Message → List Put → State → Type 0) (devid : ℕ) (message : up.Message) (text written read : List ℕ) (steps : List RunStep) (s : State) → up.Spells devid message text
+    → ((ups : List up.Message) (downs : List Put) → Before ups downs s → After (ups ++ message ∷ []) downs s) → JointBy Before devid written read steps s → JointBy After devid (written ++ text) read steps s
+writes_on Before After devid message text written read steps s spelled goes j = record {
+  coming = j.coming ++ text;
+  ups = j.ups ++ message ∷ [];
+  sent = ap (λ (l : List ℕ). l ++ text) j.sent ∙ append_assoc (in_bytes steps) j.coming text;
+  spelled = row_together (up.Spells devid) j.ups (message ∷ []) j.coming text j.spelled (text, [], sym (append-nil text), spelled, refl);
+  behind = j.behind;
+  downs = j.downs;
+  given = j.given;
+  put = j.put;
+  accepted = j.accepted;
+  tie = goes j.ups j.downs j.tie;
+}
+
+pub goes_on : (Before After : List up.Message → List Put → State → Type 0) (devid : ℕ) (written read : List ℕ) (steps : List RunStep) (s : State)
+    → ((ups : List up.Message) (downs : List Put) → Before ups downs s → After ups downs s) → JointBy Before devid written read steps s → JointBy After devid written read steps s
+goes_on Before After devid written read steps s goes j = record {
+  coming = j.coming;
+  ups = j.ups;
+  sent = j.sent;
+  spelled = j.spelled;
+  behind = j.behind;
+  downs = j.downs;
+  given = j.given;
+  put = j.put;
+  accepted = j.accepted;
+  tie = goes j.ups j.downs j.tie;
+}
+
+-- the first answer is to one of those that are not answered
+first_asked : {B : Type 0} (asked : SubmitHead) (rest : List SubmitHead) → [] ≡ asked ∷ rest → B
+first_asked asked rest e = absurd (cc)
+
+unlink_found : (waits : Option SubmitHead) (unlink : UnlinkHead) (rest : List UnlinkHead) → IsApart waits (unlink ∷ rest) → is_unlink (find unlink.seqnum (entries_of waits (unlink ∷ rest))) ≡ true
+unlink_found None unlink rest apart = rw (eq-eqb unlink.seqnum unlink.seqnum refl) refl
+unlink_found (Some head) unlink rest apart = rw (ne_eqb head.seqnum unlink.seqnum apart.0) (rw (eq-eqb unlink.seqnum unlink.seqnum refl) refl)
+
+submit_found : (head : SubmitHead) (unlinks : List UnlinkHead) (a : RetSubmitHead) (transferred bytes : List ℕ) → a.seqnum ≡ head.seqnum → SpellsRetSubmit (record { dir = head.dir; size = head.length }) a transferred bytes
+    → SpellsAnswer (entries_of (Some head) unlinks) (down.RetSubmit a transferred) bytes
+submit_found head unlinks a transferred bytes same spelled = (record { dir = head.dir; size = head.length }, found, spelled)
+  where
+    found : submit_of (find a.seqnum (entries_of (Some head) unlinks)) ≡ Some (head.dir, head.length)
+    found = rw (eq-eqb head.seqnum a.seqnum (sym same)) refl
+
+first_spelled : (situation : Situation) (waits : Option SubmitHead) (unlinks : List UnlinkHead) (next : ℕ) (put : Put) (ups : List up.Message) (downs : List Put) (s : State) (bytes : List ℕ) → IsApart waits unlinks
+    → Bound situation waits unlinks next ups (put ∷ downs) s → SpellsPut put bytes → SpellsAnswer (entries_of waits unlinks) (message_of put) bytes
+first_spelled situation None unlinks next (Submitted asked a transferred) ups downs s bytes apart bound spelled =
+    first_asked asked _ (submit_answered (asked_of None) unlinks ups asked a transferred downs s bound.bond.fits.0.0.endpoint bound.bond.fits.0.0.number bound.bond.lines).1
+first_spelled situation (Some head) unlinks next (Submitted asked a transferred) ups downs s bytes apart bound spelled =
+    let fits = bound.bond.fits.0.0 in
+    let same = the_one (eqb head.ep (number_of fits.endpoint)) head asked _ (submit_answered (asked_of (Some head)) unlinks ups asked a transferred downs s fits.endpoint fits.number bound.bond.lines).1 in
+    submit_found head unlinks a transferred bytes (bound.bond.fits.0.1.number ∙ ap (λ (x : SubmitHead). x.seqnum) same)
+    (subst (λ (x : SubmitHead). SpellsRetSubmit (record { dir = x.dir; size = x.length }) a transferred bytes) same spelled)
+first_spelled situation waits unlinks next (Unlinked asked a) ups downs s bytes apart bound spelled =
+    let taken = unlink_answered (asked_of waits) unlinks ups asked a downs s bound.bond.lines in
+    let found = unlink_found waits asked taken.0 (subst (λ (l : List UnlinkHead). IsApart waits l) taken.1 apart) in (
+      subst (λ (n : ℕ). is_unlink (find n (entries_of waits unlinks)) ≡ true) (sym bound.bond.fits.0.number) (subst (λ (l : List UnlinkHead). is_unlink (find asked.seqnum (entries_of waits l)) ≡ true) (sym taken.1) found),
+      spelled,
+    )
+
+pub next_of : ((entries : List Outstanding) → ArePrefixFree (SpellsAnswer entries)) → (devid : ℕ) (situation : Situation) (waits : Option SubmitHead) (unlinks : List UnlinkHead) (next : ℕ) (written read this more : List ℕ) (message : down.Message) (steps : List RunStep) (s : State)
+    → IsApart waits unlinks → Joined devid situation waits unlinks next written read steps s → out_bytes steps ≡ read ++ (this ++ more) → SpellsAnswer (entries_of waits unlinks) message this
+    → IsNextOf devid situation waits unlinks message next written read this steps s
+next_of free devid situation waits unlinks next written read this more message steps s apart j split spelled =
+    by j.downs (append_cancel_left read j.behind (this ++ more) (sym j.given ∙ split)) j.put j.tie
+  where
+    by : (downs : List Put) → j.behind ≡ this ++ more → SpellAll SpellsPut downs j.behind → Bound situation waits unlinks next j.ups downs s → IsNextOf devid situation waits unlinks message next written read this steps s
+    by [] comes put bound = absurd (answer_not_empty (entries_of waits unlinks) message (subst (λ (l : List ℕ). SpellsAnswer (entries_of waits unlinks) message l) (none_front this more (sym comes ∙ put)) spelled))
+    by (put ∷ downs) comes (front, after, e, one, rest) bound =
+        let same = free (entries_of waits unlinks) message (message_of put) this front more after spelled (first_spelled situation waits unlinks next put j.ups downs s front apart bound one) (sym comes ∙ e) in
+        record {
+          put = put;
+          ups = j.ups;
+          downs = downs;
+          is = sym same.0;
+          bound = bound;
+          later = λ then_at left others then_bound. record {
+            coming = j.coming;
+            ups = j.ups;
+            sent = j.sent;
+            spelled = j.spelled;
+            behind = after;
+            downs = downs;
+            given = j.given ∙ ap (λ (l : List ℕ). read ++ l) (e ∙ ap (λ (l : List ℕ). l ++ after) (sym same.1)) ∙ sym (append_assoc read this after);
+            put = rest;
+            accepted = j.accepted;
+            tie = then_bound;
+          };
+        }
+
+pub never_bad_bound : (laws : FieldLaws) (devid : ℕ) (situation : Situation) (waits : Option SubmitHead) (unlinks : List UnlinkHead) (next : ℕ) (written read rest more : List ℕ) (steps : List RunStep) (s : State) (f : Field)
+    → IsApart waits unlinks → Joined devid situation waits unlinks next written read steps s → out_bytes steps ≡ read ++ (rest ++ more) → BadAt Urbs (entries_of waits unlinks) rest f → ⊥
+never_bad_bound laws devid situation waits unlinks next written read rest more steps s f apart j split bad =
+    by j.downs (append_cancel_left read j.behind (rest ++ more) (sym j.given ∙ split)) j.put j.tie
+  where
+    by : (downs : List Put) → j.behind ≡ rest ++ more → SpellAll SpellsPut downs j.behind → Bound situation waits unlinks next j.ups downs s → ⊥
+    by [] comes put bound = none_bad laws (entries_of waits unlinks) rest f (none_front rest more (sym comes ∙ put)) bad
+    by (put ∷ downs) comes (front, after, e, one, others) bound =
+        let worse = ((laws.stay (entries_of waits unlinks) rest more f).0 bad).0 in
+        (laws.alone (entries_of waits unlinks) (rest ++ more) f worse).0 (message_of put) front after (first_spelled situation waits unlinks next put j.ups downs s front apart bound one) (sym comes ∙ e)

@@ -1,5 +1,5 @@
 -- a tied host and device at the two ends of a link that tells its bytes and the steps of its peer
-use Rattle.std.specs.Prelude.{◌≡◌, ℕ, Option, Some, None, List, [], ◌∷◌, ◌++◌}
+use Rattle.std.specs.Prelude.{◌≡◌, ◌≢◌, ℕ, Option, Some, None, List, [], ◌∷◌, ◌++◌}
 use Rattle.tmc_base.specs.declared.field.Field.{Field}
 use Rattle.tmc_base.specs.declared.run_step.RunStep.{RunStep}
 use Rattle.tmc_base.specs.Told.{in_bytes, out_bytes}
@@ -15,6 +15,7 @@ use Rattle.tmc_law.specs.Put.{Put}
 use Rattle.tmc_law.specs.Laws.{message_of}
 use Rattle.tmc_law.specs.Run.{Entry, SpellAll, SpellsPut}
 use Rattle.tmc_law.specs.Told.{Means}
+use Rattle.host_joint.specs.Unlinking.{AllUnlinks}
 use Rattle.host_joint.specs.Hand.{Hand}
 use Rattle.host_joint.specs.Asking.{StaysPlugged}
 use Rattle.host_joint.specs.Tie.{IsUndisturbed, Tie, IsGiven}
@@ -78,9 +79,17 @@ pub record IsNextAnswer (devid : ℕ) (hand : Hand) (head : SubmitHead) (message
   pub later : (after : Hand) → Tie after None next ups downs s → Joint devid after None next written (read ++ this) steps s
 
 -- the submit and the unlinks that are not answered, as a reader of answers knows them
+abbrev pub unlink_entries : List UnlinkHead → List Outstanding
+unlink_entries [] = []
+unlink_entries (unlink ∷ unlinks) = dirs.Unlink unlink.seqnum ∷ unlink_entries unlinks
+
 abbrev pub entries_of : Option SubmitHead → List UnlinkHead → List Outstanding
-entries_of waits [] = entries_for waits
-entries_of waits (unlink ∷ unlinks) = entries_for waits ++ dirs.Unlink unlink.seqnum ∷ []
+entries_of waits unlinks = entries_for waits ++ unlink_entries unlinks
+
+-- the submit has a number of its own
+abbrev pub IsApart : Option SubmitHead → List UnlinkHead → Type 0
+IsApart None unlinks = Unit {0}
+IsApart (Some head) unlinks = AllUnlinks (λ unlink. head.seqnum ≢ unlink.seqnum) unlinks
 
 -- a message that a host reads next behind a cancel is the first answer that is on its way
 pub record IsNextOf (devid : ℕ) (situation : Situation) (waits : Option SubmitHead) (unlinks : List UnlinkHead) (message : down.Message) (next : ℕ) (written read this : List ℕ) (steps : List RunStep) (s : State) : Type 0 where

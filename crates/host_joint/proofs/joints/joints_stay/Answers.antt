@@ -1,7 +1,7 @@
 use Rattle.host_joint.specs.Asking.{StaysPlugged}
 use Rattle.host_joint.specs.Tie.{IsUndisturbed, Tie}
 use Rattle.host_joint.specs.Bond.{Bound}
-use Rattle.host_joint.proofs.Joining.{JointLaws, joint_goes, joint_ran, tie_kept, bound_kept}
+use Rattle.host_joint.proofs.Joining.{joint_goes, joint_ran, tie_kept, bound_kept}
 use Rattle.host_joint.proofs.joints.joints_stay.Goals as goal
 
 pub returns-clause-joint : goal.returns-clause-joint
