@@ -110,6 +110,7 @@ query_begins = record {
   todo = query_job ∷ request_job ∷ [];
   hit = [];
   whole = refl;
+  missed = λ kept usable. refl;
   jobs = (query_is, (request_is, tt));
   short = lit≤ tt;
   out = Unbegun [] (query_job ∷ request_job ∷ []) refl refl refl refl refl;
@@ -129,6 +130,7 @@ read_begins = record {
   todo = read_job ∷ request_job ∷ [];
   hit = [];
   whole = refl;
+  missed = λ kept usable. refl;
   jobs = (read_is, (request_is, tt));
   short = lit≤ tt;
   out = Unbegun [] (read_job ∷ request_job ∷ []) refl refl refl refl refl;
@@ -186,7 +188,7 @@ piece_ends : (ask : Ask) (ups : List up.Message) (head : SubmitHead) (a : RetSub
     → s.halted.bulk_in ≡ false → InAnswered ask ups (Gives head a transferred) downs s → PieceEnd ask transferred ups downs s
 piece_ends ask ups head a transferred downs s short usable (TookFull x is full next) = let e : transferred ≡ x.bytes = cc in absurd (omega (arith, short, full, ap (λ (l : List ℕ). length l) e))
 piece_ends ask ups head a transferred downs s short usable (TookEnd x is small end) = let e : x.bytes ≡ transferred = cc in subst (λ (l : List ℕ). PieceEnd ask l ups downs s) e end
-piece_ends ask ups head a transferred downs s short usable (TookHalt shuts halted) = let e : false ≡ true = sym usable ∙ shuts in absurd (cc)
+piece_ends ask ups head a transferred downs s short usable (TookHalt shuts halted later) = let e : false ≡ true = sym usable ∙ shuts in absurd (cc)
 
 -- the first two answers of the query are taken
 pub query_taken : Asking query_ask [] (outputs (asking ++ answering)) (record start { log = query_log })

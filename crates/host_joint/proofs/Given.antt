@@ -23,6 +23,7 @@ use Rattle.host_joint.specs.Owned.{Owned, NothingRead, PiecesRead, PieceRead}
 use Rattle.host_joint.specs.Hand.{Hand, Free, Says, Said, Reads, Pauses}
 use Rattle.host_joint.specs.Pieces.{header_of, IsPiece, BeginsPiece}
 use Rattle.host_joint.specs.Tie.{asked_of, transfers_of, IsReading, Holds, Tie, ask_with, TakesTransfer, TakesFull, TakesLast, TakesPiece, IsGiven}
+use Rattle.host_joint.proofs.Parts.{ask_of}
 use Rattle.host_joint.proofs.Flows.{all_answered}
 use Rattle.host_joint.proofs.Booking.{submit_answered}
 use Rattle.host_joint.proofs.Owning.{has_read, stage_owns, take_own}
@@ -108,11 +109,11 @@ given_out hand later ask more head a transferred next ups downs s own same tie t
 
 -- ---- a read was answered
 
-pub owned_of : (last : ℕ) (message : List ℕ) (tag size : ℕ) (written : List Job) (answered : ℕ) (sofar read : List ℕ) (ups : List up.Message) (downs : List Put) (s : State)
-    → Asking (ask_with last message tag size written answered sofar read) ups downs s → Owned (ask_with last message tag size written answered sofar read) s
-owned_of last message tag size written answered sofar read ups downs s a =
-    stage_owns last message tag size written answered sofar read false a.past a.todo a.flow s
-    (has_read s.halted.bulk_in false a.flow read (gives (events_of BulkIn downs)) (sent_to BulkIn ups) s.bulk_in a.ins) a.stage
+pub owned_of : (last : ℕ) (message : List ℕ) (tag size : ℕ) (written : List Job) (answered : ℕ) (sofar read : List ℕ) (gone : Bool) (ups : List up.Message) (downs : List Put) (s : State)
+    → Asking (ask_of last message tag size written answered sofar read gone) ups downs s → Owned (ask_of last message tag size written answered sofar read gone) s
+owned_of last message tag size written answered sofar read gone ups downs s a =
+    stage_owns last message tag size written answered sofar read gone a.past a.todo a.flow s
+    (has_read s.halted.bulk_in gone a.flow read (gives (events_of BulkIn downs)) (sent_to BulkIn ups) s.bulk_in a.ins) a.stage
 
 pub piece_text : (laws : WireLaws) (tag size : ℕ) (eom : Bool) (carried bytes : List ℕ) → IsTag tag → 1 ≤ length carried → length carried ≤ size → size < 2 ^ 32
     → bytes ≡ in_header_bytes (header_of tag (length carried) eom) ++ (carried ++ alignment_of (length carried)) → IsPiece tag size eom carried bytes
@@ -123,11 +124,11 @@ piece_text laws tag size eom carried bytes tagged some few small is = record {
   text = subst (λ (l : List ℕ). InText (header_of tag (length carried) eom) carried l) (sym is) (is_text laws tag eom carried tagged some (omega (arith, few, small)));
 }
 
-begins_piece : (laws : WireLaws) (last : ℕ) (message : List ℕ) (tag size : ℕ) (written : List Job) (answered : ℕ) (sofar read : List ℕ) (s : State) → IsTag tag → size < 2 ^ 32 → 12 ≤ length read
-    → Owned (ask_with last message tag size written answered sofar read) s → BeginsPiece tag size read
-begins_piece laws last message tag size written answered sofar read s tagged small long (NothingRead empty none) = absurd (omega (arith, long, ap (λ (l : List ℕ). length l) none))
-begins_piece laws last message tag size written answered sofar read s tagged small long (PiecesRead response ran all none) = absurd (omega (arith, long, ap (λ (l : List ℕ). length l) none))
-begins_piece laws last message tag size written answered sofar read s tagged small long (PieceRead response carried rest ran all some fits text first) = record {
+pub begins_piece : (laws : WireLaws) (last : ℕ) (message : List ℕ) (tag size : ℕ) (written : List Job) (answered : ℕ) (sofar read : List ℕ) (gone : Bool) (s : State) → IsTag tag → size < 2 ^ 32 → 12 ≤ length read
+    → Owned (ask_of last message tag size written answered sofar read gone) s → BeginsPiece tag size read
+begins_piece laws last message tag size written answered sofar read gone s tagged small long (NothingRead empty none) = absurd (omega (arith, long, ap (λ (l : List ℕ). length l) none))
+begins_piece laws last message tag size written answered sofar read gone s tagged small long (PiecesRead response ran all none) = absurd (omega (arith, long, ap (λ (l : List ℕ). length l) none))
+begins_piece laws last message tag size written answered sofar read gone s tagged small long (PieceRead response carried rest ran all some fits text first) = record {
   eom = eqb (length carried) (length (carried ++ unread s));
   carried = carried;
   more = rest;
@@ -136,23 +137,23 @@ begins_piece laws last message tag size written answered sofar read s tagged sma
       (sym text ∙ ap (λ (l : List ℕ). in_header_bytes (header_of tag (length carried) (eqb (length carried) (length (carried ++ unread s)))) ++ (l ++ alignment_of (length carried))) (take_own carried (unread s)));
 }
 
-some_long : (l : List ℕ) → l ≢ [] → 1 ≤ length l
+pub some_long : (l : List ℕ) → l ≢ [] → 1 ≤ length l
 some_long [] some = absurd (some refl)
 some_long (x ∷ l) some = omega arith
 
 given_in : (laws : WireLaws) (last tag size : ℕ) (message sofar read : List ℕ) (head : SubmitHead) (a : RetSubmitHead) (transferred : List ℕ) (next : ℕ) (ups : List up.Message) (downs : List Put) (s : State)
     → head.ep ≡ 2 → Tie (Reads last message tag size sofar read) (Some head) next ups (Submitted head a transferred ∷ downs) s
     → (h : IsReading last message tag size sofar read (Some head) ups (Submitted head a transferred ∷ downs) s)
-    → InAnswered (ask_with last message tag size h.written h.answered sofar read) ups (Gives head a transferred) downs s
+    → InAnswered (ask_with last message tag size (h.front ++ h.request ∷ []) h.answered sofar read) ups (Gives head a transferred) downs s
     → IsGiven (Reads last message tag size sofar read) head (Submitted head a transferred) next ups downs s
-given_in laws last tag size message sofar read head a transferred next ups downs s own tie h (TookHalt shuts halted) = clash s.halted.bulk_in tie.in_usable shuts
+given_in laws last tag size message sofar read head a transferred next ups downs s own tie h (TookHalt shuts halted later) = clash s.halted.bulk_in tie.in_usable shuts
 given_in laws last tag size message sofar read head a transferred next ups downs s own tie h (TookFull x is full goes) =
     let same : transferred ≡ x.bytes = cc in
     let told : a ≡ record { seqnum = x.head.seqnum; status = success; actual = length x.bytes } = cc in
     let all : length transferred ≡ read_size = ap (λ (l : List ℕ). length l) same ∙ full in
-    let later = subst (λ (l : List ℕ). Asking (ask_with last message tag size h.written h.answered sofar (read ++ l)) ups downs s) (sym same) goes in
+    let later = subst (λ (l : List ℕ). Asking (ask_with last message tag size (h.front ++ h.request ∷ []) h.answered sofar (read ++ l)) ups downs s) (sym same) goes in
     let long : 12 ≤ length (read ++ transferred) = omega (arith, all, length-append read transferred) in
-    let piece = begins_piece laws last message tag size h.written h.answered sofar (read ++ transferred) s h.tagged h.sized.1 long (owned_of last message tag size h.written h.answered sofar (read ++ transferred) ups downs s later) in
+    let piece = begins_piece laws last message tag size (h.front ++ h.request ∷ []) h.answered sofar (read ++ transferred) false s h.tagged h.sized.1 long (owned_of last message tag size (h.front ++ h.request ∷ []) h.answered sofar (read ++ transferred) false ups downs s later) in
     record {
       answer = a;
       transferred = transferred;
@@ -161,11 +162,13 @@ given_in laws last tag size message sofar read head a transferred next ups downs
       status = ap (λ (r : RetSubmitHead). r.status) told;
       goes = TakesFull last tag size message sofar read refl own (ap (λ (r : RetSubmitHead). r.actual) told ∙ ap (λ (l : List ℕ). length l) (sym same)) all piece
           (behind (Reads last message tag size sofar read) (Reads last message tag size sofar (read ++ transferred)) head a transferred next ups downs s tie (record {
-            written = h.written;
+            front = h.front;
+            request = h.request;
             answered = h.answered;
             asking = later;
             counted = omega (arith, h.counted, no_transfer head own);
-            requested = h.requested;
+            behind = h.behind;
+            header = h.header;
             tagged = h.tagged;
             sized = h.sized;
             long = inr long;
@@ -186,7 +189,7 @@ given_in laws last tag size message sofar read head a transferred next ups downs
     short : length transferred < read_size
     short = subst (λ (l : List ℕ). length l < read_size) (sym same) small
 
-    all : h.answered ≡ length h.written
+    all : h.answered ≡ length (h.front ++ h.request ∷ [])
     all = omega (arith, h.counted, no_transfer head own)
 
     piece : IsPiece tag size ends.eom ends.carried (read ++ transferred)
@@ -260,23 +263,25 @@ given_own laws (Reads last message tag size sofar read) head a transferred next 
   where
     by : (head.ep ≡ 1) ⊎ (head.ep ≡ 2) → IsGiven (Reads last message tag size sofar read) head (Submitted head a transferred) next ups downs s
     by (inl out) =
-        let taken = was_taken last message tag size h.written h.answered sofar read ups head a transferred downs s out tie.out_usable h.asking in
+        let taken = was_taken last message tag size (h.front ++ h.request ∷ []) h.answered sofar read ups head a transferred downs s out tie.out_usable h.asking in
         given_out (Reads last message tag size sofar read) (Reads last message tag size sofar read) _ _ head a transferred next ups downs s out refl tie taken (record {
-          written = h.written;
+          front = h.front;
+          request = h.request;
           answered = h.answered + 1;
           asking = taken.asking;
-          counted = counts_it h.written h.answered head out h.counted;
-          requested = h.requested;
+          counted = counts_it (h.front ++ h.request ∷ []) h.answered head out h.counted;
+          behind = h.behind;
+          header = h.header;
           tagged = h.tagged;
           sized = h.sized;
           long = h.long;
           bulk = tt;
         })
-    by (inr own) = given_in laws last tag size message sofar read head a transferred next ups downs s own tie h (in_answered last message tag size h.written h.answered sofar read false ups head a transferred downs s own h.asking)
+    by (inr own) = given_in laws last tag size message sofar read head a transferred next ups downs s own tie h (in_answered last message tag size (h.front ++ h.request ∷ []) h.answered sofar read false ups head a transferred downs s own h.asking)
 given_own laws (Pauses last message sofar) head a transferred next ups downs s tie h = let e : Some head ≡ None = h.none in absurd (cc)
 
 -- it is to the one submit that is not answered
-the_one : (b : Bool) (head asked : SubmitHead) (rest : List SubmitHead) → cond b (head ∷ []) [] ≡ asked ∷ rest → asked ≡ head
+pub the_one : (b : Bool) (head asked : SubmitHead) (rest : List SubmitHead) → cond b (head ∷ []) [] ≡ asked ∷ rest → asked ≡ head
 the_one true head asked rest e = cc
 the_one false head asked rest e = absurd (cc)
 

@@ -31,3 +31,7 @@ mod Given
 mod Ending
 mod Joining
 mod Tied
+mod Ahead
+mod Bonding
+mod Cancelling
+mod Recovering

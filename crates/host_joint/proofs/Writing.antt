@@ -47,7 +47,7 @@ one_transfer head is = rw (eq-eqb head.ep 1 is) refl
 pub no_transfer : (head : SubmitHead) → head.ep ≡ 2 → transfers_of (Some head) ≡ 0
 no_transfer head is = let e : eqb head.ep 1 ≡ false = ap (λ (n : ℕ). eqb n 1) is in rw e refl
 
-fitting_more : (ups : List up.Message) (head : SubmitHead) (bytes : List ℕ) → Fitting head → AllFitting ups → AllFitting (ups ++ up.Submit head bytes ∷ [])
+pub fitting_more : (ups : List up.Message) (head : SubmitHead) (bytes : List ℕ) → Fitting head → AllFitting ups → AllFitting (ups ++ up.Submit head bytes ∷ [])
 fitting_more [] head bytes fits h = (fits, tt)
 fitting_more (up.Submit x transferred ∷ ups) head bytes fits h = (h.0, fitting_more ups head bytes fits h.1)
 fitting_more (up.Unlink x ∷ ups) head bytes fits h = fitting_more ups head bytes fits h
@@ -201,11 +201,13 @@ asks_first laws head bytes last tag size message ups downs s h is =
     subst (λ (n : ℕ). Asking (ask_with last message h.tag h.size h.written n [] []) ups downs s) (omega (arith, h.counted)) h.asking in
     let settled = request_set (ask_with last message h.tag h.size h.written (length h.written) [] []) tag size ups downs s (λ t n e. not_final t n (last_header h.written) e h.ended) refl all in
     record {
-      written = h.written ++ job ∷ [];
+      front = h.written;
+      request = job;
       answered = length h.written;
       asking = request_written last message tag size h.written [] [] false ups downs s job (is_job laws head (Request tag size) [] bytes is) refl (inl h.ended) (λ some. absurd (some refl)) settled;
       counted = counts_one h.written job (length h.written) head is.number refl;
-      requested = last_more h.written job;
+      behind = inl h.ended;
+      header = refl;
       tagged = (is.proper.0, is.fits.0);
       sized = (is.proper.1, is.fits.1);
       long = inl refl;
@@ -218,11 +220,13 @@ asks_next laws head bytes last tag size message sofar ups downs s h is =
     let job : Job = record { head = head; header = Request tag size; message = []; bytes = bytes } in
     let settled = request_set (ask_with last message h.tag h.size [] 0 sofar []) tag size ups downs s (λ t n e. nothing t n e) refl h.asking in
     record {
-      written = job ∷ [];
+      front = [];
+      request = job;
       answered = 0;
       asking = request_written last message tag size [] sofar [] false ups downs s job (is_job laws head (Request tag size) [] bytes is) refl (inr (refl, h.some)) (λ some. h.more) settled;
       counted = counts_one [] job 0 head is.number refl;
-      requested = refl;
+      behind = inr (refl, h.some);
+      header = refl;
       tagged = (is.proper.0, is.fits.0);
       sized = (is.proper.1, is.fits.1);
       long = inl refl;
@@ -235,11 +239,13 @@ asks_next laws head bytes last tag size message sofar ups downs s h is =
 reads_more : (head : SubmitHead) (last tag size : ℕ) (message sofar read : List ℕ) (ups : List up.Message) (downs : List Put) (s : State)
     → IsReading last message tag size sofar read None ups downs s → IsRead head → IsReading last message tag size sofar read (Some head) (ups ++ up.Submit head [] ∷ []) downs s
 reads_more head last tag size message sofar read ups downs s h is = record {
-  written = h.written;
+  front = h.front;
+  request = h.request;
   answered = h.answered;
-  asking = read_written last message tag size h.written h.answered sofar read ups downs s head is h.asking;
+  asking = read_written last message tag size (h.front ++ h.request ∷ []) h.answered sofar read ups downs s head is h.asking;
   counted = omega (arith, h.counted, no_transfer head is.number);
-  requested = h.requested;
+  behind = h.behind;
+  header = h.header;
   tagged = h.tagged;
   sized = h.sized;
   long = h.long;

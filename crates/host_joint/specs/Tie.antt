@@ -19,7 +19,7 @@ use Rattle.tmc_law.specs.Run.{Entry, Runs, IsFront}
 use Rattle.host_joint.specs.Lines.{Lines, Fitting, AllFitting}
 use Rattle.host_joint.specs.Jobs.{Job, last_header, data_in}
 use Rattle.host_joint.specs.Reads.{read_size}
-use Rattle.host_joint.specs.Stage.{Ran, IsInner, IsFinal}
+use Rattle.host_joint.specs.Stage.{Ran, IsInner, IsFinal, IsUnasked}
 use Rattle.host_joint.specs.Asking.{Ask, Asking}
 use Rattle.host_joint.specs.Positions.{IsAt, rests}
 use Rattle.host_joint.specs.Hand.{Hand, Free, Says, Said, Reads, Pauses}
@@ -92,13 +92,16 @@ pub record HasSaid (last : ℕ) (message : List ℕ) (waits : Option SubmitHead)
   pub ended : IsFinal (last_header written)
   pub out : IsOut waits
 
--- a piece is in hand; once bytes of it were read, its header is among them
+-- a piece is in hand: its request was written behind the whole message, or behind the end of a piece; once bytes of it were read, its
+-- header is among them
 pub record IsReading (last : ℕ) (message : List ℕ) (tag size : ℕ) (sofar read : List ℕ) (waits : Option SubmitHead) (ups : List up.Message) (downs : List Put) (s : State) : Type 0 where
-  pub written : List Job
+  pub front : List Job
+  pub request : Job
   pub answered : ℕ
-  pub asking : Asking (ask_with last message tag size written answered sofar read) ups downs s
-  pub counted : length written ≡ answered + transfers_of waits
-  pub requested : last_header written ≡ Some (Request tag size)
+  pub asking : Asking (ask_with last message tag size (front ++ request ∷ []) answered sofar read) ups downs s
+  pub counted : length (front ++ request ∷ []) ≡ answered + transfers_of waits
+  pub behind : IsUnasked front sofar
+  pub header : request.header ≡ Request tag size
   pub tagged : IsTag tag
   pub sized : IsSize size
   pub long : (read ≡ []) ⊎ (header_size ≤ length read)
