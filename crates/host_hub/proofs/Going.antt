@@ -9,7 +9,12 @@ use Rattle.tmc_base.specs.declared.field.Name.TheVariants as name
 use Rattle.tmc_base.specs.declared.run_step.RunStep.{RunStep}
 use Rattle.tmc_base.specs.Told.{out_bytes}
 use Rattle.usbip_wire.specs.declared.ret_submit.RetSubmitHead.{RetSubmitHead}
-use Rattle.usbip_wire.specs.Awaited.{entries_of}
+use Rattle.usbip_wire.specs.Awaited.{Awaited, entries_of}
+use Rattle.usbip_wire.specs.DownFed.{BadAt}
+use Rattle.usbip_wire.specs.declared.down.DownPhase.TheVariants.{Urbs}
+use Rattle.usbip_wire.specs.declared.dirs.Outstanding.{Outstanding}
+use Rattle.usbip_wire.specs.declared.submit.SubmitHead.{SubmitHead}
+use Rattle.tmc_base.specs.declared.field.Field.{Field}
 use Rattle.usbip_wire.specs.Down as down
 use Rattle.usbip_wire.specs.Down.{SpellsAnswer}
 use Rattle.usbip_wire.specs.Up as up
@@ -18,6 +23,7 @@ use Rattle.tmc_wire.specs.HeaderFault.{TransferSize}
 use Rattle.tmc_law.specs.Put.{Put}
 use Rattle.tmc_law.specs.State.{State}
 use Rattle.host_joint.specs.Hand.{Hand, Reads}
+use Rattle.host_joint.specs.Joint.{Joint, entries_for}
 use Rattle.host_joint.specs.Pieces.{BeginsPiece, IsFaultless, IsPiece, IsWhole}
 use Rattle.host_joint.specs.Tie.{Goes, TakesFull, TakesLast, TakesPiece, TakesTransfer}
 use Rattle.host_urbs.specs.Law.{MayTake}
@@ -32,17 +38,18 @@ use Rattle.host_hub.specs.Crossings.{crossings}
 use Rattle.host_hub.specs.Ends.{as_end, comes_early, ends_by, is_before, is_gone, owned_ends, same_endpoint, submit_ends}
 use Rattle.host_hub.specs.Faults.{first_fault, number_field, read_fault, refused, transfer_faults}
 use Rattle.host_hub.specs.Hand.{ended, is_of}
-use Rattle.host_hub.specs.Joined.{IsJoined, IsPlain, IsPlainOrder, IsServed, IsSimple, ReadsOn, hand_of}
+use Rattle.host_hub.specs.Joined.{IsJoined, IsPlain, IsPlainOrder, IsServed, IsSimple, ReadsOn, hand_of, head_in, waits_in, waits_of}
 use Rattle.host_hub.specs.Law.{Lawful}
-use Rattle.host_hub.specs.Outstanding.{Sent, outstanding}
+use Rattle.host_hub.specs.Outstanding.{Sent, awaited_by, outstanding}
 use Rattle.host_hub.specs.Pieces.{Piece, data_in, does_count, extended, pieces}
 use Rattle.host_hub.specs.Plan.{message_end}
 use Rattle.host_hub.specs.Tied.{bytes_of, spelled}
 use Rattle.host_hub.proofs.Assembled.{faultless}
-use Rattle.host_hub.proofs.InHand.{head_of, reads_is}
-use Rattle.host_hub.proofs.Joining.{Expected, Laws, Reading, bytes_in, expected, extended_full, extended_short, is_read_of, joined_asked, joined_given, joined_settles, joined_stopped, joined_took, joined_wrote, joint_now, next_answer, not_read_of, reading, unlink_never}
+use Rattle.host_hub.proofs.InHand.{head_of, is_submit, reads_is}
+use Rattle.host_hub.proofs.Joining.{Expected, Laws, Reading, bytes_in, entries_same, expected, extended_full, extended_short, is_read_of, joined_asked, joined_given, joined_settles, joined_stopped, joined_took, joined_wrote, joint_now, next_answer, not_read_of, reading, unlink_never}
 use Rattle.host_hub.proofs.Lists.{and_false, clash}
-use Rattle.host_hub.proofs.Plain.{Answered, InHand, Stands, answered_one, stands}
+use Rattle.host_hub.proofs.Numbers.{same_outstanding}
+use Rattle.host_hub.proofs.Plain.{Answered, InHand, NoneOut, OneOut, Out, Stands, answered_one, stands}
 use Rattle.host_hub.proofs.Tying.{spelled_more}
 
 -- what host_joint says of pieces
@@ -189,6 +196,30 @@ answer_good laws faults s past (down.RetSubmit head data_bytes) bytes read this 
     x = expected s past a.number a.order head data_bytes (next s.first past) bytes read this steps state
         (next_answer laws s past bytes read this more steps state a.number a.ticket a.order (down.RetSubmit head data_bytes) h a.plain a.was
         (joint_now s past bytes read steps state running j) told spelled_as)
+
+-- ---- nor do bytes
+
+pub bytes_good : (refusal : (devid : ℕ) (hand : Hand) (waits : Option SubmitHead) (next : ℕ) (written read rest more : List ℕ) (steps : List RunStep) (state : State) (f : Field)
+    → Joint devid hand waits next written read steps state → out_bytes steps ≡ read ++ (rest ++ more) → BadAt Urbs (entries_for waits) rest f → ⊥)
+    → (s : Setting) (past : Past) (bytes read rest more : List ℕ) (steps : List RunStep) (state : State) (f : Field) → IsSimple s → Lawful s past → ended past ≡ None
+    → IsJoined s past bytes read steps state → out_bytes steps ≡ read ++ (rest ++ more) → BadAt Urbs (entries_of (urbs.outstanding (crossings s past))) rest f → ⊥
+bytes_good refusal s past bytes read rest more steps state f simple h running j told bad = by (stands s past simple h j.plain j.served running).out
+  where
+    now : Joint s.devid (hand_of past) (waits_of s past) (next s.first past) bytes read steps state
+    now = joint_now s past bytes read steps state running j
+
+    by : Out past → ⊥
+    by (NoneOut e) =
+        let entries : entries_of (urbs.outstanding (crossings s past)) ≡ [] =
+        ap (λ (xs : List Awaited). entries_of xs) (sym (same_outstanding s past h)) ∙ ap (λ (xs : List Sent). entries_of (awaited_by s xs)) e in
+        refusal s.devid (hand_of past) None (next s.first past) bytes read rest more steps state f
+        (subst (λ (xs : List Sent). Joint s.devid (hand_of past) (waits_in s xs) (next s.first past) bytes read steps state) e now) told
+        (subst (λ (es : List Outstanding). BadAt Urbs es rest f) entries bad)
+    by (OneOut t n k p e hand lives l) =
+        refusal s.devid (hand_of past) (Some (head_of s n k)) (next s.first past) bytes read rest more steps state f
+        (subst (λ (m : up.Message). Joint s.devid (hand_of past) (head_in m) (next s.first past) bytes read steps state) (is_submit s n k p)
+        (subst (λ (xs : List Sent). Joint s.devid (hand_of past) (waits_in s xs) (next s.first past) bytes read steps state) e now)) told
+        (subst (λ (es : List Outstanding). BadAt Urbs es rest f) (entries_same s past n t k h p e) bad)
 
 -- ---- the record goes on
 

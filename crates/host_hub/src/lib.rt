@@ -40,7 +40,8 @@ pub use limits::{
 };
 pub use outcome::{End, Outcome};
 pub use ownership::{
-    hubs_begin_joined, hubs_stay_joined, no_answer_ends_a_hub, tickets_own_their_bytes,
+    hubs_begin_joined, hubs_stay_joined, no_answer_ends_a_hub, no_bytes_end_a_hub,
+    tickets_own_their_bytes,
 };
 pub use refusals::{AskFault, ClearFault};
 pub use sentences::{

@@ -16,16 +16,19 @@ ghost use Rattle.host_hub.specs.Tied.{spelled};
 ghost use Rattle.host_joint.specs.Hand.{Free};
 ghost use Rattle.host_joint.specs.Joint.{Joint, TellsCalmly};
 ghost use Rattle.host_urbs.specs.Record as urbs;
+ghost use Rattle.tmc_base.specs.declared.field.Field.{Field};
 ghost use Rattle.tmc_base.specs.declared.run_step.RunStep.{RunStep};
 ghost use Rattle.tmc_base.specs.Told.{IsFront, in_bytes, out_bytes};
 ghost use Rattle.tmc_law.specs.State.{State};
 ghost use Rattle.usbip_wire.specs.Awaited.{entries_of};
 ghost use Rattle.usbip_wire.specs.Down as down;
 ghost use Rattle.usbip_wire.specs.Down.{SpellsAnswer};
+ghost use Rattle.usbip_wire.specs.DownFed.{BadAt};
+ghost use Rattle.usbip_wire.specs.declared.down.DownPhase.TheVariants.{Urbs};
 
 use host_joint::{
-    joints_stay, pieces_have_no_fault, the_next_answer_is_read, tickets_end, ties_own,
-    writes_keep_joints,
+    joints_stay, no_answer_is_refused, pieces_have_no_fault, the_next_answer_is_read, tickets_end,
+    ties_own, writes_keep_joints,
 };
 use host_transfers::a_piece_is_its_transfer;
 use host_urbs::what_is_spelled_may_come;
@@ -66,6 +69,15 @@ pub fn no_answer_ends_a_hub()
     pieces_have_no_fault();
     a_piece_is_its_transfer();
     what_is_spelled_may_come();
+}
+
+/// Nor do refused bytes: no field of what came behind the answers is bad.
+pub fn no_bytes_end_a_hub()
+    ensures { (setting : Setting) (past : Past) (bytes read rest more : List ℕ) (steps : List RunStep) (state : State) (field : Field) → IsSimple setting
+        → Lawful setting past → ended past ≡ None → IsJoined setting past bytes read steps state → out_bytes steps ≡ read ++ (rest ++ more)
+        → BadAt Urbs (entries_of (urbs.outstanding (crossings setting past))) rest field → ⊥ }
+{
+    no_answer_is_refused();
 }
 
 /// What a ticket of such a hub has is at every moment a front of the response that the device's log gives to its own message, executed

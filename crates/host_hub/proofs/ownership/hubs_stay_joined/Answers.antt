@@ -4,7 +4,7 @@ use Rattle.host_hub.proofs.ownership.hubs_stay_joined.Goals as goal
 pub returns-clause-hub : goal.returns-clause-hub
 returns-clause-hub c = joined_on
     (record {
-      writes = c.writes_keep_joints.ensures;
+      writes = c.writes_keep_joints.ensures.tie;
       answer = c.the_next_answer_is_read.ensures.answer;
       told = c.tickets_end.ensures.told;
       read = c.tickets_end.ensures.read;

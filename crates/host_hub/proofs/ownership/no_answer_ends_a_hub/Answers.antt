@@ -6,7 +6,7 @@ pub returns : goal.returns
 returns c = λ setting past answer bytes read this more steps state simple lawful running joined told spelled.
     answer_good
     (record {
-      writes = c.writes_keep_joints.ensures;
+      writes = c.writes_keep_joints.ensures.tie;
       answer = c.the_next_answer_is_read.ensures.answer;
       told = c.tickets_end.ensures.told;
       read = c.tickets_end.ensures.read;
