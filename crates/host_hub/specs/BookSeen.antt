@@ -29,7 +29,7 @@ seen_of ticket = record {
   limit = ticket.limit;
   last = ticket.last;
   message = ticket.message;
-  bytes = ticket.bytes;
+  bytes = ticket.bytes.items;
   outcome = ticket.outcome;
 }
 

@@ -4,11 +4,17 @@
 #![tactic(auto)]
 
 mod answers;
+mod asking;
 mod book;
+mod ending;
 mod facts;
+mod hearing;
+mod hub;
+mod hub_core;
 mod kind;
 mod laws;
 mod limits;
+mod notes;
 mod outcome;
 mod refusals;
 pub mod refused;
@@ -18,8 +24,10 @@ mod steps;
 mod stops;
 mod ticket;
 mod ties;
+mod turning;
 mod view;
 pub mod worked;
+mod writing;
 
 pub use answers::{CancelAnswer, DropAnswer, Turn};
 pub use book::{Book, BookEntry};
@@ -27,6 +35,7 @@ pub use facts::{
     books_are_kept, each_outcome_has_its_cause, recoveries_are_made, something_is_waited_for,
     traffic_is_planned, unlinks_are_due,
 };
+pub use hub::Hub;
 pub use kind::Kind;
 pub use laws::{
     a_settled_outcome_stays, answers_may_come, messages_are_crossings, messages_are_lawful,
@@ -54,3 +63,6 @@ pub use stops::{
 };
 pub use ties::records_are_tied;
 pub use view::View;
+
+#[cfg(test)]
+mod tests;
