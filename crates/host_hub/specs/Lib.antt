@@ -20,6 +20,8 @@ pub mod Facts
 pub mod Calls
 pub mod Steps
 pub mod BookSeen
+pub mod BookRoom
+pub mod BookChanges
 pub mod Refusals
 pub mod Shown
 pub mod Tied

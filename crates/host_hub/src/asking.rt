@@ -64,14 +64,13 @@ impl HubCore {
         message: &[u8],
         limit: u32,
     ) -> Result<u32, AskFault> {
-        let live = self.live() as usize;
-        self.notes.reserve(live)?;
-        self.book.reserve(live)?;
+        self.notes.reserve(self.book.live())?;
         let ticket = Ticket::new(self.alloc, session, kind, message, limit)?;
+        let number = self.book.ask(ticket)?;
         let mark = self.mark();
         self.notes.ask(mark, self.turned);
         self.limits += limit;
-        Ok(self.book.ask(ticket))
+        Ok(number)
     }
 }
 

@@ -18,13 +18,13 @@ pub(crate) struct Notes {
 }
 
 impl Notes {
-    /// Nothing is noted. Takes no memory.
-    pub(crate) fn new(alloc: Global) -> Notes {
-        Notes {
-            marks: Vec::new(alloc),
+    /// Nothing is noted. Takes the memory for the mark of giving up.
+    pub(crate) fn new(alloc: Global) -> Result<Notes, Memory> {
+        Ok(Notes {
+            marks: Vec::with_capacity(alloc, 1)?,
             starts: Vec::new(alloc),
             births: Vec::new(alloc),
-        }
+        })
     }
 
     /// Takes the memory for a ticket more, and for the marks of what it will enter.

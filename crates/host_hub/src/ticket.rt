@@ -1,3 +1,5 @@
+ghost use Rattle.std.specs.Prelude.{◌≡◌, ◌≤◌, [], vec_capacity, IfOk};
+ghost use Rattle.host_hub.specs.declared.outcome.Outcome.TheVariants.{Live};
 ghost use Rattle.host_hub.specs.BookSeen.{Shows, seen_of};
 
 use crate::{Kind, Outcome, View};
@@ -25,7 +27,10 @@ impl Ticket {
         kind: Kind,
         message: &[u8],
         limit: u32,
-    ) -> Result<Ticket, Memory> {
+    ) -> Result<Ticket, Memory>
+        ensures asked { IfOk result (λ ticket. seen_of ticket ≡ record { session = session; kind = kind; limit = limit; last = 0; message = message.now; bytes = []; outcome = Live }) }
+        ensures room { IfOk result (λ ticket. limit ≤ vec_capacity ticket.bytes) }
+    {
         Ok(Ticket {
             session,
             kind,
