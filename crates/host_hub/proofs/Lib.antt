@@ -5,6 +5,7 @@ pub mod Grows
 pub mod Orders
 pub mod Seen
 pub mod Booking
+pub mod Knowing
 pub mod Lawful
 pub mod Numbers
 pub mod Pasts

@@ -22,9 +22,11 @@ pub mod Steps
 pub mod BookSeen
 pub mod BookRoom
 pub mod BookChanges
+pub mod Noted
 pub mod Refusals
 pub mod Shown
 pub mod Tied
+pub mod Knows
 pub mod Owned
 pub mod Worked
 pub mod WorkedStops

@@ -64,7 +64,7 @@ impl HubCore {
         message: &[u8],
         limit: u32,
     ) -> Result<u32, AskFault> {
-        self.notes.reserve(self.book.live())?;
+        self.notes.reserve(self.live() as usize)?;
         let ticket = Ticket::new(self.alloc, session, kind, message, limit)?;
         let number = self.book.ask(ticket)?;
         let mark = self.mark();

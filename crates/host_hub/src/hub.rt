@@ -79,10 +79,7 @@ impl<L: Link> Hub<L> {
 
     /// That number when this ticket was asked, or `None` where there is no such ticket.
     pub fn born(&self, ticket: u32) -> Option<u64> {
-        if ticket == 0 {
-            return None;
-        }
-        self.core.notes.births.get(ticket as usize - 1).copied()
+        self.core.notes.born(ticket)
     }
 
     /// The number of the next message.

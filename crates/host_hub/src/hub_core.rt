@@ -1,3 +1,11 @@
+ghost use Rattle.std.specs.Prelude.{◌≡◌, ℕ, ◌+◌, ◌∷◌, List, Some, false};
+ghost use Rattle.host_hub.specs.Order.{Setting};
+ghost use Rattle.host_hub.specs.Record.{Past, Settled};
+ghost use Rattle.host_hub.specs.Book.{active};
+ghost use Rattle.host_hub.specs.BookRoom.{is_open};
+ghost use Rattle.host_hub.specs.Law.{Lawful};
+ghost use Rattle.host_hub.specs.Knows.{HasActive, Knows, mark_of};
+
 use crate::book::Book;
 use crate::notes::{Mark, Notes};
 use crate::{End, Outcome};
@@ -79,7 +87,10 @@ impl HubCore {
     }
 
     /// How many whole messages were written and taken.
-    pub(crate) fn mark(&self) -> Mark {
+    pub(crate) fn mark(&self) -> Mark
+        requires { (s : Setting) × (past : Past) × (sent : List ℕ) × Knows s past sent self.now }
+        ensures { result ≡ mark_of self.now }
+    {
         Mark {
             written: self.urbs.next() - self.first,
             taken: self.taken,
@@ -92,7 +103,13 @@ impl HubCore {
     }
 
     /// Settles the active ticket.
-    pub(crate) fn settle(&mut self, outcome: Outcome) {
+    pub(crate) fn settle(&mut self, outcome: Outcome)
+        requires known { HasActive self.old }
+        requires settled { is_open outcome ≡ false }
+        ensures goes { (s : Setting) (past : Past) (sent : List ℕ) → Lawful s past → active past ≡ Some self.old.active → Knows s past sent self.old
+            → Knows s (Settled self.old.active outcome ∷ past) sent self.new }
+        ensures rest { self.new ≡ record self.old { book = self.new.book; notes = self.new.notes; active = self.old.active + 1 } }
+    {
         let mark = self.mark();
         self.book.settle(self.active, outcome);
         self.notes.mark(mark);

@@ -1,0 +1,235 @@
+-- what a hub's fields say of its record, as that goes on
+use Rattle.std.proofs.Common.{◌≡◌, ◌≢◌, ◌≤◌, ◌<◌, ◌⊎◌, ℕ, ◌+◌, ◌-◌, zero, suc, Bool, true, false, List, [], ◌∷◌, ◌++◌, length, Option, Some, None, refl, sym, subst, ◌∙◌, ap, arith, inl, inr}
+use Rattle.std.specs.Prelude.{◌==◌, slice_get, slice_set, if◌then◌else◌}
+use Rattle.std.proofs.lemmas.Bool.{eqb-true, eqb-false}
+use Rattle.usbip_wire.specs.Up as up
+use Rattle.host_urbs.specs.Record as urbs
+use Rattle.host_hub.specs.declared.book.BookEntry.{BookEntry}
+use Rattle.host_hub.specs.declared.book.BookEntry.TheVariants as entry
+use Rattle.host_hub.specs.declared.notes.Mark.{Mark}
+use Rattle.host_hub.specs.declared.hub_core.HubCore.{HubCore}
+use Rattle.host_hub.specs.declared.outcome.Outcome.{Outcome}
+use Rattle.host_hub.specs.declared.outcome.Outcome.TheVariants.{Live}
+use Rattle.host_hub.specs.declared.outcome.End.{End}
+use Rattle.host_hub.specs.BookSeen.{BookSeen, Seen, IsTicket, ticket_of}
+use Rattle.host_hub.specs.BookChanges.{with_seen, with_asked, with_settled}
+use Rattle.host_hub.specs.Noted.{Noted, with_mark, with_ticket, with_start}
+use Rattle.host_hub.specs.Order.{Setting}
+use Rattle.host_hub.specs.Record.{Past, Happening, Marked, Asked, Asking, Settled, Stopped, GaveUp, book, written, taken, next}
+use Rattle.host_hub.specs.Crossings.{crossings}
+use Rattle.host_hub.specs.Law.{Lawful}
+use Rattle.host_hub.specs.Book.{KeepsBook, active, first_of, tickets, live, remove, settled, outcome_of, asking_of, or_live, has}
+use Rattle.host_hub.specs.Shown.{ShowsBook, ShowsTicket, entries_in}
+use Rattle.host_hub.specs.Knows.{Knows, upwards, marks_in, mark_in, mark_of, spare}
+use Rattle.host_hub.specs.BookRoom.{is_open}
+use Rattle.host_hub.proofs.Lawful.{lawful_book}
+use Rattle.host_hub.proofs.Tickets.{dead}
+use Rattle.host_hub.proofs.Lists.{clash, differ, own, first_has}
+use Rattle.host_hub.proofs.Messages.{written_same, next_same}
+
+-- ---- lists
+
+some_one : (a b : Seen) → Some a ≡ Some b → a ≡ b
+some_one a b e = cc
+
+no_some : {P : Type 0} (a : Seen) → None ≡ Some a → P
+no_some a e = absurd (none e)
+  where
+    none : None ≡ Some a → ⊥
+    none k = cc
+
+get_same : (xs : List Seen) (i : ℕ) (x one : Seen) → slice_get (slice_set xs i x) i ≡ Some one → x ≡ one
+get_same [] i x one e = no_some one e
+get_same (y ∷ ys) zero x one e = some_one x one e
+get_same (y ∷ ys) (suc i) x one e = get_same ys i x one e
+
+get_other : (xs : List Seen) (i j : ℕ) (x : Seen) → (i ≡ j → ⊥) → slice_get (slice_set xs i x) j ≡ slice_get xs j
+get_other [] i j x h = refl
+get_other (y ∷ ys) zero zero x h = absurd (h refl)
+get_other (y ∷ ys) zero (suc j) x h = refl
+get_other (y ∷ ys) (suc i) zero x h = refl
+get_other (y ∷ ys) (suc i) (suc j) x h = get_other ys i j x (λ e. h (ap suc e))
+
+pub set_length : (xs : List Seen) (i : ℕ) (x : Seen) → length (slice_set xs i x) ≡ length xs
+set_length [] i x = refl
+set_length (y ∷ ys) zero x = refl
+set_length (y ∷ ys) (suc i) x = ap suc (set_length ys i x)
+
+-- ---- each ticket is shown
+
+pub Each : (Past) → List Seen → Type 0
+Each past xs = (u : ℕ) (one : Seen) → ticket_of u xs ≡ Some one → ShowsTicket past u one
+
+ticket_step : (b : Bool) (o : Option Seen) (one : Seen) → (if b then None else o) ≡ Some one → (b ≡ false) × (o ≡ Some one)
+ticket_step true o one e = no_some one e
+ticket_step false o one e = (refl, e)
+
+at_number : (u : ℕ) (xs : List Seen) (one : Seen) → ticket_of u xs ≡ Some one → ((u == 0) ≡ false) × (slice_get xs (u - 1) ≡ Some one)
+at_number u xs one e = ticket_step (u == 0) (slice_get xs (u - 1)) one e
+
+from_number : (u : ℕ) (xs : List Seen) (one : Seen) → (u == 0) ≡ false → slice_get xs (u - 1) ≡ Some one → ticket_of u xs ≡ Some one
+from_number u xs one h e = rw h e
+
+not_zero : (u : ℕ) → (u == 0) ≡ false → 1 ≤ u
+not_zero zero h = clash (sym h)
+not_zero (suc u) h = omega arith
+
+-- one is seen anew, and of the others what was shown still is
+pub each_set : (past : Past) (xs : List Seen) (t : ℕ) (x : Seen) → 1 ≤ t → ShowsTicket past t x
+    → ((u : ℕ) (one : Seen) → (t ≡ u → ⊥) → ticket_of u xs ≡ Some one → ShowsTicket past u one)
+    → (u : ℕ) (one : Seen) → ticket_of u (slice_set xs (t - 1) x) ≡ Some one → ShowsTicket past u one
+each_set past xs t x first mine others u one e = step (t == u) refl
+  where
+    at : ((u == 0) ≡ false) × (slice_get (slice_set xs (t - 1) x) (u - 1) ≡ Some one)
+    at = at_number u (slice_set xs (t - 1) x) one e
+    step : (b : Bool) → (t == u) ≡ b → ShowsTicket past u one
+    step true h =
+        let same : t ≡ u = eqb-true t u h in
+        let is : x ≡ one = get_same xs (t - 1) x one (subst (λ (n : ℕ). slice_get (slice_set xs (t - 1) x) (n - 1) ≡ Some one) (sym same) at.1) in
+        subst (λ (n : ℕ). ShowsTicket past n one) same (subst (λ (y : Seen). ShowsTicket past t y) is mine)
+    step false h =
+        let apart : t ≡ u → ⊥ = eqb-false t u h in
+        let there : 1 ≤ u = not_zero u at.0 in
+        others u one apart (from_number u xs one at.0
+        (sym (get_other xs (t - 1) (u - 1) x (λ k. apart (omega (arith, k, first, there)))) ∙ at.1))
+
+-- ---- the tickets that are not settled
+
+some_number : (a b : ℕ) → Some a ≡ Some b → a ≡ b
+some_number a b e = cc
+
+no_number : {P : Type 0} (a : ℕ) → None ≡ Some a → P
+no_number a e = absurd (none e)
+  where
+    none : None ≡ Some a → ⊥
+    none k = cc
+
+first_up : (n count u : ℕ) → first_of (upwards n count) ≡ Some u → 1 ≤ count
+first_up n zero u e = no_number u e
+first_up n (suc k) u e = omega arith
+
+pub some_wait : (s : Setting) (past : Past) (sent : List ℕ) (core : HubCore) → (k : Knows s past sent core) → active past ≡ Some core.active → 1 ≤ k.waiting
+some_wait s past sent core k turn = first_up core.active k.waiting core.active (ap first_of (sym k.row) ∙ turn)
+
+up_above : (n count t : ℕ) → t < n → remove t (upwards n count) ≡ upwards n count
+up_above n zero t h = refl
+up_above n (suc k) t h = rw (differ n t (λ e. omega (arith, e, h))) (ap (λ (l : List ℕ). n ∷ l) (up_above (n + 1) k t (omega (arith, h))))
+
+pub up_rest : (n count : ℕ) → remove n (upwards n (suc count)) ≡ upwards (n + 1) count
+up_rest n count = rw (own n) (up_above (n + 1) count n (omega arith))
+
+up_pred : (n count : ℕ) → 1 ≤ count → remove n (upwards n count) ≡ upwards (n + 1) (count - 1)
+up_pred n zero h = absurd (omega (arith, h))
+up_pred n (suc k) h = up_rest n k ∙ ap (upwards (n + 1)) (omega arith)
+
+-- ---- the active one
+
+pub known_ticket : (s : Setting) (past : Past) (sent : List ℕ) (core : HubCore) → Knows s past sent core → active past ≡ Some core.active → IsTicket core.book core.active
+known_ticket s past sent core k turn = record {
+  first = k.from_first;
+  last = omega (arith, k.shows.count, k.next_ticket, some_wait s past sent core k turn);
+}
+
+pub known_room : (s : Setting) (past : Past) (sent : List ℕ) (core : HubCore) → Knows s past sent core → active past ≡ Some core.active → 0 < core.notes.room
+known_room s past sent core k turn = omega (arith, k.room, some_wait s past sent core k turn)
+
+unsettled : (past : Past) (t : ℕ) → KeepsBook past → has t (live past) ≡ true → settled t past ≡ None
+unsettled past t book lives = step (settled t past) refl
+  where
+    step : (o : Option Outcome) → settled t past ≡ o → settled t past ≡ None
+    step None e = e
+    step (Some o) e = clash (sym (dead past t o book e) ∙ lives)
+
+pub known_open : (s : Setting) (past : Past) (sent : List ℕ) (core : HubCore) → Knows s past sent core → Lawful s past → active past ≡ Some core.active → (seen : Seen)
+    → ticket_of core.active core.book.tickets ≡ Some seen → is_open seen.outcome ≡ true
+known_open s past sent core k lawful turn seen found =
+    let shows : ShowsTicket past core.active seen = k.shows.each core.active seen found in
+    rw shows.outcome (rw (unsettled past core.active (lawful_book s past lawful) (first_has core.active (live past) turn)) refl)
+
+there_in : (xs : List Seen) (i : ℕ) → i < length xs → (seen : Seen) × (slice_get xs i ≡ Some seen)
+there_in [] i h = absurd (omega (arith, h))
+there_in (x ∷ xs) zero h = (x, refl)
+there_in (x ∷ xs) (suc i) h = there_in xs i (omega (arith, h))
+
+pub seen_there : (book : BookSeen) (n : ℕ) → IsTicket book n → (seen : Seen) × (ticket_of n book.tickets ≡ Some seen)
+seen_there book n there =
+    let at : (seen : Seen) × (slice_get book.tickets (n - 1) ≡ Some seen) = there_in book.tickets (n - 1) (omega (arith, there.first, there.last)) in
+    (at.0, from_number n book.tickets at.0 (differ n 0 (λ e. omega (arith, e, there.first))) at.1)
+
+-- ---- entries and their marks
+
+entries_added : (xs : List Marked) (x : Marked) → entries_in (xs ++ x ∷ []) ≡ entries_in xs ++ x.entry ∷ []
+entries_added [] x = refl
+entries_added (y ∷ ys) x = ap (λ (l : List BookEntry). y.entry ∷ l) (entries_added ys x)
+
+marks_added : (xs : List Marked) (x : Marked) → marks_in (xs ++ x ∷ []) ≡ marks_in xs ++ mark_in x ∷ []
+marks_added [] x = refl
+marks_added (y ∷ ys) x = ap (λ (l : List Mark). mark_in y ∷ l) (marks_added ys x)
+
+abbrev pub now_mark : Setting → Past → Mark
+now_mark s past = record { written = length (written s past); taken = length (taken past) }
+
+pub mark_is : (s : Setting) (past : Past) (sent : List ℕ) (core : HubCore) → Knows s past sent core → mark_of core ≡ now_mark s past
+mark_is s past sent core k =
+    let count : core.urbs.next - core.first ≡ length (written s past) =
+        omega (arith, k.follows.number, k.first_number, ap (λ (l : List up.Message). length l) (written_same s past)) in
+    rw count (rw k.answers refl)
+
+-- the entries and the marks with one more
+pub entered : (s : Setting) (past : Past) (made : List BookEntry) (e : BookEntry) → made ≡ entries_in (book s past)
+    → made ++ e ∷ [] ≡ entries_in (book s past ++ record { entry = e; written = length (written s past); taken = length (taken past) } ∷ [])
+entered s past made e h =
+    rw h (sym (entries_added (book s past) (record { entry = e; written = length (written s past); taken = length (taken past) })))
+
+pub marked_too : (s : Setting) (past : Past) (sent : List ℕ) (core : HubCore) (e : BookEntry) → Knows s past sent core
+    → core.notes.marks ++ mark_of core ∷ [] ≡ marks_in (book s past ++ record { entry = e; written = length (written s past); taken = length (taken past) } ∷ [])
+marked_too s past sent core e k =
+    rw (mark_is s past sent core k) (rw k.marks (sym (marks_added (book s past) (record { entry = e; written = length (written s past); taken = length (taken past) }))))
+
+-- ---- a ticket is settled
+
+settled_shown : (s : Setting) (past : Past) (t u : ℕ) (o : Outcome) (one : Seen) → (t ≡ u → ⊥) → ShowsTicket past u one → ShowsTicket (Settled t o ∷ past) u one
+settled_shown s past t u o one apart h = record { asking = h.asking; last = h.last; bytes = h.bytes; outcome = rw (differ t u apart) h.outcome }
+
+settled_mine : (past : Past) (t : ℕ) (o : Outcome) (one : Seen) → ShowsTicket past t one → ShowsTicket (Settled t o ∷ past) t (record one { outcome = o })
+settled_mine past t o one h = record { asking = h.asking; last = h.last; bytes = h.bytes; outcome = rw (own t) refl }
+
+book_settled : (s : Setting) (past : Past) (shown : BookSeen) (t : ℕ) (o : Outcome) (seen : Seen) → 1 ≤ t → ticket_of t shown.tickets ≡ Some seen → ShowsBook s past shown
+    → ShowsBook s (Settled t o ∷ past) (with_settled t seen o shown)
+book_settled s past shown t o seen first found h = record {
+  count = set_length shown.tickets (t - 1) (record seen { outcome = o }) ∙ h.count;
+  each = each_set (Settled t o ∷ past) shown.tickets t (record seen { outcome = o }) first (settled_mine past t o seen (h.each t seen found))
+      (λ u one apart e. settled_shown s past t u o one apart (h.each u one e));
+  entries = entered s past shown.entries (entry.Settled t) h.entries;
+  service = h.service;
+}
+
+pub knows_settled : (s : Setting) (past : Past) (sent : List ℕ) (core : HubCore) (o : Outcome) (b : BookSeen) (n : Noted) → active past ≡ Some core.active
+    → Knows s past sent core → ((seen : Seen) → ticket_of core.active core.book.tickets ≡ Some seen → b ≡ with_settled core.active seen o core.book)
+    → n ≡ with_mark (mark_of core) core.notes
+    → Knows s (Settled core.active o ∷ past) sent (record core { book = b; notes = n; active = core.active + 1 })
+knows_settled s past sent core o b n turn k settles notes =
+    let at : (seen : Seen) × (ticket_of core.active core.book.tickets ≡ Some seen) = seen_there core.book core.active (known_ticket s past sent core k turn) in
+    let some : 1 ≤ k.waiting = some_wait s past sent core k turn in
+    rw (settles at.0 at.1) (rw notes (record {
+      shallow = k.shallow;
+      first_number = k.first_number;
+      interface = k.interface;
+      device = k.device;
+      follows = k.follows;
+      shows = book_settled s past core.book core.active o at.0 k.from_first at.1 k.shows;
+      marks = marked_too s past sent core (entry.Settled core.active) k;
+      all_started = k.all_started;
+      starts = k.starts;
+      all_born = k.all_born;
+      limit_sum = k.limit_sum;
+      tag = k.tag;
+      answers = k.answers;
+      over = k.over;
+      few = k.few;
+      waiting = k.waiting - 1;
+      row = rw k.row (up_pred core.active k.waiting some);
+      next_ticket = omega (arith, k.next_ticket, some);
+      from_first = omega arith;
+      room = omega (arith, k.room, some);
+    }))
