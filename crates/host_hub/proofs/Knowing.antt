@@ -15,7 +15,7 @@ use Rattle.host_hub.specs.BookSeen.{BookSeen, Seen, IsTicket, ticket_of}
 use Rattle.host_hub.specs.BookChanges.{with_seen, with_asked, with_settled}
 use Rattle.host_hub.specs.Noted.{Noted, with_mark, with_ticket, with_start}
 use Rattle.host_hub.specs.Order.{Setting}
-use Rattle.host_hub.specs.Record.{Past, Happening, Marked, Asked, Asking, Settled, Stopped, GaveUp, book, written, taken, next}
+use Rattle.host_hub.specs.Record.{Past, Happening, Marked, Asked, Asking, Settled, Stopped, GaveUp, Wrote, book, written, taken, next}
 use Rattle.host_hub.specs.Crossings.{crossings}
 use Rattle.host_hub.specs.Law.{Lawful}
 use Rattle.host_hub.specs.Book.{KeepsBook, active, first_of, tickets, live, remove, settled, outcome_of, asking_of, or_live, has}
@@ -23,8 +23,16 @@ use Rattle.host_hub.specs.Shown.{ShowsBook, ShowsTicket, entries_in}
 use Rattle.host_hub.specs.Knows.{Knows, upwards, marks_in, mark_in, mark_of, spare}
 use Rattle.host_hub.specs.BookRoom.{is_open}
 use Rattle.host_hub.proofs.Lawful.{lawful_book}
-use Rattle.host_hub.proofs.Tickets.{dead}
-use Rattle.host_hub.proofs.Lists.{clash, differ, own, first_has}
+use Rattle.host_hub.proofs.Tickets.{dead, settled_low}
+use Rattle.host_hub.proofs.Pasts.{unasked_begun}
+use Rattle.host_hub.proofs.Starts.{unbegun_start}
+use Rattle.host_hub.proofs.Within.{none_unbegun}
+use Rattle.host_hub.specs.Hand.{is_begun, is_of, start}
+use Rattle.host_hub.specs.Pieces.{data_in}
+use Rattle.host_hub.specs.Plan.{message_end}
+use Rattle.host_hub.specs.Steps.{asked}
+use Rattle.host_hub.specs.declared.limits.TheConstants.{TICKETS_MAX}
+use Rattle.host_hub.proofs.Lists.{clash, differ, own, first_has, neither}
 use Rattle.host_hub.proofs.Messages.{written_same, next_same}
 
 -- ---- lists
@@ -233,3 +241,158 @@ knows_settled s past sent core o b n turn k settles notes =
       from_first = omega arith;
       room = omega (arith, k.room, some);
     }))
+
+-- ---- a ticket is asked
+
+-- the last of a list, or one before it
+get_added : (xs : List Seen) (i : ℕ) (x one : Seen) → slice_get (xs ++ x ∷ []) i ≡ Some one → (slice_get xs i ≡ Some one) ⊎ ((i ≡ length xs) × (x ≡ one))
+get_added [] zero x one e = inr (refl, some_one x one e)
+get_added [] (suc i) x one e = no_some one e
+get_added (y ∷ ys) zero x one e = inl e
+get_added (y ∷ ys) (suc i) x one e = step (get_added ys i x one e)
+  where
+    step : (slice_get ys i ≡ Some one) ⊎ ((i ≡ length ys) × (x ≡ one)) → (slice_get ys i ≡ Some one) ⊎ ((suc i ≡ suc (length ys)) × (x ≡ one))
+    step (inl h) = inl h
+    step (inr h) = inr (ap suc h.0, h.1)
+
+number_added : (xs : List ℕ) (i : ℕ) (x n : ℕ) → slice_get (xs ++ x ∷ []) i ≡ Some n → (slice_get xs i ≡ Some n) ⊎ ((i ≡ length xs) × (x ≡ n))
+number_added [] zero x n e = inr (refl, some_number x n e)
+number_added [] (suc i) x n e = no_number n e
+number_added (y ∷ ys) zero x n e = inl e
+number_added (y ∷ ys) (suc i) x n e = step (number_added ys i x n e)
+  where
+    step : (slice_get ys i ≡ Some n) ⊎ ((i ≡ length ys) × (x ≡ n)) → (slice_get ys i ≡ Some n) ⊎ ((suc i ≡ suc (length ys)) × (x ≡ n))
+    step (inl h) = inl h
+    step (inr h) = inr (ap suc h.0, h.1)
+
+get_within : (xs : List Seen) (i : ℕ) (one : Seen) → slice_get xs i ≡ Some one → i < length xs
+get_within [] i one e = no_some one e
+get_within (y ∷ ys) zero one e = omega arith
+get_within (y ∷ ys) (suc i) one e = omega (arith, get_within ys i one e)
+
+seen_length : (xs : List Seen) (x : Seen) → length (xs ++ x ∷ []) ≡ length xs + 1
+seen_length [] x = refl
+seen_length (y ∷ ys) x = omega (arith, seen_length ys x)
+
+number_length : (xs : List ℕ) (x : ℕ) → length (xs ++ x ∷ []) ≡ length xs + 1
+number_length [] x = refl
+number_length (y ∷ ys) x = omega (arith, number_length ys x)
+
+up_more : (n k : ℕ) → upwards n k ++ (n + k) ∷ [] ≡ upwards n (k + 1)
+up_more n zero = ap (λ (m : ℕ). m ∷ []) (omega arith)
+up_more n (suc k) =
+    let same : n + suc k ≡ (n + 1) + k = omega arith in
+    let more : suc k + 1 ≡ suc (k + 1) = omega arith in
+    rw same (rw more (ap (λ (l : List ℕ). n ∷ l) (up_more (n + 1) k)))
+
+unbegun_end : (t : ℕ) (past : Past) → is_begun t past ≡ false → message_end t past ≡ 0
+unbegun_end t [] h = refl
+unbegun_end t (Wrote n o k ∷ past) h =
+    let e : (is_of t o ≡ false) × (is_begun t past ≡ false) = neither (is_of t o) (is_begun t past) h in
+    let other : is_of t o ≡ false = e.0 in
+    rw other (unbegun_end t past e.1)
+unbegun_end t (x ∷ past) h = unbegun_end t past h
+
+unasked_settled : (past : Past) (t : ℕ) → KeepsBook past → tickets past < t → settled t past ≡ None
+unasked_settled past t book h = step (settled t past) refl
+  where
+    step : (o : Option Outcome) → settled t past ≡ o → settled t past ≡ None
+    step None e = e
+    step (Some o) e = absurd (omega (arith, h, settled_low past t o book e))
+
+abbrev pub seen_asked : Asking → Seen
+seen_asked a = record { session = a.session; kind = a.kind; limit = a.limit; last = 0; message = a.message; bytes = []; outcome = Live }
+
+asked_mine : (s : Setting) (past : Past) (a : Asking) → Lawful s past → ShowsTicket (asked past a) (tickets past + 1) (seen_asked a)
+asked_mine s past a lawful =
+    let new : is_begun (tickets past + 1) past ≡ false = unasked_begun s past lawful (tickets past + 1) (omega arith) in
+    record {
+      asking = rw (own (tickets past + 1)) refl;
+      last = sym (unbegun_end (tickets past + 1) past new);
+      bytes = sym (ap data_in (none_unbegun (tickets past + 1) past new));
+      outcome = rw (unasked_settled past (tickets past + 1) (lawful_book s past lawful) (omega arith)) refl;
+    }
+
+asked_other : (past : Past) (a : Asking) (u : ℕ) (one : Seen) → (tickets past + 1 ≡ u → ⊥) → ShowsTicket past u one → ShowsTicket (asked past a) u one
+asked_other past a u one apart h = record { asking = rw (differ (tickets past + 1) u apart) h.asking; last = h.last; bytes = h.bytes; outcome = h.outcome }
+
+book_asked : (s : Setting) (past : Past) (shown : BookSeen) (a : Asking) → Lawful s past → ShowsBook s past shown
+    → ShowsBook s (asked past a) (with_asked (seen_asked a) shown)
+book_asked s past shown a lawful h = record {
+  count = seen_length shown.tickets (seen_asked a) ∙ ap (λ (n : ℕ). n + 1) h.count;
+  each = λ u one e.
+      (let at : ((u == 0) ≡ false) × (slice_get (shown.tickets ++ seen_asked a ∷ []) (u - 1) ≡ Some one) = at_number u (shown.tickets ++ seen_asked a ∷ []) one e in
+      let there : 1 ≤ u = not_zero u at.0 in
+      which u one at.0 there (get_added shown.tickets (u - 1) (seen_asked a) one at.1));
+  entries = rw h.count (entered s past shown.entries (entry.Asked (tickets past + 1)) h.entries);
+  service = h.service;
+}
+  where
+    which : (u : ℕ) (one : Seen) → (u == 0) ≡ false → 1 ≤ u
+        → (slice_get shown.tickets (u - 1) ≡ Some one) ⊎ ((u - 1 ≡ length shown.tickets) × (seen_asked a ≡ one)) → ShowsTicket (asked past a) u one
+    which u one other there (inl e) =
+        asked_other past a u one (λ k. omega (arith, k, h.count, there, get_within shown.tickets (u - 1) one e)) (h.each u one (from_number u shown.tickets one other e))
+    which u one other there (inr e) =
+        let is : tickets past + 1 ≡ u = omega (arith, e.0, h.count, there) in
+        subst (λ (n : ℕ). ShowsTicket (asked past a) n one) is (subst (ShowsTicket (asked past a) (tickets past + 1)) e.1 (asked_mine s past a lawful))
+
+starts_asked : (s : Setting) (past : Past) (a : Asking) (xs : List ℕ) → Lawful s past → length xs ≡ tickets past → ((t n : ℕ) → slice_get xs t ≡ Some n → n ≡ start (t + 1) past)
+    → (t n : ℕ) → slice_get (xs ++ 0 ∷ []) t ≡ Some n → n ≡ start (t + 1) (asked past a)
+starts_asked s past a xs lawful count h t n e = which (number_added xs t 0 n e)
+  where
+    which : (slice_get xs t ≡ Some n) ⊎ ((t ≡ length xs) × (0 ≡ n)) → n ≡ start (t + 1) past
+    which (inl k) = h t n k
+    which (inr k) = sym k.1 ∙ sym (unbegun_start (t + 1) past (unasked_begun s past lawful (t + 1) (omega (arith, k.0, count))))
+
+pub knows_asked : (s : Setting) (past : Past) (sent : List ℕ) (core : HubCore) (a : Asking) (room places sum : ℕ) (b : BookSeen) (n : Noted) → Lawful s past
+    → (k : Knows s past sent core) → core.end ≡ None → length core.book.tickets < TICKETS_MAX → k.waiting + 3 ≤ room → b ≡ with_asked (seen_asked a) core.book
+    → n ≡ with_ticket (mark_of core) core.turned (record core.notes { room = room; places = places }) → sum ≡ core.limits + a.limit
+    → Knows s (asked past a) sent (record core { book = b; notes = n; limits = sum })
+knows_asked s past sent core a room places sum b n lawful k running few spare asks notes total =
+    rw asks (rw notes (rw total (record {
+      shallow = k.shallow;
+      first_number = k.first_number;
+      interface = k.interface;
+      device = k.device;
+      follows = k.follows;
+      shows = book_asked s past core.book a lawful k.shows;
+      marks = marked_too s past sent core (entry.Asked (tickets past + 1)) k;
+      all_started = number_length core.notes.starts 0 ∙ ap (λ (m : ℕ). m + 1) k.all_started;
+      starts = starts_asked s past a core.notes.starts lawful k.all_started k.starts;
+      all_born = number_length core.notes.births core.turned ∙ ap (λ (m : ℕ). m + 1) k.all_born;
+      limit_sum = ap (λ (m : ℕ). m + a.limit) k.limit_sum;
+      tag = k.tag;
+      answers = k.answers;
+      over = k.over;
+      few = omega (arith, few, k.shows.count);
+      waiting = k.waiting + 1;
+      row = rw k.row (ap (λ (m : ℕ). upwards core.active k.waiting ++ m ∷ []) (sym k.next_ticket) ∙ up_more core.active k.waiting);
+      next_ticket = omega (arith, k.next_ticket);
+      from_first = k.from_first;
+      room = rw running (omega (arith, spare));
+    })))
+
+pub knows_roomier : (s : Setting) (past : Past) (sent : List ℕ) (core : HubCore) (room places : ℕ) → (k : Knows s past sent core) → core.notes.room ≤ room
+    → Knows s past sent (record core { notes = record core.notes { room = room; places = places } })
+knows_roomier s past sent core room places k more = record {
+  shallow = k.shallow;
+  first_number = k.first_number;
+  interface = k.interface;
+  device = k.device;
+  follows = k.follows;
+  shows = k.shows;
+  marks = k.marks;
+  all_started = k.all_started;
+  starts = k.starts;
+  all_born = k.all_born;
+  limit_sum = k.limit_sum;
+  tag = k.tag;
+  answers = k.answers;
+  over = k.over;
+  few = k.few;
+  waiting = k.waiting;
+  row = k.row;
+  next_ticket = k.next_ticket;
+  from_first = k.from_first;
+  room = omega (arith, k.room, more);
+}

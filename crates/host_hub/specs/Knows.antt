@@ -6,7 +6,7 @@ use Rattle.host_hub.specs.declared.limits.TheConstants.{TICKETS_MAX}
 use Rattle.host_hub.specs.declared.notes.Mark.{Mark}
 use Rattle.host_hub.specs.declared.outcome.End.{End}
 use Rattle.host_hub.specs.Order.{Setting}
-use Rattle.host_hub.specs.Record.{Past, Marked, book, taken}
+use Rattle.host_hub.specs.Record.{Past, Marked, book, taken, next}
 use Rattle.host_hub.specs.Crossings.{crossings}
 use Rattle.host_hub.specs.Hand.{start, ended}
 use Rattle.host_hub.specs.Book.{tickets, live, active}
@@ -69,3 +69,18 @@ pub record HasActive (core : HubCore) : Type 0 where
   pub knows : Knows setting past sent core
   pub lawful : Lawful setting past
   pub turn : active past ≡ Some core.active
+
+-- what a refusal goes by
+pub record Tells (s : Setting) (past : Past) (core : HubCore) : Type 0 where
+  pub over : ended past ≡ core.end
+  pub count : tickets past ≡ length core.book.tickets
+  pub limit_sum : limits past ≡ core.limits
+  pub number : next s.first past ≡ core.urbs.next
+
+-- there is a record of these fields
+pub record HasRecord (core : HubCore) : Type 0 where
+  pub setting : Setting
+  pub past : Past
+  pub sent : List ℕ
+  pub knows : Knows setting past sent core
+  pub lawful : Lawful setting past

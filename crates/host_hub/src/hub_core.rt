@@ -1,10 +1,11 @@
-ghost use Rattle.std.specs.Prelude.{◌≡◌, ℕ, ◌+◌, ◌∷◌, List, Some, false};
+ghost use Rattle.std.specs.Prelude.{◌≡◌, ◌≤◌, ℕ, ◌+◌, ◌∷◌, List, Some, false};
+ghost use Rattle.host_hub.specs.declared.limits.TheConstants.{TICKETS_MAX};
 ghost use Rattle.host_hub.specs.Order.{Setting};
 ghost use Rattle.host_hub.specs.Record.{Past, Settled};
 ghost use Rattle.host_hub.specs.Book.{active};
 ghost use Rattle.host_hub.specs.BookRoom.{is_open};
 ghost use Rattle.host_hub.specs.Law.{Lawful};
-ghost use Rattle.host_hub.specs.Knows.{HasActive, Knows, mark_of};
+ghost use Rattle.host_hub.specs.Knows.{HasActive, HasRecord, Knows, mark_of};
 
 use crate::book::Book;
 use crate::notes::{Mark, Notes};
@@ -88,7 +89,7 @@ impl HubCore {
 
     /// How many whole messages were written and taken.
     pub(crate) fn mark(&self) -> Mark
-        requires { (s : Setting) × (past : Past) × (sent : List ℕ) × Knows s past sent self.now }
+        requires { HasRecord self.now }
         ensures { result ≡ mark_of self.now }
     {
         Mark {
@@ -98,7 +99,11 @@ impl HubCore {
     }
 
     /// How many tickets are not settled.
-    pub(crate) fn live(&self) -> u32 {
+    pub(crate) fn live(&self) -> u32
+        requires { HasRecord self.now }
+        ensures waiting { (s : Setting) (past : Past) (sent : List ℕ) (knows : Knows s past sent self.now) → result ≡ knows.waiting }
+        ensures few { result ≤ TICKETS_MAX }
+    {
         self.book.tickets() + 1 - self.active
     }
 
