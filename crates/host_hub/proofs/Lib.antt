@@ -6,6 +6,7 @@ pub mod Orders
 pub mod Seen
 pub mod Booking
 pub mod Knowing
+pub mod Lengths
 pub mod Lawful
 pub mod Numbers
 pub mod Pasts

@@ -1,16 +1,70 @@
 //! What a hub writes for the active ticket.
 
+ghost use Rattle.std.specs.Prelude.{◌≡◌, ◌≤◌, ◌<◌, ◌+◌, ◌*◌, ◌∷◌, [], ℕ, List, length, nat_le, true, false};
+ghost use Rattle.tmc_base.specs.declared.limits.TheConstants.{BULK_IN_SUBMIT};
+ghost use Rattle.usbip_wire.specs.declared.urb.Dir.TheVariants.{In};
+ghost use Rattle.usbip_wire.specs.declared.urb.TheConstants.{ENDPOINT_MAX};
+ghost use Rattle.host_urbs.specs.declared.limits.TheConstants.{LAST_SUBMIT};
+ghost use Rattle.host_urbs.specs.Held.{HasPlace, Follows, submit_by, submit_out, wrote};
+ghost use Rattle.host_urbs.specs.Record as urbs_record;
+ghost use Rattle.host_transfers.specs.declared.limits.TheConstants.{PART_MAX, REQUEST_MAX};
+ghost use Rattle.host_transfers.specs.Tags.{tag_behind};
+ghost use Rattle.host_hub.specs.Order.{Request, no_setup, number_of, text_of};
+ghost use Rattle.host_hub.specs.Plan.{part_of};
+
 use crate::End;
 use crate::hub_core::{HubCore, Phase};
-use host_transfers::{Assembly, REQUEST_MAX, part_of, submit_transfer};
-use host_urbs::LAST_SUBMIT;
+use host_transfers::{Assembly, REQUEST_MAX, Tags, part_of, submit_transfer};
+use host_urbs::{LAST_SUBMIT, Urbs};
 use tmc_base::BULK_IN_SUBMIT;
 use tmc_wire::{BULK_HEADER, OutHeader};
 use usbip_wire::Dir;
 
 /// The number of an endpoint: the low four bits of its address (USB 2.0, table 9-13).
-pub(crate) fn number_of(address: u8) -> u32 {
+pub(crate) fn number_of(address: u8) -> u32
+    ensures number { result ≡ number_of address }
+    ensures most { result ≤ ENDPOINT_MAX }
+{
     u32::from(address % 16)
+}
+
+/// A part of a message that was written.
+#[derive(Clone, Copy, Debug)]
+struct Written {
+    number: u32,
+    asked: u32,
+    eom: bool,
+}
+
+/// Writes the part of this number, counted from 0, where all that was written before is sent.
+fn put_part(urbs: &mut Urbs, tags: &mut Tags, ep: u32, message: &[u8], count: usize) -> Written
+    requires last { urbs.old.next ≤ LAST_SUBMIT }
+    requires place { HasPlace urbs.old }
+    requires empty { urbs.old.outbox ≡ [] }
+    requires endpoint { ep ≤ ENDPOINT_MAX }
+    requires there { PART_MAX * count < length message.now }
+    ensures written { urbs.new ≡ wrote (submit_out urbs.old ep (text_of (part_of (tag_behind tags.old) count message.now))) urbs.old }
+    ensures recorded { (first : ℕ) (past : urbs_record.Past) (sent : List ℕ) → Follows first past sent urbs.old
+        → Follows first (urbs_record.Wrote (submit_out urbs.old ep (text_of (part_of (tag_behind tags.old) count message.now))) ∷ past) sent urbs.new }
+    ensures tag { tags.new ≡ tag_behind tags.old }
+    ensures number { result.number ≡ urbs.old.next }
+    ensures asked { result.asked ≡ length (text_of (part_of (tag_behind tags.old) count message.now)) }
+    ensures eom { result.eom ≡ nat_le (length message.now) (PART_MAX * (count + 1)) }
+{
+    let part = part_of(message, count);
+    let tag = tags.draw();
+    let header = OutHeader::Message {
+        tag,
+        size: part.text.len() as u32,
+        eom: part.eom,
+    };
+    let number = submit_transfer(urbs, ep, header, part.text);
+    let padding = (4 - part.text.len() % 4) % 4;
+    Written {
+        number,
+        asked: (BULK_HEADER + part.text.len() + padding) as u32,
+        eom: part.eom,
+    }
 }
 
 impl HubCore {
@@ -53,20 +107,19 @@ impl HubCore {
         let Some(view) = self.book.view(self.active) else {
             unreachable!()
         };
-        let part = part_of(view.message, self.parts as usize);
-        let header = OutHeader::Message {
-            tag: self.tags.draw(),
-            size: part.text.len() as u32,
-            eom: part.eom,
-        };
         let ep = number_of(self.ends.bulk_out);
-        let number = submit_transfer(&mut self.urbs, ep, header, part.text);
-        self.asked = (BULK_HEADER + part.text.len().next_multiple_of(4)) as u32;
-        let eom = part.eom;
+        let written = put_part(
+            &mut self.urbs,
+            &mut self.tags,
+            ep,
+            view.message,
+            self.parts as usize,
+        );
+        self.asked = written.asked;
         self.parts += 1;
         self.phase = Phase::Message;
-        if eom {
-            self.book.end_message(self.active, number);
+        if written.eom {
+            self.book.end_message(self.active, written.number);
         }
     }
 
