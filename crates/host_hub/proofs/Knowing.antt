@@ -30,7 +30,8 @@ use Rattle.host_hub.proofs.Within.{none_unbegun}
 use Rattle.host_hub.specs.Hand.{is_begun, is_of, start}
 use Rattle.host_hub.specs.Pieces.{data_in}
 use Rattle.host_hub.specs.Plan.{message_end}
-use Rattle.host_hub.specs.Steps.{asked}
+use Rattle.host_hub.specs.Steps.{asked, settle_all}
+use Rattle.host_hub.specs.Causes.{named}
 use Rattle.host_hub.specs.declared.limits.TheConstants.{TICKETS_MAX}
 use Rattle.host_hub.proofs.Lists.{clash, differ, own, first_has, neither}
 use Rattle.host_hub.proofs.Messages.{written_same, next_same}
@@ -148,11 +149,11 @@ unsettled past t book lives = step (settled t past) refl
     step None e = e
     step (Some o) e = clash (sym (dead past t o book e) ∙ lives)
 
-pub known_open : (s : Setting) (past : Past) (sent : List ℕ) (core : HubCore) → Knows s past sent core → Lawful s past → active past ≡ Some core.active → (seen : Seen)
+pub known_open : (s : Setting) (past : Past) (sent : List ℕ) (core : HubCore) → Knows s past sent core → KeepsBook past → active past ≡ Some core.active → (seen : Seen)
     → ticket_of core.active core.book.tickets ≡ Some seen → is_open seen.outcome ≡ true
-known_open s past sent core k lawful turn seen found =
+known_open s past sent core k keeps turn seen found =
     let shows : ShowsTicket past core.active seen = k.shows.each core.active seen found in
-    rw shows.outcome (rw (unsettled past core.active (lawful_book s past lawful) (first_has core.active (live past) turn)) refl)
+    rw shows.outcome (rw (unsettled past core.active keeps (first_has core.active (live past) turn)) refl)
 
 there_in : (xs : List Seen) (i : ℕ) → i < length xs → (seen : Seen) × (slice_get xs i ≡ Some seen)
 there_in [] i h = absurd (omega (arith, h))
@@ -396,3 +397,103 @@ knows_roomier s past sent core room places k more = record {
   from_first = k.from_first;
   room = omega (arith, k.room, more);
 }
+
+-- ---- the hub ends
+
+none_waits : (n k : ℕ) → [] ≡ upwards n k → k ≡ 0
+none_waits n zero e = refl
+none_waits n (suc k) e = absurd (no e)
+  where
+    no : [] ≡ n ∷ upwards (n + 1) k → ⊥
+    no h = cc
+
+pub has_active : (s : Setting) (past : Past) (sent : List ℕ) (core : HubCore) → (k : Knows s past sent core) → core.active ≤ length core.book.tickets → active past ≡ Some core.active
+has_active s past sent core k h = rw k.row (first (core.active) k.waiting (omega (arith, h, k.shows.count, k.next_ticket)))
+  where
+    first : (n count : ℕ) → 1 ≤ count → first_of (upwards n count) ≡ Some n
+    first n zero e = absurd (omega (arith, e))
+    first n (suc m) e = refl
+
+pub none_active : (s : Setting) (past : Past) (sent : List ℕ) (core : HubCore) → (k : Knows s past sent core) → length core.book.tickets < core.active → live past ≡ []
+none_active s past sent core k h =
+    let none : k.waiting ≡ 0 = omega (arith, h, k.shows.count, k.next_ticket) in
+    k.row ∙ ap (upwards core.active) none
+
+pub live_one : (s : Setting) (past : Past) (sent : List ℕ) (core : HubCore) → (k : Knows s past sent core) → active past ≡ Some core.active
+    → live past ≡ core.active ∷ remove core.active (live past)
+live_one s past sent core k turn = step k.waiting k.row (some_wait s past sent core k turn)
+  where
+    step : (n : ℕ) → live past ≡ upwards core.active n → 1 ≤ n → live past ≡ core.active ∷ remove core.active (live past)
+    step zero e h = absurd (omega (arith, h))
+    step (suc n) e h = e ∙ ap (λ (l : List ℕ). core.active ∷ l) (sym (up_rest core.active n) ∙ ap (remove core.active) (sym e))
+
+pub knows_stopped : (s : Setting) (past : Past) (sent : List ℕ) (core : HubCore) (e : End) → core.end ≡ None → Knows s past sent core
+    → Knows s (Stopped e ∷ past) sent (record core { end = Some e })
+knows_stopped s past sent core e running k = record {
+  shallow = k.shallow;
+  first_number = k.first_number;
+  interface = k.interface;
+  device = k.device;
+  follows = k.follows;
+  shows = record { count = k.shows.count; each = λ u one h. shown_still u one (k.shows.each u one h); entries = k.shows.entries; service = k.shows.service };
+  marks = k.marks;
+  all_started = k.all_started;
+  starts = k.starts;
+  all_born = k.all_born;
+  limit_sum = k.limit_sum;
+  tag = k.tag;
+  answers = k.answers;
+  over = refl;
+  few = k.few;
+  waiting = k.waiting;
+  row = k.row;
+  next_ticket = k.next_ticket;
+  from_first = k.from_first;
+  room = omega (arith, k.room);
+}
+  where
+    shown_still : (u : ℕ) (one : Seen) → ShowsTicket past u one → ShowsTicket (Stopped e ∷ past) u one
+    shown_still u one h = record { asking = h.asking; last = h.last; bytes = h.bytes; outcome = h.outcome }
+
+-- the tickets that are left settle as they would have
+pub record Reached (s : Setting) (e : End) (sent : List ℕ) (past : Past) (now : HubCore) : Type 0 where
+  pub when : Past
+  pub knows : Knows s when sent now
+  pub keeps : KeepsBook when
+  pub same : settle_all e (live when) when ≡ settle_all e (live past) past
+
+pub record GoesOnTo (s : Setting) (e : End) (sent : List ℕ) (old now : HubCore) : Type 0 where
+  pub to : (past : Past) → KeepsBook past → Knows s past sent old → Reached s e sent past now
+
+pub begins : (s : Setting) (e : End) (sent : List ℕ) (core : HubCore) → GoesOnTo s e sent core core
+begins s e sent core = record { to = λ past keeps k. record { when = past; knows = k; keeps = keeps; same = refl } }
+
+settles_next : (e : End) (t : ℕ) (ts : List ℕ) (past : Past) → live past ≡ t ∷ ts → live (Settled t (named e) ∷ past) ≡ ts
+    → settle_all e (live (Settled t (named e) ∷ past)) (Settled t (named e) ∷ past) ≡ settle_all e (live past) past
+settles_next e t ts past now next =
+    ap (λ (l : List ℕ). settle_all e l (Settled t (named e) ∷ past)) next ∙ sym (ap (λ (l : List ℕ). settle_all e l past) now)
+
+pub goes_further : (s : Setting) (e : End) (sent : List ℕ) (old now next : HubCore) → GoesOnTo s e sent old now
+    → ((past : Past) → KeepsBook past → Knows s past sent now → active past ≡ Some now.active)
+    → ((past : Past) → active past ≡ Some now.active → Knows s past sent now → Knows s (Settled now.active (named e) ∷ past) sent next)
+    → GoesOnTo s e sent old next
+goes_further s e sent old now next goes turns settles = record { to = λ past keeps k. step past (goes.to past keeps k) }
+  where
+    step : (past : Past) → Reached s e sent past now → Reached s e sent past next
+    step past r =
+        let turn : active r.when ≡ Some now.active = turns r.when r.keeps r.knows in
+        record {
+          when = Settled now.active (named e) ∷ r.when;
+          knows = settles r.when turn r.knows;
+          keeps = (r.keeps, first_has now.active (live r.when) turn);
+          same = settles_next e now.active (remove now.active (live r.when)) r.when (live_one s r.when sent now r.knows turn) refl ∙ r.same;
+        }
+
+pub all_settled : (s : Setting) (e : End) (sent : List ℕ) (old now : HubCore) → GoesOnTo s e sent old now → length now.book.tickets < now.active
+    → (past : Past) → KeepsBook past → Knows s past sent old → Knows s (settle_all e (live past) past) sent now
+all_settled s e sent old now goes none past keeps k = step (goes.to past keeps k)
+  where
+    step : Reached s e sent past now → Knows s (settle_all e (live past) past) sent now
+    step r =
+        subst (λ (p : Past). Knows s p sent now)
+        (sym (ap (λ (l : List ℕ). settle_all e l r.when) (none_active s r.when sent now r.knows none)) ∙ r.same) r.knows

@@ -7,6 +7,7 @@ pub mod Seen
 pub mod Booking
 pub mod Knowing
 pub mod Lengths
+pub mod Wrote
 pub mod Lawful
 pub mod Numbers
 pub mod Pasts

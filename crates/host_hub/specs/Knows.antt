@@ -9,8 +9,7 @@ use Rattle.host_hub.specs.Order.{Setting}
 use Rattle.host_hub.specs.Record.{Past, Marked, book, taken, next}
 use Rattle.host_hub.specs.Crossings.{crossings}
 use Rattle.host_hub.specs.Hand.{start, ended}
-use Rattle.host_hub.specs.Book.{tickets, live, active}
-use Rattle.host_hub.specs.Law.{Lawful}
+use Rattle.host_hub.specs.Book.{KeepsBook, tickets, live, active}
 use Rattle.host_hub.specs.Plan.{last_tag}
 use Rattle.host_hub.specs.Refusals.{limits}
 use Rattle.host_hub.specs.Shown.{ShowsBook}
@@ -67,7 +66,7 @@ pub record HasActive (core : HubCore) : Type 0 where
   pub past : Past
   pub sent : List ℕ
   pub knows : Knows setting past sent core
-  pub lawful : Lawful setting past
+  pub keeps : KeepsBook past
   pub turn : active past ≡ Some core.active
 
 -- what a refusal goes by
@@ -83,4 +82,11 @@ pub record HasRecord (core : HubCore) : Type 0 where
   pub past : Past
   pub sent : List ℕ
   pub knows : Knows setting past sent core
-  pub lawful : Lawful setting past
+
+-- and its book was kept
+pub record HasBook (core : HubCore) : Type 0 where
+  pub setting : Setting
+  pub past : Past
+  pub sent : List ℕ
+  pub knows : Knows setting past sent core
+  pub keeps : KeepsBook past

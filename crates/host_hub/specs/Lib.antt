@@ -27,6 +27,7 @@ pub mod Refusals
 pub mod Shown
 pub mod Tied
 pub mod Knows
+pub mod OneOut
 pub mod Owned
 pub mod Worked
 pub mod WorkedStops

@@ -4,7 +4,6 @@ ghost use Rattle.host_hub.specs.Order.{Setting};
 ghost use Rattle.host_hub.specs.Record.{Past, Settled};
 ghost use Rattle.host_hub.specs.Book.{active};
 ghost use Rattle.host_hub.specs.BookRoom.{is_open};
-ghost use Rattle.host_hub.specs.Law.{Lawful};
 ghost use Rattle.host_hub.specs.Knows.{HasActive, HasRecord, Knows, mark_of};
 
 use crate::book::Book;
@@ -111,7 +110,7 @@ impl HubCore {
     pub(crate) fn settle(&mut self, outcome: Outcome)
         requires known { HasActive self.old }
         requires settled { is_open outcome ≡ false }
-        ensures goes { (s : Setting) (past : Past) (sent : List ℕ) → Lawful s past → active past ≡ Some self.old.active → Knows s past sent self.old
+        ensures goes { (s : Setting) (past : Past) (sent : List ℕ) → active past ≡ Some self.old.active → Knows s past sent self.old
             → Knows s (Settled self.old.active outcome ∷ past) sent self.new }
         ensures rest { self.new ≡ record self.old { book = self.new.book; notes = self.new.notes; active = self.old.active + 1 } }
     {

@@ -1,0 +1,2 @@
+use Rattle.host_hub.proofs.Wrote.{knows_wrote}
+use Rattle.host_hub.proofs.hub_core.HubCore.begin.Goals as goal
