@@ -20,6 +20,7 @@ use Rattle.host_hub.specs.Crossings.{crossings}
 use Rattle.host_hub.specs.Law.{Lawful}
 use Rattle.host_hub.specs.Book.{KeepsBook, active, first_of, tickets, live, remove, settled, outcome_of, asking_of, or_live, has}
 use Rattle.host_hub.specs.Shown.{ShowsBook, ShowsTicket, entries_in}
+use Rattle.host_hub.specs.Proper.{AllProper, IsProper}
 use Rattle.host_hub.specs.Knows.{Knows, upwards, marks_in, mark_in, mark_of, spare}
 use Rattle.host_hub.specs.BookRoom.{is_open}
 use Rattle.host_hub.proofs.Lawful.{lawful_book}
@@ -235,6 +236,7 @@ knows_settled s past sent core o b n turn k settles notes =
       tag = k.tag;
       answers = k.answers;
       over = k.over;
+      proper = k.proper;
       few = k.few;
       waiting = k.waiting - 1;
       row = rw k.row (up_pred core.active k.waiting some);
@@ -345,11 +347,18 @@ starts_asked s past a xs lawful count h t n e = which (number_added xs t 0 n e)
     which (inl k) = h t n k
     which (inr k) = sym k.1 ∙ sym (unbegun_start (t + 1) past (unasked_begun s past lawful (t + 1) (omega (arith, k.0, count))))
 
+proper_asked : (past : Past) (a : Asking) → IsProper a → AllProper past → AllProper (asked past a)
+proper_asked past a good h t one e = step (tickets past + 1 == t) e
+  where
+    step : (b : Bool) → (if b then Some a else asking_of t past) ≡ Some one → IsProper one
+    step true k = let same : a ≡ one = cc in subst IsProper same good
+    step false k = h t one k
+
 pub knows_asked : (s : Setting) (past : Past) (sent : List ℕ) (core : HubCore) (a : Asking) (room places sum : ℕ) (b : BookSeen) (n : Noted) → Lawful s past
-    → (k : Knows s past sent core) → core.end ≡ None → length core.book.tickets < TICKETS_MAX → k.waiting + 3 ≤ room → b ≡ with_asked (seen_asked a) core.book
+    → IsProper a → (k : Knows s past sent core) → core.end ≡ None → length core.book.tickets < TICKETS_MAX → k.waiting + 3 ≤ room → b ≡ with_asked (seen_asked a) core.book
     → n ≡ with_ticket (mark_of core) core.turned (record core.notes { room = room; places = places }) → sum ≡ core.limits + a.limit
     → Knows s (asked past a) sent (record core { book = b; notes = n; limits = sum })
-knows_asked s past sent core a room places sum b n lawful k running few spare asks notes total =
+knows_asked s past sent core a room places sum b n lawful good k running few spare asks notes total =
     rw asks (rw notes (rw total (record {
       shallow = k.shallow;
       first_number = k.first_number;
@@ -365,6 +374,7 @@ knows_asked s past sent core a room places sum b n lawful k running few spare as
       tag = k.tag;
       answers = k.answers;
       over = k.over;
+      proper = proper_asked past a good k.proper;
       few = omega (arith, few, k.shows.count);
       waiting = k.waiting + 1;
       row = rw k.row (ap (λ (m : ℕ). upwards core.active k.waiting ++ m ∷ []) (sym k.next_ticket) ∙ up_more core.active k.waiting);
@@ -390,7 +400,8 @@ knows_roomier s past sent core room places k more = record {
   tag = k.tag;
   answers = k.answers;
   over = k.over;
-  few = k.few;
+  proper = k.proper;
+      few = k.few;
   waiting = k.waiting;
   row = k.row;
   next_ticket = k.next_ticket;
@@ -444,7 +455,8 @@ knows_stopped s past sent core e running k = record {
   tag = k.tag;
   answers = k.answers;
   over = refl;
-  few = k.few;
+  proper = k.proper;
+      few = k.few;
   waiting = k.waiting;
   row = k.row;
   next_ticket = k.next_ticket;

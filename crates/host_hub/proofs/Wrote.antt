@@ -153,6 +153,7 @@ knows_wrote s past sent core order seen u g q r p a b n turn k found follows sam
       tag = ap (tag_of order) k.tag;
       answers = k.answers;
       over = k.over;
+      proper = k.proper;
       few = k.few;
       waiting = k.waiting;
       row = k.row;

@@ -11,6 +11,7 @@ use Rattle.host_hub.specs.Crossings.{crossings}
 use Rattle.host_hub.specs.Hand.{start, ended}
 use Rattle.host_hub.specs.Book.{KeepsBook, tickets, live, active}
 use Rattle.host_hub.specs.Plan.{last_tag}
+use Rattle.host_hub.specs.Proper.{AllProper}
 use Rattle.host_hub.specs.Refusals.{limits}
 use Rattle.host_hub.specs.Shown.{ShowsBook}
 
@@ -53,6 +54,7 @@ pub record Knows (s : Setting) (past : Past) (sent : List ℕ) (core : HubCore) 
   pub tag : core.tags ≡ last_tag past
   pub answers : core.taken ≡ length (taken past)
   pub over : core.end ≡ ended past
+  pub proper : AllProper past
   pub few : tickets past ≤ TICKETS_MAX
   pub waiting : ℕ
   pub row : live past ≡ upwards core.active waiting

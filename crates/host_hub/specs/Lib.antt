@@ -26,8 +26,10 @@ pub mod Noted
 pub mod Refusals
 pub mod Shown
 pub mod Tied
+pub mod Proper
 pub mod Knows
 pub mod OneOut
+pub mod Stands
 pub mod Owned
 pub mod Worked
 pub mod WorkedStops

@@ -8,6 +8,7 @@ ghost use Rattle.host_hub.specs.Record.{Past, Asking};
 ghost use Rattle.host_hub.specs.Law.{Lawful};
 ghost use Rattle.host_hub.specs.Refusals.{has_limit, has_message, ask_fault};
 ghost use Rattle.host_hub.specs.Steps.{asked};
+ghost use Rattle.host_hub.specs.Proper.{IsProper};
 ghost use Rattle.host_hub.specs.Knows.{HasRecord, Knows, Tells};
 
 use crate::hub_core::{HubCore, Phase};
@@ -83,6 +84,7 @@ impl HubCore {
         requires known { HasRecord self.old }
         requires running { self.old.end ≡ None }
         requires few { length self.old.book.tickets < TICKETS_MAX }
+        requires proper { IsProper (record { session = session; kind = kind; limit = limit; message = message.now }) }
         requires sum { self.old.limits + limit ≤ LIMITS_MAX }
         ensures goes { OnOk result ((s : Setting) (past : Past) (sent : List ℕ) → Lawful s past → Knows s past sent self.old
             → Knows s (asked past (record { session = session; kind = kind; limit = limit; message = message.now })) sent self.new) }

@@ -10,7 +10,7 @@ pub returns-clause-goes : goal.returns-clause-goes
 returns-clause-goes c = λ s past sent lawful k.
     knows_asked s past sent c.args.self.now
     (record { session = c.args.session; kind = c.args.kind; limit = c.args.limit; message = c.args.message.now })
-    c.reserve.new.self.room c.reserve.new.self.places (c.args.self.now.limits + c.args.limit) c.ask.new.self c.ask-2.new.self lawful k c.requires.running c.requires.few
+    c.reserve.new.self.room c.reserve.new.self.places (c.args.self.now.limits + c.args.limit) c.ask.new.self c.ask-2.new.self lawful c.requires.proper k c.requires.running c.requires.few
     (omega (arith, c.in_ok-reserve.ensures.room, c.live-live.ensures.waiting s past sent k))
     (c.in_ok-number.ensures.asked ∙ ap (λ (x : Seen). with_asked x c.args.self.now.book) c.in_ok-ticket.ensures.asked)
     (c.ask-2.ensures ∙ (ap (λ (n : Noted). with_ticket c.mark-mark.result c.args.self.now.turned n) c.reserve.ensures.kept
