@@ -39,7 +39,7 @@ use Rattle.host_hub.proofs.Messages.{written_same, next_same}
 
 -- ---- lists
 
-some_one : (a b : Seen) → Some a ≡ Some b → a ≡ b
+pub some_one : (a b : Seen) → Some a ≡ Some b → a ≡ b
 some_one a b e = cc
 
 no_some : {P : Type 0} (a : Seen) → None ≡ Some a → P
@@ -74,7 +74,7 @@ ticket_step : (b : Bool) (o : Option Seen) (one : Seen) → (if b then None else
 ticket_step true o one e = no_some one e
 ticket_step false o one e = (refl, e)
 
-at_number : (u : ℕ) (xs : List Seen) (one : Seen) → ticket_of u xs ≡ Some one → ((u == 0) ≡ false) × (slice_get xs (u - 1) ≡ Some one)
+pub at_number : (u : ℕ) (xs : List Seen) (one : Seen) → ticket_of u xs ≡ Some one → ((u == 0) ≡ false) × (slice_get xs (u - 1) ≡ Some one)
 at_number u xs one e = ticket_step (u == 0) (slice_get xs (u - 1)) one e
 
 from_number : (u : ℕ) (xs : List Seen) (one : Seen) → (u == 0) ≡ false → slice_get xs (u - 1) ≡ Some one → ticket_of u xs ≡ Some one
@@ -105,10 +105,10 @@ each_set past xs t x first mine others u one e = step (t == u) refl
 
 -- ---- the tickets that are not settled
 
-some_number : (a b : ℕ) → Some a ≡ Some b → a ≡ b
+pub some_number : (a b : ℕ) → Some a ≡ Some b → a ≡ b
 some_number a b e = cc
 
-no_number : {P : Type 0} (a : ℕ) → None ≡ Some a → P
+pub no_number : {P : Type 0} (a : ℕ) → None ≡ Some a → P
 no_number a e = absurd (none e)
   where
     none : None ≡ Some a → ⊥

@@ -8,6 +8,8 @@ pub mod Booking
 pub mod Knowing
 pub mod Lengths
 pub mod Wrote
+pub mod Putting
+pub mod Begins
 pub mod Lawful
 pub mod Numbers
 pub mod Pasts

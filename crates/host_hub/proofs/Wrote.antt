@@ -2,6 +2,9 @@
 use Rattle.std.proofs.Common.{◌≡◌, ◌≢◌, ◌≤◌, ◌<◌, ◌⊎◌, ℕ, ◌+◌, ◌-◌, zero, suc, Bool, true, false, List, [], ◌∷◌, ◌++◌, length, take, drop, Option, Some, None, refl, sym, subst, ◌∙◌, ap, arith, inl, inr}
 use Rattle.std.specs.Prelude.{◌==◌, ◌&&◌, not, slice_get, slice_set, if◌then◌else◌}
 use Rattle.std.proofs.lemmas.Bool.{eqb-true, eqb-false}
+use Rattle.std.proofs.Math.Seq.{take-nil}
+use Rattle.tmc_wire.specs.HeaderFault.{TransferSize}
+use Rattle.host_transfers.specs.Piece.{data_of}
 use Rattle.host_urbs.specs.Held.{Held, Follows}
 use Rattle.host_urbs.specs.Record as urbs
 use Rattle.host_transfers.specs.declared.piece.Piece as said
@@ -26,16 +29,15 @@ use Rattle.host_hub.proofs.Knowing.{each_set, set_length, known_ticket, some_num
 
 -- ---- the bytes of a ticket stay
 
-take_none : (n : ℕ) → take n (drop 12 []) ≡ []
-take_none zero = refl
-take_none (suc n) = refl
+none_of : data_of [] ≡ []
+none_of = take-nil (TransferSize [])
 
 append_none : (xs : List ℕ) → xs ++ [] ≡ xs
 append_none [] = refl
 append_none (x ∷ xs) = ap (λ (l : List ℕ). x ∷ l) (append_none xs)
 
 data_opened : (n : ℕ) (order : Order) (ps : List Piece) → data_in (opened n order ps) ≡ data_in ps
-data_opened n (Request tag size) ps = ap (λ (l : List ℕ). data_in ps ++ l) (take_none _) ∙ append_none (data_in ps)
+data_opened n (Request tag size) ps = ap (λ (l : List ℕ). data_in ps ++ l) none_of ∙ append_none (data_in ps)
 data_opened n Read [] = refl
 data_opened n Read (p ∷ ps) = refl
 data_opened n (Part tag text eom) ps = refl

@@ -30,6 +30,7 @@ pub mod Proper
 pub mod Knows
 pub mod OneOut
 pub mod Stands
+pub mod Writes
 pub mod Owned
 pub mod Worked
 pub mod WorkedStops

@@ -1,6 +1,6 @@
 //! What a hub writes for the active ticket.
 
-ghost use Rattle.std.specs.Prelude.{◌≡◌, ◌≤◌, ◌<◌, ◌+◌, ◌*◌, ◌∷◌, [], ℕ, List, length, nat_le, true, false};
+ghost use Rattle.std.specs.Prelude.{◌≡◌, ◌≤◌, ◌<◌, ◌+◌, ◌*◌, ◌∷◌, [], ℕ, List, Some, length, nat_le, true, false};
 ghost use Rattle.tmc_base.specs.declared.limits.TheConstants.{BULK_IN_SUBMIT};
 ghost use Rattle.usbip_wire.specs.declared.urb.Dir.TheVariants.{In};
 ghost use Rattle.usbip_wire.specs.declared.urb.TheConstants.{ENDPOINT_MAX};
@@ -9,8 +9,13 @@ ghost use Rattle.host_urbs.specs.Held.{HasPlace, Follows, submit_by, submit_out,
 ghost use Rattle.host_urbs.specs.Record as urbs_record;
 ghost use Rattle.host_transfers.specs.declared.limits.TheConstants.{PART_MAX, REQUEST_MAX};
 ghost use Rattle.host_transfers.specs.Tags.{tag_behind};
-ghost use Rattle.host_hub.specs.Order.{Request, no_setup, number_of, text_of};
+ghost use Rattle.host_hub.specs.declared.hub_core.Phase.TheVariants as phase;
+ghost use Rattle.host_hub.specs.Order.{Setting, number_of, size_of, text_of};
+ghost use Rattle.host_hub.specs.BookSeen.{Seen, ticket_of};
 ghost use Rattle.host_hub.specs.Plan.{part_of};
+ghost use Rattle.host_hub.specs.Record.{Past};
+ghost use Rattle.host_hub.specs.Stands.{GoesTo};
+ghost use Rattle.host_hub.specs.Writes.{CanPart, Ends, IsReady, Puts, Ready};
 
 use crate::End;
 use crate::hub_core::{HubCore, Phase};
@@ -70,21 +75,26 @@ fn put_part(urbs: &mut Urbs, tags: &mut Tags, ep: u32, message: &[u8], count: us
 impl HubCore {
     /// Goes on to the next ticket, where there is one.
     pub(crate) fn go_on(&mut self) {
-        if self.live() == 0 {
-            self.phase = Phase::Idle;
-        } else {
+        if self.active <= self.book.tickets() {
             self.begin();
+        } else {
+            self.phase = Phase::Idle;
         }
     }
 
-    /// Begins the active ticket.
-    pub(crate) fn begin(&mut self) {
-        self.parts = 0;
-        if self.has_number() {
-            let number = self.urbs.next();
-            self.notes.start(self.active, number);
-            self.write_part();
+    /// Begins the active ticket. Where there is no number for its submit, the hub ends.
+    pub(crate) fn begin(&mut self)
+        requires { IsReady self.old }
+        ensures { (s : Setting) (past : Past) (sent : List ℕ) → Ready s past sent self.old → GoesTo s past sent self.new }
+    {
+        if self.urbs.next() > LAST_SUBMIT {
+            self.stop(End::Exhausted);
+            return;
         }
+        let number = self.urbs.next();
+        self.parts = 0;
+        self.write_part();
+        self.notes.start(self.active, number);
     }
 
     /// Whether there is a number for a submit. Where there is none, the hub ends.
@@ -103,7 +113,18 @@ impl HubCore {
         }
     }
 
-    fn write_part(&mut self) {
+    /// Writes the next part of the message.
+    fn write_part(&mut self)
+        requires { CanPart self.old }
+        ensures urbs { (s : Setting) → self.old.urbs.devid ≡ s.devid → self.old.ends ≡ s.ends → (seen : Seen) → ticket_of self.old.active self.old.book.tickets ≡ Some seen
+            → Puts s (part_of (tag_behind self.old.tags) self.old.parts seen.message) self.old.urbs self.new.urbs }
+        ensures book { (seen : Seen) → ticket_of self.old.active self.old.book.tickets ≡ Some seen
+            → Ends (part_of (tag_behind self.old.tags) self.old.parts seen.message) self.old.active self.old.urbs.next self.old.book self.new.book }
+        ensures asked { (seen : Seen) → ticket_of self.old.active self.old.book.tickets ≡ Some seen
+            → self.new.asked ≡ size_of self.old.ends (part_of (tag_behind self.old.tags) self.old.parts seen.message) }
+        ensures rest { self.new ≡ record self.old {
+          urbs = self.new.urbs; tags = tag_behind self.old.tags; book = self.new.book; phase = phase.Message; parts = self.old.parts + 1; asked = self.new.asked } }
+    {
         let Some(view) = self.book.view(self.active) else {
             unreachable!()
         };

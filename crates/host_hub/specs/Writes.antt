@@ -1,0 +1,66 @@
+-- what a hub's fields are when it wrote a submit of the active ticket
+use Rattle.std.specs.Prelude.{◌≡◌, ◌≤◌, ◌<◌, ◌*◌, ◌+◌, ℕ, false, Some, None, List, [], ◌∷◌, length}
+use Rattle.usbip_wire.specs.Up as up
+use Rattle.host_urbs.specs.declared.limits.TheConstants.{LAST_SUBMIT}
+use Rattle.host_urbs.specs.Held.{Held, Follows, wrote}
+use Rattle.host_urbs.specs.Record as urbs
+use Rattle.host_transfers.specs.declared.limits.TheConstants.{PART_MAX}
+use Rattle.host_hub.specs.declared.hub_core.HubCore.{HubCore}
+use Rattle.host_hub.specs.Order.{Order, Setting, message_of}
+use Rattle.host_hub.specs.Record.{Asking, Past}
+use Rattle.host_hub.specs.Book.{active, asking_of}
+use Rattle.host_hub.specs.BookSeen.{BookSeen, Seen, ticket_of}
+use Rattle.host_hub.specs.BookChanges.{with_seen}
+use Rattle.host_hub.specs.Plan.{ended_at}
+use Rattle.host_hub.specs.Hand.{is_begun}
+use Rattle.host_hub.specs.Outstanding.{outstanding}
+use Rattle.host_hub.specs.Recovery.{AreRecovered}
+use Rattle.host_hub.specs.Steps.{Working}
+use Rattle.host_hub.specs.Knows.{Knows}
+use Rattle.host_hub.specs.OneOut.{OneOut}
+
+-- nothing is out, there is a number for a submit, and the active ticket asks for this
+pub record CanWrite (core : HubCore) (asking : Asking) : Type 0 where
+  pub setting : Setting
+  pub past : Past
+  pub sent : List ℕ
+  pub knows : Knows setting past sent core
+  pub turn : active past ≡ Some core.active
+  pub asks : asking_of core.active past ≡ Some asking
+  pub none : core.urbs.entries ≡ []
+  pub nothing : core.urbs.outbox ≡ []
+  pub last : core.urbs.next ≤ LAST_SUBMIT
+
+-- a part of its message is left
+pub record CanPart (core : HubCore) : Type 0 where
+  pub asking : Asking
+  pub can : CanWrite core asking
+  pub there : PART_MAX * core.parts < length asking.message
+  pub few : core.parts ≤ 4
+
+-- the message is put behind the others
+pub record Puts (s : Setting) (order : Order) (old new : Held) : Type 0 where
+  pub written : new ≡ wrote (message_of s old.next order) old
+  pub recorded : (past : urbs.Past) (sent : List ℕ) → Follows s.first past sent old → Follows s.first (urbs.Wrote (message_of s old.next order) ∷ past) sent new
+
+-- and the book says where the message of the ticket ends
+abbrev pub Ends : Order → (active number : ℕ) → BookSeen → BookSeen → Type 0
+Ends order active number old new =
+    (seen : Seen) → ticket_of active old.tickets ≡ Some seen → new ≡ with_seen active (record seen { last = ended_at number order seen.last }) old
+
+-- the active ticket may begin: nothing is out, and the recoveries are over
+pub record Ready (s : Setting) (past : Past) (sent : List ℕ) (core : HubCore) : Type 0 where
+  pub knows : Knows s past sent core
+  pub working : Working s past
+  pub running : core.end ≡ None
+  pub turn : active past ≡ Some core.active
+  pub fresh : is_begun core.active past ≡ false
+  pub none_out : outstanding past ≡ []
+  pub recovered : AreRecovered past
+  pub queue : OneOut core.urbs
+
+pub record IsReady (core : HubCore) : Type 0 where
+  pub setting : Setting
+  pub past : Past
+  pub sent : List ℕ
+  pub ready : Ready setting past sent core
