@@ -20,7 +20,8 @@ use Rattle.host_hub.specs.declared.outcome.End.TheVariants as end
 use Rattle.host_hub.specs.BookSeen.{BookSeen, Seen, IsTicket, ticket_of}
 use Rattle.host_hub.specs.Noted.{Noted, with_start}
 use Rattle.host_hub.specs.Order.{Order, Part, Setting, message_of, size_of, is_unlink}
-use Rattle.host_hub.specs.Record.{Asking, Past, Wrote, Of, Settled, Stopped, next}
+use Rattle.host_hub.specs.Calls.{All, IsOwn}
+use Rattle.host_hub.specs.Record.{Asking, Happening, Past, Wrote, Of, Settled, Stopped, next}
 use Rattle.host_hub.specs.Crossings.{crossings}
 use Rattle.host_hub.specs.Hand.{is_begun, is_of}
 use Rattle.host_hub.specs.Outstanding.{Sent, outstanding, busy, awaited_by}
@@ -120,7 +121,7 @@ first_is (kind.Remote act) message tag h = absurd (no h)
     no : false ≡ true → ⊥
     no k = cc
 
-speaks : (k : Kind) → has_message k ≡ true → is_status_kind k ≡ false
+pub speaks : (k : Kind) → has_message k ≡ true → is_status_kind k ≡ false
 speaks kind.Ask h = refl
 speaks kind.Tell h = refl
 speaks kind.Trigger h = refl
@@ -134,7 +135,7 @@ speaks (kind.Remote act) h = refl
 abbrev pub asking_seen : Seen → Asking
 asking_seen seen = record { session = seen.session; kind = seen.kind; limit = seen.limit; message = seen.message }
 
-first_planned : (s : Setting) (past : Past) (sent : List ℕ) (core : HubCore) (seen : Seen) → (r : Ready s past sent core) → ticket_of core.active core.book.tickets ≡ Some seen
+pub first_planned : (s : Setting) (past : Past) (sent : List ℕ) (core : HubCore) (seen : Seen) → (r : Ready s past sent core) → ticket_of core.active core.book.tickets ≡ Some seen
     → Speaks past core.active (asking_seen seen) × Planned s past core.active (part_of (next_tag past) 0 seen.message)
 first_planned s past sent core seen r found =
     let asks : asking_of core.active past ≡ Some (asking_seen seen) = (r.knows.shows.each core.active seen found).asking in
@@ -143,7 +144,7 @@ first_planned s past sent core seen r found =
     (says, begins_planned s past core.active (asking_seen seen) (part_of (next_tag past) 0 seen.message) r.working r.turn r.fresh (ap busy r.none_out) r.recovered says
     (first_is seen.kind seen.message (next_tag past) good.messages))
 
-none_taken : (past : Past) → outstanding past ≡ [] → length (outstanding past) < 16
+pub none_taken : (past : Past) → outstanding past ≡ [] → length (outstanding past) < 16
 none_taken past e = omega (arith, ap (λ (l : List Sent). length l) e)
 
 -- ---- it begins
@@ -195,11 +196,25 @@ begins_rests s past sent core seen u b q n r few found puts ends size starts =
 
 -- ---- or the hub ends
 
-pub all_more : (e : End) (ts : List ℕ) (past : Past) → (more : Past) × (settle_all e ts past ≡ more ++ past)
-all_more e [] past = ([], refl)
+-- the tickets that settle, in the record
+pub record More (e : End) (ts : List ℕ) (past : Past) : Type 0 where
+  pub more : Past
+  pub own_all : All IsOwn more
+  pub same : settle_all e ts past ≡ more ++ past
+
+own_added : (past : Past) (x : Happening) → All IsOwn past → IsOwn x → All IsOwn (past ++ x ∷ [])
+own_added [] x h i = (i, tt)
+own_added (y ∷ ys) x h i = (h.0, own_added ys x h.1 i)
+
+pub all_more : (e : End) (ts : List ℕ) (past : Past) → More e ts past
+all_more e [] past = record { more = []; own_all = tt; same = refl }
 all_more e (t ∷ ts) past =
-    let a : (more : Past) × (settle_all e ts (Settled t (named e) ∷ past) ≡ more ++ (Settled t (named e) ∷ past)) = all_more e ts (Settled t (named e) ∷ past) in
-    (a.0 ++ Settled t (named e) ∷ [], a.1 ∙ sym (append_assoc a.0 (Settled t (named e) ∷ []) past))
+    let a : More e ts (Settled t (named e) ∷ past) = all_more e ts (Settled t (named e) ∷ past) in
+    record {
+      more = a.more ++ Settled t (named e) ∷ [];
+      own_all = own_added a.more (Settled t (named e)) a.own_all tt;
+      same = a.same ∙ sym (append_assoc a.more (Settled t (named e) ∷ []) past);
+    }
 
 none_end : {P : Type 0} (e : End) → Some e ≡ None → P
 none_end e h = absurd (no h)
@@ -210,13 +225,14 @@ none_end e h = absurd (no h)
 pub ended_rests : (s : Setting) (past : Past) (sent : List ℕ) (core : HubCore) (e : End) → core.end ≡ Some e → Knows s past sent core → Kept s past → Rests s past sent core
 ended_rests s past sent core e is k kept = record { knows = k; kept = kept; stands = λ h. none_end e (sym is ∙ h) }
 
-pub stopped_goes : (s : Setting) (past : Past) (sent : List ℕ) (core : HubCore) (e : End) → core.end ≡ Some e → Knows s (settle_all e (live past) (Stopped e ∷ past)) sent core
-    → Kept s (settle_all e (live past) (Stopped e ∷ past)) → GoesTo s past sent core
-stopped_goes s past sent core e is k kept =
-    let a : (more : Past) × (settle_all e (live past) (Stopped e ∷ past) ≡ more ++ (Stopped e ∷ past)) = all_more e (live past) (Stopped e ∷ past) in
-    let same : settle_all e (live past) (Stopped e ∷ past) ≡ (a.0 ++ Stopped e ∷ []) ++ past = a.1 ∙ sym (append_assoc a.0 (Stopped e ∷ []) past) in
+pub stopped_goes : (s : Setting) (past : Past) (sent : List ℕ) (core : HubCore) (e : End) → IsOwn (Stopped e) → core.end ≡ Some e
+    → Knows s (settle_all e (live past) (Stopped e ∷ past)) sent core → Kept s (settle_all e (live past) (Stopped e ∷ past)) → GoesTo s past sent core
+stopped_goes s past sent core e mine is k kept =
+    let a : More e (live past) (Stopped e ∷ past) = all_more e (live past) (Stopped e ∷ past) in
+    let same : settle_all e (live past) (Stopped e ∷ past) ≡ (a.more ++ Stopped e ∷ []) ++ past = a.same ∙ sym (append_assoc a.more (Stopped e ∷ []) past) in
     record {
-      more = a.0 ++ Stopped e ∷ [];
+      more = a.more ++ Stopped e ∷ [];
+      by_itself = own_added a.more (Stopped e) a.own_all mine;
       rests = subst (λ (p : Past). Rests s p sent core) same (ended_rests s (settle_all e (live past) (Stopped e ∷ past)) sent core e is k kept);
     }
 
@@ -231,7 +247,7 @@ pub begins_exhausted : (s : Setting) (past : Past) (sent : List ℕ) (core new :
     → Knows s (settle_all end.Exhausted (live past) (Stopped end.Exhausted ∷ past)) sent new → GoesTo s past sent new
 begins_exhausted s past sent core new r none is k =
     let at : (seen : Seen) × (ticket_of core.active core.book.tickets ≡ Some seen) = seen_there core.book core.active (known_ticket s past sent core r.knows r.turn) in
-    stopped_goes s past sent new end.Exhausted is k
+    stopped_goes s past sent new end.Exhausted refl is k
     (exhausted_kept s past core.active (part_of (next_tag past) 0 at.0.message) r.working (first_planned s past sent core at.0 r at.1).1 refl
     (subst (λ (n : ℕ). LAST_SUBMIT < n) (same_next s past sent core r.knows) none))
 
@@ -288,6 +304,7 @@ begins_goes s past sent core new n r few puts ends size rest starts =
     let tag : tag_behind core.tags ≡ next_tag past = same_tag s past sent core r.knows in
     record {
       more = Wrote (next s.first past) (Of core.active) (part_of (next_tag past) 0 at.0.message) ∷ [];
+      by_itself = (tt, tt);
       rests = subst (λ (h : HubCore). Rests s (wrote s past core.active (part_of (next_tag past) 0 at.0.message)) sent (record h { notes = n })) (sym rest)
           (rw tag (begins_rests s past sent core at.0 new.urbs new.book new.asked n r few at.1
           (subst (λ (k : ℕ). Puts s (part_of k 0 at.0.message) core.urbs new.urbs) tag (puts s r.knows.device r.knows.interface at.0 at.1))

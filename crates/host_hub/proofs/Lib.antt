@@ -10,6 +10,7 @@ pub mod Lengths
 pub mod Wrote
 pub mod Putting
 pub mod Begins
+pub mod Asks
 pub mod Lawful
 pub mod Numbers
 pub mod Pasts

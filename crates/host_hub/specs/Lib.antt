@@ -31,6 +31,7 @@ pub mod Knows
 pub mod OneOut
 pub mod Stands
 pub mod Writes
+pub mod Asks
 pub mod Owned
 pub mod Worked
 pub mod WorkedStops

@@ -16,6 +16,7 @@ use Rattle.host_hub.specs.Causes.{reached}
 use Rattle.host_hub.specs.Plan.{last, parts}
 use Rattle.host_hub.specs.Recovery.{AreRecovered}
 use Rattle.host_hub.specs.Law.{Kept}
+use Rattle.host_hub.specs.Calls.{All, IsOwn}
 use Rattle.host_hub.specs.Steps.{IsClean}
 use Rattle.host_hub.specs.Knows.{Knows}
 use Rattle.host_hub.specs.OneOut.{OneOut}
@@ -86,7 +87,15 @@ pub record Rests (s : Setting) (past : Past) (sent : List ℕ) (core : HubCore) 
   pub kept : Kept s past
   pub stands : core.end ≡ None → Stands core.phase s past core
 
--- it went on to there
+-- it went on to there by itself
 pub record GoesTo (s : Setting) (past : Past) (sent : List ℕ) (core : HubCore) : Type 0 where
   pub more : Past
+  pub by_itself : All IsOwn more
   pub rests : Rests s (more ++ past) sent core
+
+-- there is such a record
+pub record IsAtRest (core : HubCore) : Type 0 where
+  pub setting : Setting
+  pub past : Past
+  pub sent : List ℕ
+  pub rests : Rests setting past sent core

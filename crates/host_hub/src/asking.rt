@@ -8,7 +8,9 @@ ghost use Rattle.host_hub.specs.Record.{Past, Asking};
 ghost use Rattle.host_hub.specs.Law.{Lawful};
 ghost use Rattle.host_hub.specs.Refusals.{has_limit, has_message, ask_fault};
 ghost use Rattle.host_hub.specs.Steps.{asked};
+ghost use Rattle.host_hub.specs.Asks.{Asks};
 ghost use Rattle.host_hub.specs.Proper.{IsProper};
+ghost use Rattle.host_hub.specs.Stands.{IsAtRest, Rests};
 ghost use Rattle.host_hub.specs.Knows.{HasRecord, Knows, Tells};
 
 use crate::hub_core::{HubCore, Phase};
@@ -24,11 +26,19 @@ impl HubCore {
         kind: Kind,
         message: &[u8],
         limit: u32,
-    ) -> Result<u32, AskFault> {
+    ) -> Result<u32, AskFault>
+        requires rests { IsAtRest self.old }
+        requires message { has_message kind ≡ true }
+        ensures { (s : Setting) (past : Past) (sent : List ℕ) → Rests s past sent self.old
+            → Asks s past sent (record { session = session; kind = kind; limit = limit; message = message.now }) result self.old self.new }
+    {
         if let Some(fault) = self.refusal(session, kind, message, limit) {
             return Err(fault);
         }
-        let ticket = self.enter(session, kind, message, limit)?;
+        let ticket = match self.enter(session, kind, message, limit) {
+            Ok(ticket) => ticket,
+            Err(fault) => return Err(fault),
+        };
         if let Phase::Idle = self.phase {
             self.begin();
         }
