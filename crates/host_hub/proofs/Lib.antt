@@ -11,6 +11,8 @@ pub mod Wrote
 pub mod Putting
 pub mod Begins
 pub mod Asks
+pub mod Nexts
+pub mod Parts
 pub mod Lawful
 pub mod Numbers
 pub mod Pasts

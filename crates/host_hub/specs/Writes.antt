@@ -1,21 +1,23 @@
 -- what a hub's fields are when it wrote a submit of the active ticket
-use Rattle.std.specs.Prelude.{◌≡◌, ◌≤◌, ◌<◌, ◌*◌, ◌+◌, ℕ, false, Some, None, List, [], ◌∷◌, length}
+use Rattle.std.specs.Prelude.{◌≡◌, ◌≤◌, ◌<◌, ◌*◌, ◌+◌, ℕ, Bool, true, false, Some, None, List, [], ◌∷◌, length}
 use Rattle.usbip_wire.specs.Up as up
 use Rattle.host_urbs.specs.declared.limits.TheConstants.{LAST_SUBMIT}
 use Rattle.host_urbs.specs.Held.{Held, Follows, wrote}
 use Rattle.host_urbs.specs.Record as urbs
 use Rattle.host_transfers.specs.declared.limits.TheConstants.{PART_MAX}
 use Rattle.host_hub.specs.declared.hub_core.HubCore.{HubCore}
-use Rattle.host_hub.specs.Order.{Order, Setting, message_of}
+use Rattle.host_hub.specs.Order.{Order, Part, Setting, message_of}
 use Rattle.host_hub.specs.Record.{Asking, Past}
 use Rattle.host_hub.specs.Book.{active, asking_of}
 use Rattle.host_hub.specs.BookSeen.{BookSeen, Seen, ticket_of}
 use Rattle.host_hub.specs.BookChanges.{with_seen}
-use Rattle.host_hub.specs.Plan.{ended_at}
+use Rattle.host_hub.specs.Plan.{ended_at, last, parts}
 use Rattle.host_hub.specs.Hand.{is_begun}
 use Rattle.host_hub.specs.Outstanding.{outstanding}
 use Rattle.host_hub.specs.Recovery.{AreRecovered}
-use Rattle.host_hub.specs.Steps.{Working}
+use Rattle.host_hub.specs.Steps.{IsClean, Working}
+use Rattle.host_hub.specs.Causes.{reached}
+use Rattle.host_hub.specs.Pieces.{pieces}
 use Rattle.host_hub.specs.Knows.{Knows}
 use Rattle.host_hub.specs.OneOut.{OneOut}
 
@@ -64,3 +66,34 @@ pub record IsReady (core : HubCore) : Type 0 where
   pub past : Past
   pub sent : List ℕ
   pub ready : Ready setting past sent core
+
+-- the active ticket, which asks for this, goes on: nothing is out, and no other ticket or recovery is in its way
+pub record GoesOn (s : Setting) (past : Past) (sent : List ℕ) (core : HubCore) (asking : Asking) (split : Bool) : Type 0 where
+  pub knows : Knows s past sent core
+  pub working : Working s past
+  pub running : core.end ≡ None
+  pub turn : active past ≡ Some core.active
+  pub begun : is_begun core.active past ≡ true
+  pub asks : asking_of core.active past ≡ Some asking
+  pub free : reached core.active past ≡ None
+  pub none_out : outstanding past ≡ []
+  pub clean : IsClean past core.active split
+  pub counted : parts core.active past ≡ core.parts
+  pub queue : OneOut core.urbs
+
+-- its message goes on
+pub record PartIsNext (s : Setting) (past : Past) (sent : List ℕ) (core : HubCore) : Type 0 where
+  pub asking : Asking
+  pub split : Bool
+  pub goes : GoesOn s past sent core asking split
+  pub tag : ℕ
+  pub text : List ℕ
+  pub last_part : last core.active past ≡ Some (Part tag text false)
+  pub left : PART_MAX * core.parts < length asking.message
+  pub none : pieces core.active past ≡ []
+
+pub record IsPartNext (core : HubCore) : Type 0 where
+  pub setting : Setting
+  pub past : Past
+  pub sent : List ℕ
+  pub is : PartIsNext setting past sent core

@@ -15,7 +15,7 @@ ghost use Rattle.host_hub.specs.BookSeen.{Seen, ticket_of};
 ghost use Rattle.host_hub.specs.Plan.{part_of};
 ghost use Rattle.host_hub.specs.Record.{Past};
 ghost use Rattle.host_hub.specs.Stands.{GoesTo};
-ghost use Rattle.host_hub.specs.Writes.{CanPart, Ends, IsReady, Puts, Ready};
+ghost use Rattle.host_hub.specs.Writes.{CanPart, Ends, IsPartNext, IsReady, PartIsNext, Puts, Ready};
 
 use crate::End;
 use crate::hub_core::{HubCore, Phase};
@@ -97,20 +97,16 @@ impl HubCore {
         self.notes.start(self.active, number);
     }
 
-    /// Whether there is a number for a submit. Where there is none, the hub ends.
-    fn has_number(&mut self) -> bool {
-        if self.urbs.next() <= LAST_SUBMIT {
-            return true;
+    /// Goes on with the message of the active ticket. Where there is no number for the submit, the hub ends.
+    pub(crate) fn next_part(&mut self)
+        requires { IsPartNext self.old }
+        ensures { (s : Setting) (past : Past) (sent : List ℕ) → PartIsNext s past sent self.old → GoesTo s past sent self.new }
+    {
+        if self.urbs.next() > LAST_SUBMIT {
+            self.stop(End::Exhausted);
+            return;
         }
-        self.stop(End::Exhausted);
-        false
-    }
-
-    /// Writes the next part of the message.
-    pub(crate) fn next_part(&mut self) {
-        if self.has_number() {
-            self.write_part();
-        }
+        self.write_part();
     }
 
     /// Writes the next part of the message.
@@ -154,9 +150,11 @@ impl HubCore {
 
     /// Requests the next piece of the response, as much as the limit leaves.
     pub(crate) fn request(&mut self) {
-        if self.has_number() {
-            self.write_request();
+        if self.urbs.next() > LAST_SUBMIT {
+            self.stop(End::Exhausted);
+            return;
         }
+        self.write_request();
     }
 
     fn write_request(&mut self) {
@@ -175,11 +173,18 @@ impl HubCore {
 
     /// Reads on in the piece that was requested.
     pub(crate) fn read(&mut self) {
-        if self.has_number() {
-            let ep = number_of(self.ends.bulk_in);
-            self.urbs.submit(Dir::In, ep, BULK_IN_SUBMIT, [0; 8], &[]);
-            self.asked = BULK_IN_SUBMIT;
-            self.phase = Phase::Response;
+        if self.urbs.next() > LAST_SUBMIT {
+            self.stop(End::Exhausted);
+            return;
         }
+        self.write_read();
+    }
+
+    /// Writes a read.
+    fn write_read(&mut self) {
+        let ep = number_of(self.ends.bulk_in);
+        self.urbs.submit(Dir::In, ep, BULK_IN_SUBMIT, [0; 8], &[]);
+        self.asked = BULK_IN_SUBMIT;
+        self.phase = Phase::Response;
     }
 }
