@@ -13,6 +13,7 @@ pub mod Begins
 pub mod Asks
 pub mod Nexts
 pub mod Parts
+pub mod Responses
 pub mod Lawful
 pub mod Numbers
 pub mod Pasts

@@ -70,7 +70,7 @@ next_knows s past sent core asking split order seen u g q r b p a w found puts e
     (same_device s order core.urbs u puts) tag (rw (sym number) (ends seen found)) refl refl refl refl
     (starts_begun s past core.active order core.notes.starts w.begun w.knows.starts)
 
-pub next_out : (s : Setting) (past : Past) (sent : List ℕ) (core : HubCore) (asking : Asking) (split : Bool) (order : Order) (u : Held) (g q r : ℕ) (b : BookSeen) (p : Phase)
+unfoldable pub next_out : (s : Setting) (past : Past) (sent : List ℕ) (core : HubCore) (asking : Asking) (split : Bool) (order : Order) (u : Held) (g q r : ℕ) (b : BookSeen) (p : Phase)
     (a : assembly.Held) → (w : GoesOn s past sent core asking split) → IsNext s past core asking order → Puts s order core.urbs u → core.parts + is_part order ≡ q
     → r ≡ size_of s.ends order → IsOut s (wrote s past core.active order) (behind core u g b p q r a) asking order split
 next_out s past sent core asking split order u g q r b p a w n puts count size = record {

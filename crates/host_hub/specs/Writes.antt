@@ -6,18 +6,20 @@ use Rattle.host_urbs.specs.Held.{Held, Follows, wrote}
 use Rattle.host_urbs.specs.Record as urbs
 use Rattle.host_transfers.specs.declared.limits.TheConstants.{PART_MAX}
 use Rattle.host_hub.specs.declared.hub_core.HubCore.{HubCore}
-use Rattle.host_hub.specs.Order.{Order, Part, Setting, message_of}
+use Rattle.host_hub.specs.Order.{Order, Part, Read, Setting, message_of}
 use Rattle.host_hub.specs.Record.{Asking, Past}
 use Rattle.host_hub.specs.Book.{active, asking_of}
 use Rattle.host_hub.specs.BookSeen.{BookSeen, Seen, ticket_of}
 use Rattle.host_hub.specs.BookChanges.{with_seen}
-use Rattle.host_hub.specs.Plan.{ended_at, last, parts}
+use Rattle.host_hub.specs.Plan.{ended_at, follows, last, next_tag, parts, request_of}
 use Rattle.host_hub.specs.Hand.{is_begun}
 use Rattle.host_hub.specs.Outstanding.{outstanding}
 use Rattle.host_hub.specs.Recovery.{AreRecovered}
 use Rattle.host_hub.specs.Steps.{IsClean, Working}
 use Rattle.host_hub.specs.Causes.{reached}
-use Rattle.host_hub.specs.Pieces.{pieces}
+use Rattle.host_transfers.specs.Assembly.{Holds}
+use Rattle.host_hub.specs.declared.kind.Kind.TheVariants as kind
+use Rattle.host_hub.specs.Pieces.{Piece, data_in, pieces}
 use Rattle.host_hub.specs.Knows.{Knows}
 use Rattle.host_hub.specs.OneOut.{OneOut}
 
@@ -97,3 +99,46 @@ pub record IsPartNext (core : HubCore) : Type 0 where
   pub past : Past
   pub sent : List ℕ
   pub is : PartIsNext setting past sent core
+
+-- bytes of the response of the active ticket are left
+pub record CanRequest (core : HubCore) : Type 0 where
+  pub asking : Asking
+  pub can : CanWrite core asking
+  pub left : (seen : Seen) → ticket_of core.active core.book.tickets ≡ Some seen → length seen.bytes < seen.limit
+
+-- the next piece of its response is requested
+pub record RequestIsNext (s : Setting) (past : Past) (sent : List ℕ) (core : HubCore) : Type 0 where
+  pub asking : Asking
+  pub asks : asking.kind ≡ kind.Ask
+  pub goes : GoesOn s past sent core asking false
+  pub plan : follows asking (last core.active past) (next_tag past) (parts core.active past) (pieces core.active past)
+      ≡ Some (request_of (next_tag past) asking.limit (pieces core.active past))
+  pub left : length (data_in (pieces core.active past)) < asking.limit
+
+pub record IsRequestNext (core : HubCore) : Type 0 where
+  pub setting : Setting
+  pub past : Past
+  pub sent : List ℕ
+  pub is : RequestIsNext setting past sent core
+
+-- the piece that was requested is read
+pub record ReadIsNext (s : Setting) (past : Past) (sent : List ℕ) (core : HubCore) : Type 0 where
+  pub asking : Asking
+  pub asks : asking.kind ≡ kind.Ask
+  pub goes : GoesOn s past sent core asking false
+  pub plan : follows asking (last core.active past) (next_tag past) (parts core.active past) (pieces core.active past) ≡ Some Read
+  pub piece : Piece
+  pub earlier : List Piece
+  pub now : pieces core.active past ≡ piece ∷ earlier
+  pub goes_on : piece.over ≡ None
+  pub counts : piece.shut ≡ None
+  pub tag : core.assembly.tag ≡ piece.tag
+  pub size : core.assembly.size ≡ piece.size
+  pub holds : Holds piece.bytes core.assembly
+  pub open_still : core.assembly.over ≡ false
+
+pub record IsReadNext (core : HubCore) : Type 0 where
+  pub setting : Setting
+  pub past : Past
+  pub sent : List ℕ
+  pub is : ReadIsNext setting past sent core

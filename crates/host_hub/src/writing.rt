@@ -1,6 +1,6 @@
 //! What a hub writes for the active ticket.
 
-ghost use Rattle.std.specs.Prelude.{◌≡◌, ◌≤◌, ◌<◌, ◌+◌, ◌*◌, ◌∷◌, [], ℕ, List, Some, length, nat_le, true, false};
+ghost use Rattle.std.specs.Prelude.{◌≡◌, ◌≤◌, ◌<◌, ◌+◌, ◌-◌, ◌*◌, ◌∷◌, [], ℕ, List, Some, length, min, nat_le, true, false};
 ghost use Rattle.tmc_base.specs.declared.limits.TheConstants.{BULK_IN_SUBMIT};
 ghost use Rattle.usbip_wire.specs.declared.urb.Dir.TheVariants.{In};
 ghost use Rattle.usbip_wire.specs.declared.urb.TheConstants.{ENDPOINT_MAX};
@@ -10,12 +10,13 @@ ghost use Rattle.host_urbs.specs.Record as urbs_record;
 ghost use Rattle.host_transfers.specs.declared.limits.TheConstants.{PART_MAX, REQUEST_MAX};
 ghost use Rattle.host_transfers.specs.Tags.{tag_behind};
 ghost use Rattle.host_hub.specs.declared.hub_core.Phase.TheVariants as phase;
-ghost use Rattle.host_hub.specs.Order.{Setting, number_of, size_of, text_of};
+ghost use Rattle.host_hub.specs.Order.{Read, Request, Setting, number_of, size_of, text_of};
+ghost use Rattle.tmc_wire.specs.Standard.{header_size};
 ghost use Rattle.host_hub.specs.BookSeen.{Seen, ticket_of};
 ghost use Rattle.host_hub.specs.Plan.{part_of};
-ghost use Rattle.host_hub.specs.Record.{Past};
+ghost use Rattle.host_hub.specs.Record.{Asking, Past};
 ghost use Rattle.host_hub.specs.Stands.{GoesTo};
-ghost use Rattle.host_hub.specs.Writes.{CanPart, Ends, IsPartNext, IsReady, PartIsNext, Puts, Ready};
+ghost use Rattle.host_hub.specs.Writes.{CanPart, Ends, CanRequest, CanWrite, IsPartNext, IsReadNext, IsReady, IsRequestNext, PartIsNext, Puts, ReadIsNext, Ready, RequestIsNext};
 
 use crate::End;
 use crate::hub_core::{HubCore, Phase};
@@ -148,8 +149,12 @@ impl HubCore {
         view.last != 0
     }
 
-    /// Requests the next piece of the response, as much as the limit leaves.
-    pub(crate) fn request(&mut self) {
+    /// Requests the next piece of the response, as much as the limit leaves. Where there is no number for the submit, the hub
+    /// ends.
+    pub(crate) fn request(&mut self)
+        requires { IsRequestNext self.old }
+        ensures { (s : Setting) (past : Past) (sent : List ℕ) → RequestIsNext s past sent self.old → GoesTo s past sent self.new }
+    {
         if self.urbs.next() > LAST_SUBMIT {
             self.stop(End::Exhausted);
             return;
@@ -157,7 +162,17 @@ impl HubCore {
         self.write_request();
     }
 
-    fn write_request(&mut self) {
+    /// Writes a request.
+    fn write_request(&mut self)
+        requires { CanRequest self.old }
+        ensures urbs { (s : Setting) → self.old.urbs.devid ≡ s.devid → self.old.ends ≡ s.ends → (seen : Seen) → ticket_of self.old.active self.old.book.tickets ≡ Some seen
+            → Puts s (Request (tag_behind self.old.tags) (min (seen.limit - length seen.bytes) REQUEST_MAX)) self.old.urbs self.new.urbs }
+        ensures assembly { (seen : Seen) → ticket_of self.old.active self.old.book.tickets ≡ Some seen
+            → self.new.assembly ≡ record { tag = tag_behind self.old.tags; size = min (seen.limit - length seen.bytes) REQUEST_MAX; head = []; count = 0; over = false } }
+        ensures asked { self.new.asked ≡ header_size }
+        ensures rest { self.new ≡ record self.old {
+          urbs = self.new.urbs; tags = tag_behind self.old.tags; phase = phase.Request; asked = self.new.asked; assembly = self.new.assembly } }
+    {
         let Some(view) = self.book.view(self.active) else {
             unreachable!()
         };
@@ -171,8 +186,11 @@ impl HubCore {
         self.phase = Phase::Request;
     }
 
-    /// Reads on in the piece that was requested.
-    pub(crate) fn read(&mut self) {
+    /// Reads on in the piece that was requested. Where there is no number for the submit, the hub ends.
+    pub(crate) fn read(&mut self)
+        requires { IsReadNext self.old }
+        ensures { (s : Setting) (past : Past) (sent : List ℕ) → ReadIsNext s past sent self.old → GoesTo s past sent self.new }
+    {
         if self.urbs.next() > LAST_SUBMIT {
             self.stop(End::Exhausted);
             return;
@@ -181,7 +199,11 @@ impl HubCore {
     }
 
     /// Writes a read.
-    fn write_read(&mut self) {
+    fn write_read(&mut self)
+        requires { (asking : Asking) × CanWrite self.old asking }
+        ensures urbs { (s : Setting) → self.old.urbs.devid ≡ s.devid → self.old.ends ≡ s.ends → Puts s Read self.old.urbs self.new.urbs }
+        ensures rest { self.new ≡ record self.old { urbs = self.new.urbs; phase = phase.Response; asked = BULK_IN_SUBMIT } }
+    {
         let ep = number_of(self.ends.bulk_in);
         self.urbs.submit(Dir::In, ep, BULK_IN_SUBMIT, [0; 8], &[]);
         self.asked = BULK_IN_SUBMIT;
