@@ -74,7 +74,7 @@ same_tag s past sent core k = ap (λ (n : ℕ). n % 255 + 1) k.tag
 cons_same : (x e : Entry) → x ∷ [] ≡ e ∷ [] → x ≡ e
 cons_same x e h = cc
 
-cons_none : {P : Type 0} (x : Entry) → x ∷ [] ≡ [] → P
+pub cons_none : {P : Type 0} (x : Entry) → x ∷ [] ≡ [] → P
 cons_none x h = absurd (no h)
   where
     no : x ∷ [] ≡ [] → ⊥

@@ -168,7 +168,7 @@ seen_there book n there =
 
 -- ---- entries and their marks
 
-entries_added : (xs : List Marked) (x : Marked) → entries_in (xs ++ x ∷ []) ≡ entries_in xs ++ x.entry ∷ []
+pub entries_added : (xs : List Marked) (x : Marked) → entries_in (xs ++ x ∷ []) ≡ entries_in xs ++ x.entry ∷ []
 entries_added [] x = refl
 entries_added (y ∷ ys) x = ap (λ (l : List BookEntry). y.entry ∷ l) (entries_added ys x)
 

@@ -14,6 +14,7 @@ pub mod Asks
 pub mod Nexts
 pub mod Parts
 pub mod Responses
+pub mod Givings
 pub mod Lawful
 pub mod Numbers
 pub mod Pasts

@@ -16,7 +16,7 @@ use Rattle.host_hub.specs.Causes.{reached}
 use Rattle.host_hub.specs.Plan.{last, parts}
 use Rattle.host_hub.specs.Recovery.{AreRecovered}
 use Rattle.host_hub.specs.Law.{Kept}
-use Rattle.host_hub.specs.Calls.{All, IsOwn}
+use Rattle.host_hub.specs.Calls.{AddsGivingUp, All, IsOwn}
 use Rattle.host_hub.specs.Steps.{IsClean}
 use Rattle.host_hub.specs.Knows.{Knows}
 use Rattle.host_hub.specs.OneOut.{OneOut}
@@ -99,3 +99,9 @@ pub record IsAtRest (core : HubCore) : Type 0 where
   pub past : Past
   pub sent : List ℕ
   pub rests : Rests setting past sent core
+
+-- it went on by being given up
+pub record IsGivenUp (s : Setting) (past : Past) (sent : List ℕ) (core : HubCore) : Type 0 where
+  pub more : Past
+  pub adds : AddsGivingUp more
+  pub rests : Rests s (more ++ past) sent core

@@ -7,7 +7,9 @@ ghost use Rattle.host_hub.specs.Book.{KeepsBook, live};
 ghost use Rattle.host_hub.specs.BookRoom.{is_open};
 ghost use Rattle.host_hub.specs.Causes.{named};
 ghost use Rattle.host_hub.specs.Steps.{settle_all};
-ghost use Rattle.host_hub.specs.Knows.{HasBook, HasRecord, Knows};
+ghost use Rattle.host_hub.specs.declared.outcome.End.{End};
+ghost use Rattle.host_hub.specs.Knows.{HasBook, Knows};
+ghost use Rattle.host_hub.specs.Stands.{IsAtRest, IsGivenUp, Rests};
 
 use crate::hub_core::HubCore;
 use crate::{End, Outcome};
@@ -55,13 +57,19 @@ impl HubCore {
         self.settle_all(end);
     }
 
-    /// Enters that a running hub is given up, and ends it.
-    pub(crate) fn give_up(&mut self) {
-        if self.end.is_none() {
-            let mark = self.mark();
-            self.book.give_up();
-            self.notes.mark(mark);
-            self.stop(End::GivenUp);
+    /// Enters that a running hub is given up, and ends it. A hub that has ended stays as it is.
+    pub(crate) fn give_up(&mut self)
+        requires { IsAtRest self.old }
+        ensures given { self.old.end ≡ None → (s : Setting) (past : Past) (sent : List ℕ) → Rests s past sent self.old → IsGivenUp s past sent self.new }
+        ensures again { (e : End) → self.old.end ≡ Some e → self.new ≡ self.old }
+    {
+        if let Some(_) = self.end {
+            return;
         }
+        let mark = self.mark();
+        self.book.give_up();
+        self.notes.mark(mark);
+        self.end = Some(End::GivenUp);
+        self.settle_all(End::GivenUp);
     }
 }

@@ -1,10 +1,11 @@
-ghost use Rattle.std.specs.Prelude.{◌≡◌, ◌≤◌, ℕ, ◌+◌, ◌∷◌, List, Some, false};
+ghost use Rattle.std.specs.Prelude.{◌≡◌, ◌≤◌, ℕ, ◌+◌, ◌∷◌, [], List, Some, false, IfOk};
 ghost use Rattle.host_hub.specs.declared.limits.TheConstants.{TICKETS_MAX};
 ghost use Rattle.host_hub.specs.Order.{Setting};
 ghost use Rattle.host_hub.specs.Record.{Past, Settled};
 ghost use Rattle.host_hub.specs.Book.{active};
 ghost use Rattle.host_hub.specs.BookRoom.{is_open};
 ghost use Rattle.host_hub.specs.Knows.{HasActive, HasRecord, Knows, mark_of};
+ghost use Rattle.host_hub.specs.Stands.{Rests};
 
 use crate::book::Book;
 use crate::notes::{Mark, Notes};
@@ -64,7 +65,11 @@ impl HubCore {
         devid: u32,
         ends: Ends,
         first: u32,
-    ) -> Result<HubCore, Memory> {
+    ) -> Result<HubCore, Memory>
+        requires { 1 ≤ first }
+        ensures rests { IfOk result (λ core. Rests (record { first = first; devid = devid; ends = ends; depth = 1 }) [] [] core) }
+        ensures turned { IfOk result (λ core. core.turned ≡ 0) }
+    {
         Ok(HubCore {
             alloc,
             first,
