@@ -83,7 +83,7 @@ unrefused s past a message none = step (ended past) refl none
         let six = test_none (is_full past a) fault.Full _ five.1 in
         let seven = test_none (nat_lt LAST_ASK (next s.first past)) fault.Exhausted None six.1 in
         let room : ((tickets past == TICKETS_MAX) ≡ false) × (nat_lt LIMITS_MAX (limits past + a.limit) ≡ false) =
-            neither (tickets past == TICKETS_MAX) (nat_lt LIMITS_MAX (limits past + a.limit)) six.0 in
+        neither (tickets past == TICKETS_MAX) (nat_lt LIMITS_MAX (limits past + a.limit)) six.0 in
         record {
           running = is;
           proper = record {
@@ -108,6 +108,7 @@ one_awaited t l x xs is mine e = no (sym (ap (involved t l) is ∙ both) ∙ e)
   where
     both : involved t l (x ∷ []) ≡ x ∷ []
     both = rw mine refl
+
     no : x ∷ [] ≡ [] → ⊥
     no h = cc
 
@@ -116,6 +117,7 @@ one_busy x xs is plain e = no (sym (ap busy is ∙ both) ∙ e)
   where
     both : busy (x ∷ []) ≡ x ∷ []
     both = rw plain refl
+
     no : x ∷ [] ≡ [] → ⊥
     no h = cc
 
@@ -159,26 +161,52 @@ queued_rests s past sent core a b n sum r running works k = step core.phase refl
   where
     over : ended past ≡ None
     over = sym r.knows.over ∙ running
+
     step : (p : Phase) → core.phase ≡ p → Stands p s past core → Rests s (asked past a) sent (after core b n sum)
     step phase.Idle e h = absurd (works e)
     step phase.Message e h = record {
       knows = k;
       kept = waits_asked s past core a h.asking _ h.split r.knows.shallow r.kept over (r.knows.proper core.active h.asking h.out.asks) refl h.out;
-      stands = λ _. subst (λ (q : Phase). Stands q s (asked past a) (after core b n sum)) (sym e) (record { asking = h.asking; tag = h.tag; text = h.text; split = h.split;
-        out = out_asked s past core a h.asking _ h.split b n sum r.kept h.out; none = h.none });
+      stands = λ _. subst (λ (q : Phase). Stands q s (asked past a) (after core b n sum)) (sym e) (record {
+        asking = h.asking;
+        tag = h.tag;
+        text = h.text;
+        split = h.split;
+        out = out_asked s past core a h.asking _ h.split b n sum r.kept h.out;
+        none = h.none;
+      });
     }
     step phase.Request e h = record {
       knows = k;
       kept = waits_asked s past core a h.asking _ false r.knows.shallow r.kept over (r.knows.proper core.active h.asking h.out.asks) refl h.out;
-      stands = λ _. subst (λ (q : Phase). Stands q s (asked past a) (after core b n sum)) (sym e) (record { asking = h.asking; asks = h.asks; tag = h.tag; size = h.size; earlier = h.earlier;
-        out = out_asked s past core a h.asking _ false b n sum r.kept h.out; now = h.now; assembly = h.assembly });
+      stands = λ _. subst (λ (q : Phase). Stands q s (asked past a) (after core b n sum)) (sym e) (record {
+        asking = h.asking;
+        asks = h.asks;
+        tag = h.tag;
+        size = h.size;
+        earlier = h.earlier;
+        out = out_asked s past core a h.asking _ false b n sum r.kept h.out;
+        now = h.now;
+        assembly = h.assembly;
+      });
     }
     step phase.Response e h = record {
       knows = k;
       kept = waits_asked s past core a h.asking _ false r.knows.shallow r.kept over (r.knows.proper core.active h.asking h.out.asks) refl h.out;
-      stands = λ _. subst (λ (q : Phase). Stands q s (asked past a) (after core b n sum)) (sym e) (record { asking = h.asking; asks = h.asks; piece = h.piece; earlier = h.earlier;
-        out = out_asked s past core a h.asking _ false b n sum r.kept h.out; now = h.now; goes_on = h.goes_on; counts = h.counts; tag = h.tag; size = h.size;
-        holds = h.holds; open_still = h.open_still });
+      stands = λ _. subst (λ (q : Phase). Stands q s (asked past a) (after core b n sum)) (sym e) (record {
+        asking = h.asking;
+        asks = h.asks;
+        piece = h.piece;
+        earlier = h.earlier;
+        out = out_asked s past core a h.asking _ false b n sum r.kept h.out;
+        now = h.now;
+        goes_on = h.goes_on;
+        counts = h.counts;
+        tag = h.tag;
+        size = h.size;
+        holds = h.holds;
+        open_still = h.open_still;
+      });
     }
 
 -- ---- where nothing is entered
@@ -208,11 +236,31 @@ stands_roomier phase.Idle s past core room places h = record { none = h.none; no
 stands_roomier phase.Message s past core room places h =
     record { asking = h.asking; tag = h.tag; text = h.text; split = h.split; out = out_roomier s past core h.asking _ h.split room places h.out; none = h.none }
 stands_roomier phase.Request s past core room places h =
-    record { asking = h.asking; asks = h.asks; tag = h.tag; size = h.size; earlier = h.earlier;
-      out = out_roomier s past core h.asking _ false room places h.out; now = h.now; assembly = h.assembly }
+    record {
+      asking = h.asking;
+      asks = h.asks;
+      tag = h.tag;
+      size = h.size;
+      earlier = h.earlier;
+      out = out_roomier s past core h.asking _ false room places h.out;
+      now = h.now;
+      assembly = h.assembly;
+    }
 stands_roomier phase.Response s past core room places h =
-    record { asking = h.asking; asks = h.asks; piece = h.piece; earlier = h.earlier; out = out_roomier s past core h.asking _ false room places h.out;
-      now = h.now; goes_on = h.goes_on; counts = h.counts; tag = h.tag; size = h.size; holds = h.holds; open_still = h.open_still }
+    record {
+      asking = h.asking;
+      asks = h.asks;
+      piece = h.piece;
+      earlier = h.earlier;
+      out = out_roomier s past core h.asking _ false room places h.out;
+      now = h.now;
+      goes_on = h.goes_on;
+      counts = h.counts;
+      tag = h.tag;
+      size = h.size;
+      holds = h.holds;
+      open_still = h.open_still;
+    }
 
 pub roomier_rests : (s : Setting) (past : Past) (sent : List ℕ) (core : HubCore) (room places : ℕ) → Rests s past sent core → core.notes.room ≤ room
     → Rests s past sent (roomier core room places)

@@ -140,9 +140,11 @@ pub first_planned : (s : Setting) (past : Past) (sent : List ℕ) (core : HubCor
 first_planned s past sent core seen r found =
     let asks : asking_of core.active past ≡ Some (asking_seen seen) = (r.knows.shows.each core.active seen found).asking in
     let good : IsProper (asking_seen seen) = r.knows.proper core.active (asking_seen seen) asks in
-    let says : Speaks past core.active (asking_seen seen) = (asks, speaks seen.kind good.messages) in
-    (says, begins_planned s past core.active (asking_seen seen) (part_of (next_tag past) 0 seen.message) r.working r.turn r.fresh (ap busy r.none_out) r.recovered says
-    (first_is seen.kind seen.message (next_tag past) good.messages))
+    let says : Speaks past core.active (asking_seen seen) = (asks, speaks seen.kind good.messages) in (
+      says,
+      begins_planned s past core.active (asking_seen seen) (part_of (next_tag past) 0 seen.message) r.working r.turn r.fresh (ap busy r.none_out) r.recovered says
+          (first_is seen.kind seen.message (next_tag past) good.messages),
+    )
 
 pub none_taken : (past : Past) → outstanding past ≡ [] → length (outstanding past) < 16
 none_taken past e = omega (arith, ap (λ (l : List Sent). length l) e)
@@ -154,7 +156,7 @@ pub begins_rests : (s : Setting) (past : Past) (sent : List ℕ) (core : HubCore
     → Ends (part_of (next_tag past) 0 seen.message) core.active core.urbs.next core.book b → q ≡ size_of s.ends (part_of (next_tag past) 0 seen.message)
     → n ≡ with_start core.active core.urbs.next core.notes
     → Rests s (wrote s past core.active (part_of (next_tag past) 0 seen.message)) sent
-      (record core { urbs = u; tags = next_tag past; book = b; notes = n; phase = phase.Message; parts = 1; asked = q })
+    (record core { urbs = u; tags = next_tag past; book = b; notes = n; phase = phase.Message; parts = 1; asked = q })
 begins_rests s past sent core seen u b q n r few found puts ends size starts =
     let order : Order = part_of (next_tag past) 0 seen.message in
     let number : core.urbs.next ≡ next s.first past = same_next s past sent core r.knows in
@@ -285,16 +287,23 @@ begins_can s past sent core r few =
     record {
       asking = asking_seen at.0;
       can = record {
-        setting = s; past = past; sent = sent;
+        setting = s;
+        past = past;
+        sent = sent;
         knows = knows_parts s past sent core 0 r.knows;
-        turn = r.turn; asks = asks; none = none; nothing = r.queue.none none; last = few };
+        turn = r.turn;
+        asks = asks;
+        none = none;
+        nothing = r.queue.none none;
+        last = few;
+      };
       there = omega (arith, (r.knows.proper core.active (asking_seen at.0) asks).some);
       few = omega arith;
     }
 
 pub begins_goes : (s : Setting) (past : Past) (sent : List ℕ) (core new : HubCore) (n : Noted) → (r : Ready s past sent core) → core.urbs.next ≤ LAST_SUBMIT
     → ((z : Setting) → core.urbs.devid ≡ z.devid → core.ends ≡ z.ends → (seen : Seen) → ticket_of core.active core.book.tickets ≡ Some seen
-      → Puts z (part_of (tag_behind core.tags) 0 seen.message) core.urbs new.urbs)
+    → Puts z (part_of (tag_behind core.tags) 0 seen.message) core.urbs new.urbs)
     → ((seen : Seen) → ticket_of core.active core.book.tickets ≡ Some seen → Ends (part_of (tag_behind core.tags) 0 seen.message) core.active core.urbs.next core.book new.book)
     → ((seen : Seen) → ticket_of core.active core.book.tickets ≡ Some seen → new.asked ≡ size_of core.ends (part_of (tag_behind core.tags) 0 seen.message))
     → new ≡ record core { urbs = new.urbs; tags = tag_behind core.tags; book = new.book; phase = phase.Message; parts = 1; asked = new.asked }

@@ -42,6 +42,7 @@ room_at (y ∷ ys) zero x h e lives = step (one e)
   where
     one : Some y ≡ Some x → y ≡ x
     one k = cc
+
     step : y ≡ x → x.limit ≤ vec_capacity x.bytes
     step k = subst (λ (z : Ticket). is_open z.outcome ≡ true → z.limit ≤ vec_capacity z.bytes) k h.0 lives
 room_at (y ∷ ys) (suc i) x h e lives = room_at ys i x h.1 e lives
@@ -62,6 +63,7 @@ open_set (z ∷ zs) zero x y e same = step (one e)
   where
     one : Some z ≡ Some y → z ≡ y
     one k = cc
+
     step : z ≡ y → open_count (x ∷ zs) ≡ open_count (z ∷ zs)
     step k = subst (λ (w : Seen). open_count (x ∷ zs) ≡ open_count (w ∷ zs)) (sym k) (rw same refl)
 open_set (z ∷ zs) (suc i) x y e same = rw (open_set zs i x y e same) refl
@@ -76,6 +78,7 @@ open_less (z ∷ zs) zero x y e was is = step (one e)
   where
     one : Some z ≡ Some y → z ≡ y
     one k = cc
+
     step : z ≡ y → open_count (z ∷ zs) ≡ suc (open_count (x ∷ zs))
     step k = subst (λ (w : Seen). open_count (w ∷ zs) ≡ suc (open_count (x ∷ zs))) (sym k) (rw was (rw is refl))
 open_less (z ∷ zs) (suc i) x y e was is = step (open_less zs i x y e was is) (is_open z.outcome) refl
@@ -200,7 +203,7 @@ pub roomy_settled : (kept : List Ticket) (made all : Vec BookEntry) (live : ℕ)
 roomy_settled kept made all live given n i x y r found lives settled more cap = record {
   count = sym (ap open_count (seen_set kept i x)
       ∙ (let e : open_count (all_seen kept) ≡ suc (open_count (slice_set (all_seen kept) i (seen_of x))) =
-          open_less (all_seen kept) i (seen_of x) (seen_of y) (seen_at kept i y found) lives settled in
+      open_less (all_seen kept) i (seen_of x) (seen_of y) (seen_at kept i y found) lives settled in
       omega (arith, e, r.count)));
   bytes = room_set kept i x r.bytes (λ e. clash (sym settled ∙ e));
   given = r.given ∙ sym (ap has_given_up more ∙ given_added made.items (entry.Settled n) refl);
@@ -217,7 +220,7 @@ roomy_given kept made all live given r none more cap = record {
   given = sym (ap has_given_up more ∙ given_now made.items);
   entries =
       let room : length made.items + to_come live false ≤ vec_capacity made =
-          subst (λ (b : Bool). length made.items + to_come live b ≤ vec_capacity made) (r.given ∙ none) r.entries in
+      subst (λ (b : Bool). length made.items + to_come live b ≤ vec_capacity made) (r.given ∙ none) r.entries in
       omega (arith, room, cap, ap (λ (l : List BookEntry). length l) more ∙ length_more made.items entry.GaveUp);
 }
 

@@ -83,7 +83,8 @@ knows_given s past sent core b n k running gives notes =
         count = k.shows.count;
         each = λ u one h. shown_given past u one (k.shows.each u one h);
         entries = entered s past core.book.entries entry.GaveUp k.shows.entries;
-        service = k.shows.service };
+        service = k.shows.service;
+      };
       marks = marked_too s past sent core entry.GaveUp k;
       all_started = k.all_started;
       starts = k.starts;
@@ -126,7 +127,7 @@ pub given_rests : (s : Setting) (past : Past) (sent : List ℕ) (core new : HubC
 given_rests s past sent core new r running is k =
     let a : Gives (live past) (Stopped end.GivenUp ∷ GaveUp ∷ past) = gives (live past) (Stopped end.GivenUp ∷ GaveUp ∷ past) in
     let same : settle_all end.GivenUp (live past) (Stopped end.GivenUp ∷ GaveUp ∷ past) ≡ ((a.more ++ Stopped end.GivenUp ∷ []) ++ GaveUp ∷ []) ++ past =
-        a.same ∙ (sym (append_assoc a.more (Stopped end.GivenUp ∷ []) (GaveUp ∷ past)) ∙ sym (append_assoc (a.more ++ Stopped end.GivenUp ∷ []) (GaveUp ∷ []) past)) in
+    a.same ∙ (sym (append_assoc a.more (Stopped end.GivenUp ∷ []) (GaveUp ∷ past)) ∙ sym (append_assoc (a.more ++ Stopped end.GivenUp ∷ []) (GaveUp ∷ []) past)) in
     record {
       more = (a.more ++ Stopped end.GivenUp ∷ []) ++ GaveUp ∷ [];
       adds = record { own = a.more ++ Stopped end.GivenUp ∷ []; by_itself = of_added a.more (Stopped end.GivenUp) a.all refl; is = refl };
@@ -191,7 +192,8 @@ fresh_rests s core depth first ends urbs follows book notes tags limits active i
     recovered = (refl, refl);
     queue = record {
       none = λ e. ap (λ (h : held.Held). h.outbox) urbs;
-      one = λ x e. cons_none x (sym e ∙ ap (λ (h : held.Held). h.entries) urbs) };
+      one = λ x e. cons_none x (sym e ∙ ap (λ (h : held.Held). h.entries) urbs);
+    };
   });
 }
   where

@@ -92,6 +92,7 @@ each_set past xs t x first mine others u one e = step (t == u) refl
   where
     at : ((u == 0) ≡ false) × (slice_get (slice_set xs (t - 1) x) (u - 1) ≡ Some one)
     at = at_number u (slice_set xs (t - 1) x) one e
+
     step : (b : Bool) → (t == u) ≡ b → ShowsTicket past u one
     step true h =
         let same : t ≡ u = eqb-true t u h in
@@ -182,7 +183,7 @@ now_mark s past = record { written = length (written s past); taken = length (ta
 pub mark_is : (s : Setting) (past : Past) (sent : List ℕ) (core : HubCore) → Knows s past sent core → mark_of core ≡ now_mark s past
 mark_is s past sent core k =
     let count : core.urbs.next - core.first ≡ length (written s past) =
-        omega (arith, k.follows.number, k.first_number, ap (λ (l : List up.Message). length l) (written_same s past)) in
+    omega (arith, k.follows.number, k.first_number, ap (λ (l : List up.Message). length l) (written_same s past)) in
     rw count (rw k.answers refl)
 
 -- the entries and the marks with one more
@@ -401,7 +402,7 @@ knows_roomier s past sent core room places k more = record {
   answers = k.answers;
   over = k.over;
   proper = k.proper;
-      few = k.few;
+  few = k.few;
   waiting = k.waiting;
   row = k.row;
   next_ticket = k.next_ticket;
@@ -456,7 +457,7 @@ knows_stopped s past sent core e running k = record {
   answers = k.answers;
   over = refl;
   proper = k.proper;
-      few = k.few;
+  few = k.few;
   waiting = k.waiting;
   row = k.row;
   next_ticket = k.next_ticket;

@@ -46,9 +46,11 @@ none_awaits t past e = ap (involved t (listens t past)) e
 pub next_planned : (s : Setting) (past : Past) (sent : List ℕ) (core : HubCore) (asking : Asking) (split : Bool) (order : Order) → GoesOn s past sent core asking split
     → IsNext s past core asking order → Speaks past core.active asking × Planned s past core.active order
 next_planned s past sent core asking split order g n =
-    let says : Speaks past core.active asking = (g.asks, speaks asking.kind (g.knows.proper core.active asking g.asks).messages) in
-    (says, goes_on_planned s past core.active asking order g.turn g.begun g.free says n.plan
-    (subst (λ (xs : List Sent). When s (pieces core.active past) xs order) (sym (none_awaits core.active past g.none_out)) n.when))
+    let says : Speaks past core.active asking = (g.asks, speaks asking.kind (g.knows.proper core.active asking g.asks).messages) in (
+      says,
+      goes_on_planned s past core.active asking order g.turn g.begun g.free says n.plan
+          (subst (λ (xs : List Sent). When s (pieces core.active past) xs order) (sym (none_awaits core.active past g.none_out)) n.when),
+    )
 
 pub next_kept : (s : Setting) (past : Past) (sent : List ℕ) (core : HubCore) (asking : Asking) (split : Bool) (order : Order) → GoesOn s past sent core asking split
     → IsNext s past core asking order → core.urbs.next ≤ LAST_SUBMIT → Kept s (wrote s past core.active order)

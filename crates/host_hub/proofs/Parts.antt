@@ -49,8 +49,16 @@ part_can s past sent core p few =
     record {
       asking = p.asking;
       can = record {
-        setting = s; past = past; sent = sent;
-        knows = p.goes.knows; turn = p.goes.turn; asks = p.goes.asks; none = none; nothing = p.goes.queue.none none; last = few };
+        setting = s;
+        past = past;
+        sent = sent;
+        knows = p.goes.knows;
+        turn = p.goes.turn;
+        asks = p.goes.asks;
+        none = none;
+        nothing = p.goes.queue.none none;
+        last = few;
+      };
       there = p.left;
       few = omega (arith, p.left, (p.goes.knows.proper core.active p.asking p.goes.asks).short);
     }
@@ -76,7 +84,7 @@ part_rests s past sent core seen u b r p few found puts ends size = record {
 
 pub part_goes : (s : Setting) (past : Past) (sent : List ℕ) (core new : HubCore) → (p : PartIsNext s past sent core) → core.urbs.next ≤ LAST_SUBMIT
     → ((z : Setting) → core.urbs.devid ≡ z.devid → core.ends ≡ z.ends → (seen : Seen) → ticket_of core.active core.book.tickets ≡ Some seen
-      → Puts z (part_of (tag_behind core.tags) core.parts seen.message) core.urbs new.urbs)
+    → Puts z (part_of (tag_behind core.tags) core.parts seen.message) core.urbs new.urbs)
     → ((seen : Seen) → ticket_of core.active core.book.tickets ≡ Some seen → Ends (part_of (tag_behind core.tags) core.parts seen.message) core.active core.urbs.next core.book new.book)
     → ((seen : Seen) → ticket_of core.active core.book.tickets ≡ Some seen → new.asked ≡ size_of core.ends (part_of (tag_behind core.tags) core.parts seen.message))
     → new ≡ record core { urbs = new.urbs; tags = tag_behind core.tags; book = new.book; phase = phase.Message; parts = core.parts + 1; asked = new.asked } → GoesTo s past sent new

@@ -53,8 +53,16 @@ request_can s past sent core p few =
     record {
       asking = p.asking;
       can = record {
-        setting = s; past = past; sent = sent;
-        knows = p.goes.knows; turn = p.goes.turn; asks = p.goes.asks; none = none; nothing = p.goes.queue.none none; last = few };
+        setting = s;
+        past = past;
+        sent = sent;
+        knows = p.goes.knows;
+        turn = p.goes.turn;
+        asks = p.goes.asks;
+        none = none;
+        nothing = p.goes.queue.none none;
+        last = few;
+      };
       left = λ seen found.
           (let limit : seen.limit ≡ p.asking.limit = ap (λ (a : Asking). a.limit) (seen_asks s past sent core p.asking false seen p.goes found) in
           let bytes : length seen.bytes ≡ length (data_in (pieces core.active past)) = ap (λ (l : List ℕ). length l) (p.goes.knows.shows.each core.active seen found).bytes in
@@ -87,16 +95,16 @@ request_rests s past sent core seen size u a p few found is puts begun =
 
 pub request_goes : (s : Setting) (past : Past) (sent : List ℕ) (core new : HubCore) → (p : RequestIsNext s past sent core) → core.urbs.next ≤ LAST_SUBMIT
     → ((z : Setting) → core.urbs.devid ≡ z.devid → core.ends ≡ z.ends → (seen : Seen) → ticket_of core.active core.book.tickets ≡ Some seen
-      → Puts z (Request (tag_behind core.tags) (min (seen.limit - length seen.bytes) REQUEST_MAX)) core.urbs new.urbs)
+    → Puts z (Request (tag_behind core.tags) (min (seen.limit - length seen.bytes) REQUEST_MAX)) core.urbs new.urbs)
     → ((seen : Seen) → ticket_of core.active core.book.tickets ≡ Some seen
-      → new.assembly ≡ record { tag = tag_behind core.tags; size = min (seen.limit - length seen.bytes) REQUEST_MAX; head = []; count = 0; over = false })
+    → new.assembly ≡ record { tag = tag_behind core.tags; size = min (seen.limit - length seen.bytes) REQUEST_MAX; head = []; count = 0; over = false })
     → new.asked ≡ header_size
     → new ≡ record core { urbs = new.urbs; tags = tag_behind core.tags; phase = phase.Request; asked = new.asked; assembly = new.assembly } → GoesTo s past sent new
 request_goes s past sent core new p few puts begun size rest =
     let at : (seen : Seen) × (ticket_of core.active core.book.tickets ≡ Some seen) = seen_there core.book core.active (known_ticket s past sent core p.goes.knows p.goes.turn) in
     let tag : tag_behind core.tags ≡ next_tag past = same_tag s past sent core p.goes.knows in
     let is : request_of (next_tag past) p.asking.limit (pieces core.active past) ≡ Request (next_tag past) (min (at.0.limit - length at.0.bytes) REQUEST_MAX) =
-        ap (λ (n : ℕ). Request (next_tag past) (min n REQUEST_MAX)) (sym (seen_left s past sent core at.0 p at.1)) in
+    ap (λ (n : ℕ). Request (next_tag past) (min n REQUEST_MAX)) (sym (seen_left s past sent core at.0 p at.1)) in
     record {
       more = Wrote (next s.first past) (Of core.active) (Request (next_tag past) (min (at.0.limit - length at.0.bytes) REQUEST_MAX)) ∷ [];
       by_itself = (tt, tt);
@@ -113,10 +121,20 @@ read_next s past sent core p = record { plan = p.plan; when = when_read s (piece
 
 pub read_can : (s : Setting) (past : Past) (sent : List ℕ) (core : HubCore) → ReadIsNext s past sent core → core.urbs.next ≤ LAST_SUBMIT → (asking : Asking) × CanWrite core asking
 read_can s past sent core p few =
-    let none : core.urbs.entries ≡ [] = none_entries s past sent core p.goes.working.lawful p.goes.knows p.goes.none_out in
-    (p.asking, record {
-      setting = s; past = past; sent = sent;
-      knows = p.goes.knows; turn = p.goes.turn; asks = p.goes.asks; none = none; nothing = p.goes.queue.none none; last = few })
+    let none : core.urbs.entries ≡ [] = none_entries s past sent core p.goes.working.lawful p.goes.knows p.goes.none_out in (
+      p.asking,
+      record {
+        setting = s;
+        past = past;
+        sent = sent;
+        knows = p.goes.knows;
+        turn = p.goes.turn;
+        asks = p.goes.asks;
+        none = none;
+        nothing = p.goes.queue.none none;
+        last = few;
+      },
+    )
 
 pub read_rests : (s : Setting) (past : Past) (sent : List ℕ) (core : HubCore) (seen : Seen) (u : Held) → (p : ReadIsNext s past sent core) → core.urbs.next ≤ LAST_SUBMIT
     → ticket_of core.active core.book.tickets ≡ Some seen → Puts s Read core.urbs u

@@ -60,12 +60,7 @@ pub(crate) struct HubCore {
 
 impl HubCore {
     /// A hub of the device `devid` with this interface, whose first message will have the number `first`.
-    pub(crate) fn new(
-        alloc: Global,
-        devid: u32,
-        ends: Ends,
-        first: u32,
-    ) -> Result<HubCore, Memory>
+    pub(crate) fn new(alloc: Global, devid: u32, ends: Ends, first: u32) -> Result<HubCore, Memory>
         requires { 1 ≤ first }
         ensures rests { IfOk result (λ core. Rests (record { first = first; devid = devid; ends = ends; depth = 1 }) [] [] core) }
         ensures turned { IfOk result (λ core. core.turned ≡ 0) }
@@ -123,16 +118,5 @@ impl HubCore {
         self.book.settle(self.active, outcome);
         self.notes.mark(mark);
         self.active += 1;
-    }
-
-    /// The book alone.
-    pub(crate) fn into_book(self) -> Book {
-        let HubCore { book, .. } = self;
-        book
-    }
-
-    /// Counts a turn, up to the greatest count.
-    pub(crate) fn count_turn(&mut self) {
-        self.turned = self.turned.saturating_add(1);
     }
 }

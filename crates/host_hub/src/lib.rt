@@ -1,4 +1,5 @@
-//! The hub's record: what happened at a hub, the latest first, from which its messages, its book and its outcomes are read.
+//! The hub's record: what happened at a hub, the latest first, from which its messages, its book and its outcomes are read;
+//! and a hub without its link, as far as it asks, writes and ends.
 //!
 //! The functions of `laws` do nothing: their contracts say what holds of the definitions in `specs/`.
 #![tactic(auto)]
@@ -8,8 +9,6 @@ mod asking;
 mod book;
 mod ending;
 mod facts;
-mod hearing;
-mod hub;
 mod hub_core;
 mod kind;
 mod laws;
@@ -24,7 +23,6 @@ mod steps;
 mod stops;
 mod ticket;
 mod ties;
-mod turning;
 mod view;
 pub mod worked;
 mod writing;
@@ -35,7 +33,6 @@ pub use facts::{
     books_are_kept, each_outcome_has_its_cause, recoveries_are_made, something_is_waited_for,
     traffic_is_planned, unlinks_are_due,
 };
-pub use hub::Hub;
 pub use kind::Kind;
 pub use laws::{
     a_settled_outcome_stays, answers_may_come, messages_are_crossings, messages_are_lawful,
@@ -63,6 +60,3 @@ pub use stops::{
 };
 pub use ties::records_are_tied;
 pub use view::View;
-
-#[cfg(test)]
-mod tests;

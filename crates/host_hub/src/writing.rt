@@ -74,15 +74,6 @@ fn put_part(urbs: &mut Urbs, tags: &mut Tags, ep: u32, message: &[u8], count: us
 }
 
 impl HubCore {
-    /// Goes on to the next ticket, where there is one.
-    pub(crate) fn go_on(&mut self) {
-        if self.active <= self.book.tickets() {
-            self.begin();
-        } else {
-            self.phase = Phase::Idle;
-        }
-    }
-
     /// Begins the active ticket. Where there is no number for its submit, the hub ends.
     pub(crate) fn begin(&mut self)
         requires { IsReady self.old }
@@ -120,7 +111,13 @@ impl HubCore {
         ensures asked { (seen : Seen) → ticket_of self.old.active self.old.book.tickets ≡ Some seen
             → self.new.asked ≡ size_of self.old.ends (part_of (tag_behind self.old.tags) self.old.parts seen.message) }
         ensures rest { self.new ≡ record self.old {
-          urbs = self.new.urbs; tags = tag_behind self.old.tags; book = self.new.book; phase = phase.Message; parts = self.old.parts + 1; asked = self.new.asked } }
+          urbs = self.new.urbs;
+          tags = tag_behind self.old.tags;
+          book = self.new.book;
+          phase = phase.Message;
+          parts = self.old.parts + 1;
+          asked = self.new.asked;
+        } }
     {
         let Some(view) = self.book.view(self.active) else {
             unreachable!()
@@ -139,14 +136,6 @@ impl HubCore {
         if written.eom {
             self.book.end_message(self.active, written.number);
         }
-    }
-
-    /// Whether the whole message was written.
-    pub(crate) fn is_written(&self) -> bool {
-        let Some(view) = self.book.view(self.active) else {
-            unreachable!()
-        };
-        view.last != 0
     }
 
     /// Requests the next piece of the response, as much as the limit leaves. Where there is no number for the submit, the hub
@@ -171,7 +160,12 @@ impl HubCore {
             → self.new.assembly ≡ record { tag = tag_behind self.old.tags; size = min (seen.limit - length seen.bytes) REQUEST_MAX; head = []; count = 0; over = false } }
         ensures asked { self.new.asked ≡ header_size }
         ensures rest { self.new ≡ record self.old {
-          urbs = self.new.urbs; tags = tag_behind self.old.tags; phase = phase.Request; asked = self.new.asked; assembly = self.new.assembly } }
+          urbs = self.new.urbs;
+          tags = tag_behind self.old.tags;
+          phase = phase.Request;
+          asked = self.new.asked;
+          assembly = self.new.assembly;
+        } }
     {
         let Some(view) = self.book.view(self.active) else {
             unreachable!()

@@ -13,10 +13,14 @@ give_up-requires c = none_given c.requires.setting c.requires.past c.requires.se
 pub settle_all-requires : goal.settle_all-requires
 settle_all-requires c =
     let k = c.requires in
-    record { setting = k.setting; past = Stopped end.GivenUp ∷ GaveUp ∷ k.past; sent = k.sent;
+    record {
+      setting = k.setting;
+      past = Stopped end.GivenUp ∷ GaveUp ∷ k.past;
+      sent = k.sent;
       knows = knows_given k.setting k.past k.sent c.args.self.now c.give_up.new.self c.mark.new.self k.rests.knows c.in_default.is c.give_up.ensures
           (c.mark.ensures ∙ ap (λ (m : Mark). with_mark m c.args.self.now.notes) c.mark-mark.ensures);
-      keeps = given_keeps k.setting k.past k.sent c.args.self.now k.rests c.in_default.is }
+      keeps = given_keeps k.setting k.past k.sent c.args.self.now k.rests c.in_default.is;
+    }
 
 pub returns-clause-given : goal.returns-clause-given
 returns-clause-given c = λ running s past sent r.

@@ -23,12 +23,16 @@ live-preserved c =
     let turn : active k.past ≡ Some c.live.self.active = has_active k.setting k.past k.sent c.live.self k.knows (omega arith) in
     record {
       known = record {
-        setting = k.setting; past = Settled c.live.self.active c.outcome_of-outcome.result ∷ k.past; sent = k.sent;
-        knows = c.settle.ensures.goes k.setting k.past k.sent turn k.knows; keeps = (k.keeps, first_has c.live.self.active (live k.past) turn) };
+        setting = k.setting;
+        past = Settled c.live.self.active c.outcome_of-outcome.result ∷ k.past;
+        sent = k.sent;
+        knows = c.settle.ensures.goes k.setting k.past k.sent turn k.knows;
+        keeps = (k.keeps, first_has c.live.self.active (live k.past) turn);
+      };
       goes = λ s sent. goes_further s c.args.end sent c.args.self.now c.live.self c.settle.new.self (c.live.invariant.goes s sent)
           (λ past keeps knows. has_active s past sent c.live.self knows (omega arith))
           (λ past now knows. subst (λ (o : Outcome). Knows s (Settled c.live.self.active o ∷ past) sent c.settle.new.self) c.outcome_of-outcome.ensures.named
-              (c.settle.ensures.goes s past sent now knows));
+          (c.settle.ensures.goes s past sent now knows));
       rest = c.settle.ensures.rest ∙ ap (λ (h : HubCore). record h { book = c.settle.new.self.book; notes = c.settle.new.self.notes; active = c.live.self.active + 1 }) c.live.invariant.rest
           ∙ ap (λ (n : ℕ). record c.args.self.now { book = c.settle.new.self.book; notes = c.settle.new.self.notes; active = n }) (sym (ap (λ (h : HubCore). h.active) c.settle.ensures.rest));
     }
