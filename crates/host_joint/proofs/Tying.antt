@@ -65,11 +65,11 @@ unlinks_taken _ ups none = refl
 
 -- ---- the answers of a step
 
-stands_at : (e : Endpoint) (before : List Pending) (submit : Pending) (behind : List Pending) → AllFit e (before ++ submit ∷ behind) → FitsAt e submit
+pub stands_at : (e : Endpoint) (before : List Pending) (submit : Pending) (behind : List Pending) → AllFit e (before ++ submit ∷ behind) → FitsAt e submit
 stands_at e [] submit behind h = h.0
 stands_at e (x ∷ before) submit behind h = stands_at e before submit behind h.1
 
-arriving_fits : (head : SubmitHead) (transferred : List ℕ) (move : Move) (ups : List up.Message) → move ≡ Comes (up.Submit head transferred) → AllFitting (taken move ++ ups) → Fitting head
+pub arriving_fits : (head : SubmitHead) (transferred : List ℕ) (move : Move) (ups : List up.Message) → move ≡ Comes (up.Submit head transferred) → AllFitting (taken move ++ ups) → Fitting head
 arriving_fits head transferred move ups is h = (subst (λ (m : Move). AllFitting (taken m ++ ups)) is h).0
 
 no_unlink : {B : Type 0} (head : UnlinkHead) (move : Move) (ups : List up.Message) → move ≡ Comes (up.Unlink head) → unlinks_in (taken move ++ ups) ≡ [] → B

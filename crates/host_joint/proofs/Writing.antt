@@ -47,7 +47,7 @@ one_transfer head is = rw (eq-eqb head.ep 1 is) refl
 pub no_transfer : (head : SubmitHead) → head.ep ≡ 2 → transfers_of (Some head) ≡ 0
 no_transfer head is = let e : eqb head.ep 1 ≡ false = ap (λ (n : ℕ). eqb n 1) is in rw e refl
 
-fitting_more : (ups : List up.Message) (head : SubmitHead) (bytes : List ℕ) → Fitting head → AllFitting ups → AllFitting (ups ++ up.Submit head bytes ∷ [])
+pub fitting_more : (ups : List up.Message) (head : SubmitHead) (bytes : List ℕ) → Fitting head → AllFitting ups → AllFitting (ups ++ up.Submit head bytes ∷ [])
 fitting_more [] head bytes fits h = (fits, tt)
 fitting_more (up.Submit x transferred ∷ ups) head bytes fits h = (h.0, fitting_more ups head bytes fits h.1)
 fitting_more (up.Unlink x ∷ ups) head bytes fits h = fitting_more ups head bytes fits h
