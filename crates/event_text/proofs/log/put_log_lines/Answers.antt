@@ -1,4 +1,4 @@
-use Rattle.std.proofs.Common.{arith, refl}
+use Rattle.std.proofs.Common.{arith}
 use Rattle.event_text.specs.Report.{log_line}
 use Rattle.event_text.proofs.Numbered.{numbered_more, numbered_all}
 use Rattle.event_text.proofs.log.put_log_lines.Goals as goal
