@@ -1,0 +1,107 @@
+use super::session::Row::{Calm, Closed, Fails, Goes, Pending, Sends, Stays};
+use super::session::{DOWN, UP, answered, import, runs, submit};
+use crate::{DevEvent, Node};
+use std::test::Fail;
+use tmc_base::{Field, Layer, Name};
+
+/// A submit while 256 are pending.
+const TOO_MANY: Field = Field {
+    layer: Layer::Urb,
+    name: Name::Pending,
+    offset: 4,
+};
+
+/// A submit whose number is pending.
+const TWICE: Field = Field {
+    layer: Layer::Urb,
+    name: Name::Seqnum,
+    offset: 4,
+};
+
+#[test]
+fn a_session_is_answered_byte_by_byte(rt: HostRuntime) -> Result<(), Fail> {
+    let mut node = Node::new(rt.alloc())?;
+    for byte in UP {
+        runs(&rt, &mut node, &[Sends(&[byte]), Calm])?;
+    }
+    answered(&rt, node.pending_out(), &DOWN);
+    Ok(())
+}
+
+#[test]
+fn operations_go_on_until_the_import(rt: HostRuntime) -> Result<(), Fail> {
+    let mut node = Node::new(rt.alloc())?;
+    runs(
+        &rt,
+        &mut node,
+        &[
+            Sends(&[1, 0x11, 0x80, 5, 0, 0, 0, 0]), // OP_REQ_DEVLIST
+            Pending(328, &[0xFE, 3, 1, 0]),
+            Sends(&import(*b"9-9")),
+            Pending(336, &[1, 0x11, 0, 3, 0, 0, 0, 1]),
+            Stays(DevEvent::Unplug),
+            Sends(&import(*b"1-1")),
+            Pending(656, &[0, 0, 0, 1, 1, 1]),
+            Goes(DevEvent::Unplug),
+        ],
+    )
+}
+
+#[test]
+fn a_submit_too_many_is_refused(rt: HostRuntime) -> Result<(), Fail> {
+    let mut node = Node::imported(rt.alloc())?;
+    for seqnum in 1..257 {
+        runs(&rt, &mut node, &[Sends(&submit(seqnum))])?;
+    }
+    runs(
+        &rt,
+        &mut node,
+        &[
+            Fails(&submit(257), TOO_MANY),
+            Closed(Some(TOO_MANY)),
+            Fails(&submit(258), TOO_MANY),
+            Stays(DevEvent::Unplug),
+            Pending(0, &[]),
+        ],
+    )
+}
+
+#[test]
+fn a_pending_number_is_refused_and_nothing_behind_it_is_taken(rt: HostRuntime) -> Result<(), Fail> {
+    let mut node = Node::new(rt.alloc())?;
+    let mut bytes = UP.to_vec(rt.alloc())?;
+    bytes.extend_from_slice(&submit(6))?;
+    bytes.extend_from_slice(&submit(6))?;
+    bytes.extend_from_slice(&UP)?;
+    runs(
+        &rt,
+        &mut node,
+        &[
+            Fails(bytes.as_slice(), TWICE),
+            Closed(Some(TWICE)),
+            Pending(368, &[0, 0, 0, 0]),
+            Calm,
+            Pending(368, &[0, 0, 0, 0]),
+            Fails(&[], TWICE),
+        ],
+    )
+}
+
+#[test]
+fn an_unplugged_node_takes_nothing_in(rt: HostRuntime) -> Result<(), Fail> {
+    let mut node = Node::imported(rt.alloc())?;
+    runs(
+        &rt,
+        &mut node,
+        &[
+            Sends(&submit(1)),
+            Goes(DevEvent::Unplug),
+            Closed(None),
+            Pending(48, &[]),
+            Sends(&submit(1)),
+            Sends(&UP),
+            Calm,
+            Pending(48, &[]),
+        ],
+    )
+}

@@ -1,0 +1,142 @@
+//! What the tests share: a client's session with a node, row by row, and its bytes.
+
+use crate::{DevEvent, Drove, Fed, Node};
+use std::process::Abort;
+use std::test::Fail;
+use tmc_base::Field;
+
+/// A row of a session: what the client sends, what the instrument does, or what is pending then.
+#[derive(Clone, Copy)]
+pub(super) enum Row<'a> {
+    /// The client sends these bytes.
+    Sends(&'a [u8]),
+    /// The client sends these bytes, of which a field is refused.
+    Fails(&'a [u8], Field),
+    /// The event is applied.
+    Goes(DevEvent),
+    /// The event is not enabled.
+    Stays(DevEvent),
+    /// The calm moves are made.
+    Calm,
+    /// So many bytes are pending, the last of them these.
+    Pending(usize, &'a [u8]),
+    /// The node takes nothing in any more, and this field was refused.
+    Closed(Option<Field>),
+}
+
+/// Goes through the rows of a session.
+pub(super) fn runs(rt: &impl Abort, node: &mut Node, rows: &[Row<'_>]) -> Result<(), Fail> {
+    for row in rows {
+        passes(rt, node, *row)?;
+    }
+    Ok(())
+}
+
+/// Goes through one row.
+fn passes(rt: &impl Abort, node: &mut Node, row: Row<'_>) -> Result<(), Fail> {
+    match row {
+        Row::Sends(bytes) => assert_eq!(rt; node.feed(bytes), Fed::Ok),
+        Row::Fails(bytes, field) => assert_eq!(rt; node.feed(bytes), Fed::Refused(field)),
+        Row::Goes(event) => assert_eq!(rt; node.drive(event), Drove::Applied, "{event:?}"),
+        Row::Stays(event) => assert_eq!(rt; node.drive(event), Drove::NotEnabled, "{event:?}"),
+        Row::Calm => node.calm()?,
+        Row::Pending(count, last) => pending(rt, node, count, last),
+        Row::Closed(field) => {
+            assert!(rt; node.closed());
+            assert_eq!(rt; node.refused(), field);
+        }
+    }
+    Ok(())
+}
+
+/// So many bytes are pending, the last of them these.
+fn pending(rt: &impl Abort, node: &Node, count: usize, last: &[u8]) {
+    assert_eq!(rt; node.pending_out().len(), count);
+    assert!(rt; node.pending_out().ends_with(last), "of {count}");
+}
+
+/// These bytes are the reply to the import of the instrument, and the answers behind it.
+pub(super) fn answered(rt: &impl Abort, bytes: &[u8], answers: &[u8]) {
+    assert_eq!(rt; bytes.len(), 320 + answers.len());
+    let (reply, behind) = bytes.split_at(320);
+    assert!(rt; reply.starts_with(&PATH));
+    assert!(rt; reply.ends_with(&RECORD));
+    assert_eq!(rt; behind, answers);
+}
+
+/// What the client sends: it imports the instrument, sets the configuration, sends `*IDN?` and the request for its
+/// response, takes that, and unlinks what was answered.
+pub(super) const UP: [u8; 312] = [
+    1, 17, 128, 3, 0, 0, 0, 0, // OP_REQ_IMPORT
+    b'1', b'-', b'1', 0, 0, 0, 0, 0, // of the bus id
+    0, 0, 0, 0, 0, 0, 0, 0, 0, 0, 0, 0, 0, 0, 0, 0, 0, 0, 0, 0, 0, 0, 0, 0, //
+    0, 0, 0, 1, 0, 0, 0, 1, 0, 1, 0, 2, 0, 0, 0, 0, 0, 0, 0, 0, // USBIP_CMD_SUBMIT 1: OUT, endpoint 0
+    0, 0, 0, 0, 0, 0, 0, 0, 0, 0, 0, 0, 0, 0, 0, 0, 0, 0, 0, 0, // no data
+    0, 9, 1, 0, 0, 0, 0, 0, // SET_CONFIGURATION
+    0, 0, 0, 1, 0, 0, 0, 2, 0, 1, 0, 2, 0, 0, 0, 0, 0, 0, 0, 1, // USBIP_CMD_SUBMIT 2: OUT, endpoint 1
+    0, 0, 0, 0, 0, 0, 0, 20, 0, 0, 0, 0, 0, 0, 0, 0, 0, 0, 0, 0, // 20 bytes
+    0, 0, 0, 0, 0, 0, 0, 0, //
+    1, 1, 254, 0, 6, 0, 0, 0, 1, 0, 0, 0, // DEV_DEP_MSG_OUT with 6 bytes, EOM
+    b'*', b'I', b'D', b'N', b'?', b'\n', 0, 0, //
+    0, 0, 0, 1, 0, 0, 0, 3, 0, 1, 0, 2, 0, 0, 0, 0, 0, 0, 0, 1, // USBIP_CMD_SUBMIT 3: OUT, endpoint 1
+    0, 0, 0, 0, 0, 0, 0, 12, 0, 0, 0, 0, 0, 0, 0, 0, 0, 0, 0, 0, // 12 bytes
+    0, 0, 0, 0, 0, 0, 0, 0, //
+    2, 2, 253, 0, 0, 1, 0, 0, 0, 0, 0, 0, // REQUEST_DEV_DEP_MSG_IN for 256 bytes
+    0, 0, 0, 1, 0, 0, 0, 4, 0, 1, 0, 2, 0, 0, 0, 1, 0, 0, 0, 2, // USBIP_CMD_SUBMIT 4: IN, endpoint 2
+    0, 0, 0, 0, 0, 0, 2, 0, 0, 0, 0, 0, 0, 0, 0, 0, 0, 0, 0, 0, // 512 bytes
+    0, 0, 0, 0, 0, 0, 0, 0, //
+    0, 0, 0, 2, 0, 0, 0, 5, 0, 1, 0, 2, 0, 0, 0, 0, 0, 0, 0, 0, // USBIP_CMD_UNLINK 5
+    0, 0, 0, 4, 0, 0, 0, 0, 0, 0, 0, 0, 0, 0, 0, 0, 0, 0, 0, 0, // of submit 4
+    0, 0, 0, 0, 0, 0, 0, 0, //
+];
+
+/// What it is answered behind the reply to the import.
+pub(super) const DOWN: [u8; 272] = [
+    0, 0, 0, 3, 0, 0, 0, 1, 0, 0, 0, 0, 0, 0, 0, 0, 0, 0, 0, 0, // USBIP_RET_SUBMIT 1
+    0, 0, 0, 0, 0, 0, 0, 0, // status, no bytes
+    0, 0, 0, 0, 255, 255, 255, 255, 0, 0, 0, 0, 0, 0, 0, 0, 0, 0, 0, 0, //
+    0, 0, 0, 3, 0, 0, 0, 2, 0, 0, 0, 0, 0, 0, 0, 0, 0, 0, 0, 0, // USBIP_RET_SUBMIT 2
+    0, 0, 0, 0, 0, 0, 0, 20, // status, 20 bytes
+    0, 0, 0, 0, 255, 255, 255, 255, 0, 0, 0, 0, 0, 0, 0, 0, 0, 0, 0, 0, //
+    0, 0, 0, 3, 0, 0, 0, 3, 0, 0, 0, 0, 0, 0, 0, 0, 0, 0, 0, 0, // USBIP_RET_SUBMIT 3
+    0, 0, 0, 0, 0, 0, 0, 12, // status, 12 bytes
+    0, 0, 0, 0, 255, 255, 255, 255, 0, 0, 0, 0, 0, 0, 0, 0, 0, 0, 0, 0, //
+    0, 0, 0, 3, 0, 0, 0, 4, 0, 0, 0, 0, 0, 0, 0, 0, 0, 0, 0, 0, // USBIP_RET_SUBMIT 4
+    0, 0, 0, 0, 0, 0, 0, 32, // status, 32 bytes
+    0, 0, 0, 0, 255, 255, 255, 255, 0, 0, 0, 0, 0, 0, 0, 0, 0, 0, 0, 0, //
+    2, 2, 253, 0, 19, 0, 0, 0, 1, 0, 0, 0, // DEV_DEP_MSG_IN with 19 bytes, EOM
+    b'E', b'X', b'A', b'M', b'P', b'L', b'E', b',', b'T', b'M', b'C', b'1', b',', b'0', b',', b'1',
+    b'.', b'0', b'\n', 0, //
+    0, 0, 0, 4, 0, 0, 0, 5, 0, 0, 0, 0, 0, 0, 0, 0, 0, 0, 0, 0, // USBIP_RET_UNLINK 5
+    0, 0, 0, 0, 0, 0, 0, 0, 0, 0, 0, 0, 0, 0, 0, 0, 0, 0, 0, 0, 0, 0, 0, 0, 0, 0, 0, 0, // status
+];
+
+/// The reply to the import up to the path, which zeros follow.
+const PATH: [u8; 28] = *b"\x01\x11\0\x03\0\0\0\0/sys/devices/tmc/1-1";
+
+/// What the device record says behind the path and the bus id.
+const RECORD: [u8; 24] = [
+    0, 0, 0, 1, 0, 0, 0, 2, 0, 0, 0, 2, // busnum, devnum, speed
+    240, 85, 4, 136, 1, 0, // idVendor, idProduct, bcdDevice
+    0, 0, 0, 1, 1, 1, // the device's class, its configuration, one interface
+];
+
+/// A request for the import of a bus id.
+pub(super) fn import(busid: [u8; 3]) -> [u8; 40] {
+    let mut request = [0; 40];
+    request[..4].copy_from_slice(&[1, 0x11, 0x80, 3]);
+    request[8..11].copy_from_slice(&busid);
+    request
+}
+
+/// An IN submit on the interrupt endpoint.
+pub(super) fn submit(seqnum: u32) -> [u8; 48] {
+    let mut bytes = [0; 48];
+    bytes[..4].copy_from_slice(&[0, 0, 0, 1]);
+    bytes[4..8].copy_from_slice(&seqnum.to_be_bytes());
+    bytes[8..12].copy_from_slice(&[0, 1, 0, 2]);
+    bytes[15] = 1;
+    bytes[19] = 3;
+    bytes[27] = 2;
+    bytes
+}
