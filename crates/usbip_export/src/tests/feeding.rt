@@ -1,5 +1,7 @@
-use super::session::Row::{Calm, Closed, Fails, Goes, Pending, Sends, Stays};
-use super::session::{DOWN, UP, answered, import, runs, submit};
+use super::session::Row::{
+    Calm, Closed, Fails, Goes, Imports, Pending, Sends, Stays, SubmitFails, Submits, SubmitsTwice,
+};
+use super::session::{DOWN, UP, answered, runs};
 use crate::{DevEvent, Node};
 use std::test::Fail;
 use tmc_base::{Field, Layer, Name};
@@ -37,10 +39,10 @@ fn operations_go_on_until_the_import(rt: HostRuntime) -> Result<(), Fail> {
         &[
             Sends(&[1, 0x11, 0x80, 5, 0, 0, 0, 0]), // OP_REQ_DEVLIST
             Pending(328, &[0xFE, 3, 1, 0]),
-            Sends(&import(*b"9-9")),
+            Imports(*b"9-9"),
             Pending(336, &[1, 0x11, 0, 3, 0, 0, 0, 1]),
             Stays(DevEvent::Unplug),
-            Sends(&import(*b"1-1")),
+            Imports(*b"1-1"),
             Pending(656, &[0, 0, 0, 1, 1, 1]),
             Goes(DevEvent::Unplug),
         ],
@@ -51,15 +53,15 @@ fn operations_go_on_until_the_import(rt: HostRuntime) -> Result<(), Fail> {
 fn a_submit_too_many_is_refused(rt: HostRuntime) -> Result<(), Fail> {
     let mut node = Node::imported(rt.alloc())?;
     for seqnum in 1..257 {
-        runs(&rt, &mut node, &[Sends(&submit(seqnum))])?;
+        runs(&rt, &mut node, &[Submits(seqnum)])?;
     }
     runs(
         &rt,
         &mut node,
         &[
-            Fails(&submit(257), TOO_MANY),
+            SubmitFails(257, TOO_MANY),
             Closed(Some(TOO_MANY)),
-            Fails(&submit(258), TOO_MANY),
+            SubmitFails(258, TOO_MANY),
             Stays(DevEvent::Unplug),
             Pending(0, &[]),
         ],
@@ -69,15 +71,13 @@ fn a_submit_too_many_is_refused(rt: HostRuntime) -> Result<(), Fail> {
 #[test]
 fn a_pending_number_is_refused_and_nothing_behind_it_is_taken(rt: HostRuntime) -> Result<(), Fail> {
     let mut node = Node::new(rt.alloc())?;
-    let mut bytes = UP.to_vec(rt.alloc())?;
-    bytes.extend_from_slice(&submit(6))?;
-    bytes.extend_from_slice(&submit(6))?;
-    bytes.extend_from_slice(&UP)?;
     runs(
         &rt,
         &mut node,
         &[
-            Fails(bytes.as_slice(), TWICE),
+            Sends(&UP),
+            Pending(368, &[0, 0, 0, 0]),
+            SubmitsTwice(6, TWICE),
             Closed(Some(TWICE)),
             Pending(368, &[0, 0, 0, 0]),
             Calm,
@@ -94,11 +94,11 @@ fn an_unplugged_node_takes_nothing_in(rt: HostRuntime) -> Result<(), Fail> {
         &rt,
         &mut node,
         &[
-            Sends(&submit(1)),
+            Submits(1),
             Goes(DevEvent::Unplug),
             Closed(None),
             Pending(48, &[]),
-            Sends(&submit(1)),
+            Submits(1),
             Sends(&UP),
             Calm,
             Pending(48, &[]),

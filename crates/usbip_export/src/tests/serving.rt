@@ -1,40 +1,74 @@
-use super::session::Row::{Goes, Sends};
-use super::session::{DOWN, UP, answered, runs, submit};
+use super::session::Row::{Goes, Submits};
+use super::session::{DOWN, UP, answered, runs};
 use crate::{DevEvent, Node, ServeEnd, serve_link};
-use std::alloc::Global;
+use std::alloc::{AllocError, Global};
 use std::process::Abort;
 use std::test::Fail;
 use tmc_base::{Field, Layer, MemLink, Memory, Name};
 
-/// The session without the unlink, and what it is answered: the response comes in the last answer.
+/// A client: what it sends, in pieces of at most `most_poll` bytes, the most bytes that it takes at once, and the numbers
+/// of the send and of the poll that fail.
+#[derive(Clone, Copy)]
+struct Client<'a> {
+    gives: &'a [u8],
+    most_send: usize,
+    most_poll: usize,
+    fail_send: u32,
+    fail_poll: u32,
+}
+
+/// The link to a client.
+fn link(alloc: Global, client: Client<'_>) -> Result<MemLink, Memory> {
+    MemLink::new(
+        alloc,
+        client.gives.to_vec(alloc)?,
+        65_536,
+        client.most_send.max(1),
+        client.most_poll.max(1),
+        [client.fail_send].to_vec(alloc)?,
+        [client.fail_poll].to_vec(alloc)?,
+    )
+}
+
+/// Serves a client by calls in a row: each in at most so many turns, with its end.
+fn serve(rt: &impl Abort, node: &mut Node, link: &mut MemLink, calls: &[(u64, ServeEnd)]) {
+    for (turns, end) in calls {
+        assert_eq!(rt; serve_link(node, link, *turns), *end, "in {turns}");
+    }
+}
+
+/// The same, where the client is sent so many bytes.
+fn serves(
+    rt: &impl Abort,
+    alloc: Global,
+    node: &mut Node,
+    client: Client<'_>,
+    calls: &[(u64, ServeEnd)],
+    sent: usize,
+) -> Result<(), Fail> {
+    let mut link = link(alloc, client)?;
+    serve(rt, node, &mut link, calls);
+    assert_eq!(rt; link.sent().len(), sent);
+    Ok(())
+}
+
+/// The session without its unlink, and what it is answered: the response comes in the last answer.
 const CLIENT: usize = 264;
 
 const ANSWERS: usize = 224;
 
-/// A link that gives these bytes in pieces of at most `most_poll`, takes pieces of at most `most_send`, and fails at the
-/// send and at the poll of these numbers.
-fn link(
+/// The session is served whole.
+fn serves_session(
+    rt: &impl Abort,
     alloc: Global,
-    gives: Vec<u8>,
-    most_send: usize,
-    most_poll: usize,
-    send: u32,
-    poll: u32,
-) -> Result<MemLink, Memory> {
-    MemLink::new(
-        alloc,
-        gives,
-        65_536,
-        most_send.max(1),
-        most_poll.max(1),
-        [send].to_vec(alloc)?,
-        [poll].to_vec(alloc)?,
-    )
-}
-
-/// The client is served in at most so many calls, and it ends so.
-fn serves(rt: &impl Abort, node: &mut Node, client: &mut MemLink, turns: u64, end: ServeEnd) {
-    assert_eq!(rt; serve_link(node, client, turns), end, "in {turns}");
+    client: Client<'_>,
+    calls: &[(u64, ServeEnd)],
+) -> Result<(), Fail> {
+    let mut node = Node::new(alloc)?;
+    let mut link = link(alloc, client)?;
+    serve(rt, &mut node, &mut link, calls);
+    answered(rt, link.sent(), &DOWN[..ANSWERS]);
+    Ok(())
 }
 
 #[test]
@@ -48,26 +82,35 @@ fn served_in_pieces(rt: HostRuntime) -> Result<(), Fail> {
         (4_096, 4_096, 2),
     ];
     for (most_send, most_poll, turns) in rows {
-        let mut node = Node::new(rt.alloc())?;
-        let gives = UP[..CLIENT].to_vec(rt.alloc())?;
-        let mut client = link(rt.alloc(), gives, most_send, most_poll, 0, 0)?;
-        serves(&rt, &mut node, &mut client, turns, ServeEnd::Spent);
-        answered(&rt, client.sent(), &DOWN[..ANSWERS]);
-        serves(&rt, &mut node, &mut client, 1, ServeEnd::Closed);
-        answered(&rt, client.sent(), &DOWN[..ANSWERS]);
+        let client = Client {
+            gives: &UP[..CLIENT],
+            most_send,
+            most_poll,
+            fail_send: 0,
+            fail_poll: 0,
+        };
+        let calls = [(turns, ServeEnd::Spent), (1, ServeEnd::Closed)];
+        serves_session(&rt, rt.alloc(), client, &calls)?;
     }
     Ok(())
 }
 
 /// The send or the poll of this number fails, and then the session is served on.
-fn served_behind_a_fault(rt: &impl Abort, alloc: Global, send: u32, poll: u32) -> Result<(), Fail> {
-    let mut node = Node::new(alloc)?;
-    let gives = UP[..CLIENT].to_vec(alloc)?;
-    let mut client = link(alloc, gives, 64, 64, send, poll)?;
-    serves(rt, &mut node, &mut client, 100, ServeEnd::LinkFault);
-    serves(rt, &mut node, &mut client, 100, ServeEnd::Closed);
-    answered(rt, client.sent(), &DOWN[..ANSWERS]);
-    Ok(())
+fn served_behind_a_fault(
+    rt: &impl Abort,
+    alloc: Global,
+    fail_send: u32,
+    fail_poll: u32,
+) -> Result<(), Fail> {
+    let client = Client {
+        gives: &UP[..CLIENT],
+        most_send: 64,
+        most_poll: 64,
+        fail_send,
+        fail_poll,
+    };
+    let calls = [(100, ServeEnd::LinkFault), (100, ServeEnd::Closed)];
+    serves_session(rt, alloc, client, &calls)
 }
 
 #[test]
@@ -82,24 +125,30 @@ fn served_until_a_call_fails(rt: HostRuntime) -> Result<(), Fail> {
     Ok(())
 }
 
+/// A client that sends these bytes and takes at most 7 at once.
+fn client_of(gives: &[u8]) -> Client<'_> {
+    Client {
+        gives,
+        most_send: 7,
+        most_poll: 7,
+        fail_send: 0,
+        fail_poll: 0,
+    }
+}
+
 #[test]
 fn served_until_the_client_closes(rt: HostRuntime) -> Result<(), Fail> {
     let mut node = Node::new(rt.alloc())?;
-    let mut client = link(rt.alloc(), Vec::new(rt.alloc()), 64, 64, 0, 0)?;
-    serves(&rt, &mut node, &mut client, 0, ServeEnd::Spent);
-    serves(&rt, &mut node, &mut client, 1, ServeEnd::Closed);
-    assert!(rt; client.sent().is_empty());
-    Ok(())
+    let calls = [(0, ServeEnd::Spent), (1, ServeEnd::Closed)];
+    serves(&rt, rt.alloc(), &mut node, client_of(&[]), &calls, 0)
 }
 
 #[test]
 fn served_until_the_instrument_is_unplugged(rt: HostRuntime) -> Result<(), Fail> {
     let mut node = Node::imported(rt.alloc())?;
-    runs(&rt, &mut node, &[Sends(&submit(1)), Goes(DevEvent::Unplug)])?;
-    let mut client = link(rt.alloc(), UP.to_vec(rt.alloc())?, 7, 7, 0, 0)?;
-    serves(&rt, &mut node, &mut client, 7, ServeEnd::Closed);
-    assert_eq!(rt; client.sent().len(), 48);
-    Ok(())
+    runs(&rt, &mut node, &[Submits(1), Goes(DevEvent::Unplug)])?;
+    let calls = [(6, ServeEnd::Spent), (1, ServeEnd::Closed)];
+    serves(&rt, rt.alloc(), &mut node, client_of(&UP), &calls, 48)
 }
 
 #[test]
@@ -110,10 +159,8 @@ fn served_until_a_field_is_refused(rt: HostRuntime) -> Result<(), Fail> {
         offset: 0,
     });
     let mut node = Node::imported(rt.alloc())?;
-    let mut client = link(rt.alloc(), [9; 48].to_vec(rt.alloc())?, 64, 64, 0, 0)?;
-    serves(&rt, &mut node, &mut client, 9, refused);
-    serves(&rt, &mut node, &mut client, 0, refused);
-    Ok(())
+    let calls = [(9, refused), (0, refused)];
+    serves(&rt, rt.alloc(), &mut node, client_of(&[9; 48]), &calls, 0)
 }
 
 /// `READ? 59992` in a submit, to which the response is 60,000 bytes.
@@ -136,18 +183,34 @@ const NEXT_PIECE: [u8; 108] = [
     0, 0, 0, 0, 0, 0, 0, 0, //
 ];
 
+/// `READ?`, and four requests for a piece of its response.
+fn long_session(alloc: Global) -> Result<Vec<u8>, AllocError> {
+    let mut bytes = READ.to_vec(alloc)?;
+    for _ in 0..4 {
+        bytes.extend_from_slice(&NEXT_PIECE)?;
+    }
+    Ok(bytes)
+}
+
 #[test]
 fn a_long_response_is_served(rt: HostRuntime) -> Result<(), Fail> {
-    let mut gives = READ.to_vec(rt.alloc())?;
-    for _ in 0..4 {
-        gives.extend_from_slice(&NEXT_PIECE)?;
-    }
+    let bytes = long_session(rt.alloc())?;
     let mut node = Node::imported(rt.alloc())?;
-    // a poll of 36 bytes never brings the next request with the submit for a piece
-    let mut client = link(rt.alloc(), gives, 1, 36, 0, 0)?;
-    serves(&rt, &mut node, &mut client, 70_000, ServeEnd::Closed);
+    let client = Client {
+        gives: bytes.as_slice(),
+        most_send: 1,
+        most_poll: 36, // the next request never comes with the submit for a piece
+        fail_send: 0,
+        fail_poll: 0,
+    };
     // nine answers with 48 bytes each, four of them with a header and their part of the response
-    assert_eq!(rt; client.sent().len(), 9 * 48 + 4 * 12 + 60_000);
-    assert!(rt; client.sent().ends_with(b"\n"));
-    Ok(())
+    let sent = 9 * 48 + 4 * 12 + 60_000;
+    serves(
+        &rt,
+        rt.alloc(),
+        &mut node,
+        client,
+        &[(70_000, ServeEnd::Closed)],
+        sent,
+    )
 }

@@ -10,8 +10,16 @@ use tmc_base::Field;
 pub(super) enum Row<'a> {
     /// The client sends these bytes.
     Sends(&'a [u8]),
+    /// The client asks for the import of this bus id.
+    Imports([u8; 3]),
+    /// The client sends an IN submit with this number, on the interrupt endpoint.
+    Submits(u32),
     /// The client sends these bytes, of which a field is refused.
     Fails(&'a [u8], Field),
+    /// The client sends such a submit, of which a field is refused.
+    SubmitFails(u32, Field),
+    /// The client sends two such submits with one number in one piece, and others behind them. A field is refused.
+    SubmitsTwice(u32, Field),
     /// The event is applied.
     Goes(DevEvent),
     /// The event is not enabled.
@@ -36,7 +44,19 @@ pub(super) fn runs(rt: &impl Abort, node: &mut Node, rows: &[Row<'_>]) -> Result
 fn passes(rt: &impl Abort, node: &mut Node, row: Row<'_>) -> Result<(), Fail> {
     match row {
         Row::Sends(bytes) => assert_eq!(rt; node.feed(bytes), Fed::Ok),
+        Row::Imports(busid) => assert_eq!(rt; node.feed(&import(busid)), Fed::Ok),
+        Row::Submits(seqnum) => assert_eq!(rt; node.feed(&submit(seqnum)), Fed::Ok, "at {seqnum}"),
         Row::Fails(bytes, field) => assert_eq!(rt; node.feed(bytes), Fed::Refused(field)),
+        Row::SubmitFails(seqnum, field) => {
+            assert_eq!(rt;
+                node.feed(&submit(seqnum)),
+                Fed::Refused(field),
+                "at {seqnum}"
+            );
+        }
+        Row::SubmitsTwice(seqnum, field) => {
+            assert_eq!(rt; node.feed(&submits_twice(seqnum)), Fed::Refused(field));
+        }
         Row::Goes(event) => assert_eq!(rt; node.drive(event), Drove::Applied, "{event:?}"),
         Row::Stays(event) => assert_eq!(rt; node.drive(event), Drove::NotEnabled, "{event:?}"),
         Row::Calm => node.calm()?,
@@ -122,7 +142,7 @@ const RECORD: [u8; 24] = [
 ];
 
 /// A request for the import of a bus id.
-pub(super) fn import(busid: [u8; 3]) -> [u8; 40] {
+fn import(busid: [u8; 3]) -> [u8; 40] {
     let mut request = [0; 40];
     request[..4].copy_from_slice(&[1, 0x11, 0x80, 3]);
     request[8..11].copy_from_slice(&busid);
@@ -130,7 +150,7 @@ pub(super) fn import(busid: [u8; 3]) -> [u8; 40] {
 }
 
 /// An IN submit on the interrupt endpoint.
-pub(super) fn submit(seqnum: u32) -> [u8; 48] {
+fn submit(seqnum: u32) -> [u8; 48] {
     let mut bytes = [0; 48];
     bytes[..4].copy_from_slice(&[0, 0, 0, 1]);
     bytes[4..8].copy_from_slice(&seqnum.to_be_bytes());
@@ -138,5 +158,15 @@ pub(super) fn submit(seqnum: u32) -> [u8; 48] {
     bytes[15] = 1;
     bytes[19] = 3;
     bytes[27] = 2;
+    bytes
+}
+
+/// Four IN submits on the interrupt endpoint: two with this number, and two with the next.
+fn submits_twice(seqnum: u32) -> [u8; 192] {
+    let mut bytes = [0; 192];
+    bytes[..48].copy_from_slice(&submit(seqnum));
+    bytes[48..96].copy_from_slice(&submit(seqnum));
+    bytes[96..144].copy_from_slice(&submit(seqnum.saturating_add(1)));
+    bytes[144..].copy_from_slice(&submit(seqnum.saturating_add(1)));
     bytes
 }
