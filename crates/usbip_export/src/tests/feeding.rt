@@ -1,8 +1,9 @@
 use super::session::Row::{
-    Calm, Closed, Fails, Goes, Imports, Pending, Sends, Stays, SubmitFails, Submits, SubmitsTwice,
+    Answers, Calm, Closed, Fails, Goes, Imports, Pending, Sends, SendsEach, Stays, SubmitFails,
+    Submits, SubmitsTwice, SubmitsUpTo,
 };
-use super::session::{DOWN, UP, answered, runs};
-use crate::{DevEvent, Node};
+use super::session::{DOWN, UP, behind_import, from_start};
+use crate::DevEvent;
 use std::test::Fail;
 use tmc_base::{Field, Layer, Name};
 
@@ -22,20 +23,14 @@ const TWICE: Field = Field {
 
 #[test]
 fn a_session_is_answered_byte_by_byte(rt: HostRuntime) -> Result<(), Fail> {
-    let mut node = Node::new(rt.alloc())?;
-    for byte in UP {
-        runs(&rt, &mut node, &[Sends(&[byte]), Calm])?;
-    }
-    answered(&rt, node.pending_out(), &DOWN);
-    Ok(())
+    from_start(&rt, rt.alloc(), &[SendsEach(&UP), Answers(&DOWN)])
 }
 
 #[test]
 fn operations_go_on_until_the_import(rt: HostRuntime) -> Result<(), Fail> {
-    let mut node = Node::new(rt.alloc())?;
-    runs(
+    from_start(
         &rt,
-        &mut node,
+        rt.alloc(),
         &[
             Sends(&[1, 0x11, 0x80, 5, 0, 0, 0, 0]), // OP_REQ_DEVLIST
             Pending(328, &[0xFE, 3, 1, 0]),
@@ -51,14 +46,11 @@ fn operations_go_on_until_the_import(rt: HostRuntime) -> Result<(), Fail> {
 
 #[test]
 fn a_submit_too_many_is_refused(rt: HostRuntime) -> Result<(), Fail> {
-    let mut node = Node::imported(rt.alloc())?;
-    for seqnum in 1..257 {
-        runs(&rt, &mut node, &[Submits(seqnum)])?;
-    }
-    runs(
+    behind_import(
         &rt,
-        &mut node,
+        rt.alloc(),
         &[
+            SubmitsUpTo(256),
             SubmitFails(257, TOO_MANY),
             Closed(Some(TOO_MANY)),
             SubmitFails(258, TOO_MANY),
@@ -70,10 +62,9 @@ fn a_submit_too_many_is_refused(rt: HostRuntime) -> Result<(), Fail> {
 
 #[test]
 fn a_pending_number_is_refused_and_nothing_behind_it_is_taken(rt: HostRuntime) -> Result<(), Fail> {
-    let mut node = Node::new(rt.alloc())?;
-    runs(
+    from_start(
         &rt,
-        &mut node,
+        rt.alloc(),
         &[
             Sends(&UP),
             Pending(368, &[0, 0, 0, 0]),
@@ -89,10 +80,9 @@ fn a_pending_number_is_refused_and_nothing_behind_it_is_taken(rt: HostRuntime) -
 
 #[test]
 fn an_unplugged_node_takes_nothing_in(rt: HostRuntime) -> Result<(), Fail> {
-    let mut node = Node::imported(rt.alloc())?;
-    runs(
+    behind_import(
         &rt,
-        &mut node,
+        rt.alloc(),
         &[
             Submits(1),
             Goes(DevEvent::Unplug),

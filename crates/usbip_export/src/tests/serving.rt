@@ -1,5 +1,5 @@
 use super::session::Row::{Goes, Submits};
-use super::session::{DOWN, UP, answered, runs};
+use super::session::{DOWN, Row, UP, answered, runs};
 use crate::{DevEvent, Node, ServeEnd, serve_link};
 use std::alloc::{AllocError, Global};
 use std::process::Abort;
@@ -37,17 +37,19 @@ fn serve(rt: &impl Abort, node: &mut Node, link: &mut MemLink, calls: &[(u64, Se
     }
 }
 
-/// The same, where the client is sent so many bytes.
+/// A client is served by a node that was imported, behind these rows: so many bytes are sent.
 fn serves(
     rt: &impl Abort,
     alloc: Global,
-    node: &mut Node,
+    rows: &[Row<'_>],
     client: Client<'_>,
     calls: &[(u64, ServeEnd)],
     sent: usize,
 ) -> Result<(), Fail> {
+    let mut node = Node::imported(alloc)?;
+    runs(rt, &mut node, rows)?;
     let mut link = link(alloc, client)?;
-    serve(rt, node, &mut link, calls);
+    serve(rt, &mut node, &mut link, calls);
     assert_eq!(rt; link.sent().len(), sent);
     Ok(())
 }
@@ -71,6 +73,25 @@ fn serves_session(
     Ok(())
 }
 
+/// The session is served in exactly so many calls, with pieces of at most so many bytes.
+fn served_in(
+    rt: &impl Abort,
+    alloc: Global,
+    most_send: usize,
+    most_poll: usize,
+    turns: u64,
+) -> Result<(), Fail> {
+    let client = Client {
+        gives: &UP[..CLIENT],
+        most_send,
+        most_poll,
+        fail_send: 0,
+        fail_poll: 0,
+    };
+    let calls = [(turns, ServeEnd::Spent), (1, ServeEnd::Closed)];
+    serves_session(rt, alloc, client, &calls)
+}
+
 #[test]
 fn served_in_pieces(rt: HostRuntime) -> Result<(), Fail> {
     // the most bytes of a send and of a poll, and how many calls on the link serve the session
@@ -82,15 +103,7 @@ fn served_in_pieces(rt: HostRuntime) -> Result<(), Fail> {
         (4_096, 4_096, 2),
     ];
     for (most_send, most_poll, turns) in rows {
-        let client = Client {
-            gives: &UP[..CLIENT],
-            most_send,
-            most_poll,
-            fail_send: 0,
-            fail_poll: 0,
-        };
-        let calls = [(turns, ServeEnd::Spent), (1, ServeEnd::Closed)];
-        serves_session(&rt, rt.alloc(), client, &calls)?;
+        served_in(&rt, rt.alloc(), most_send, most_poll, turns)?;
     }
     Ok(())
 }
@@ -138,17 +151,15 @@ fn client_of(gives: &[u8]) -> Client<'_> {
 
 #[test]
 fn served_until_the_client_closes(rt: HostRuntime) -> Result<(), Fail> {
-    let mut node = Node::new(rt.alloc())?;
     let calls = [(0, ServeEnd::Spent), (1, ServeEnd::Closed)];
-    serves(&rt, rt.alloc(), &mut node, client_of(&[]), &calls, 0)
+    serves(&rt, rt.alloc(), &[], client_of(&[]), &calls, 0)
 }
 
 #[test]
 fn served_until_the_instrument_is_unplugged(rt: HostRuntime) -> Result<(), Fail> {
-    let mut node = Node::imported(rt.alloc())?;
-    runs(&rt, &mut node, &[Submits(1), Goes(DevEvent::Unplug)])?;
+    let rows = [Submits(1), Goes(DevEvent::Unplug)];
     let calls = [(6, ServeEnd::Spent), (1, ServeEnd::Closed)];
-    serves(&rt, rt.alloc(), &mut node, client_of(&UP), &calls, 48)
+    serves(&rt, rt.alloc(), &rows, client_of(&UP), &calls, 48)
 }
 
 #[test]
@@ -158,9 +169,8 @@ fn served_until_a_field_is_refused(rt: HostRuntime) -> Result<(), Fail> {
         name: Name::Command,
         offset: 0,
     });
-    let mut node = Node::imported(rt.alloc())?;
     let calls = [(9, refused), (0, refused)];
-    serves(&rt, rt.alloc(), &mut node, client_of(&[9; 48]), &calls, 0)
+    serves(&rt, rt.alloc(), &[], client_of(&[9; 48]), &calls, 0)
 }
 
 /// `READ? 59992` in a submit, to which the response is 60,000 bytes.
@@ -195,7 +205,6 @@ fn long_session(alloc: Global) -> Result<Vec<u8>, AllocError> {
 #[test]
 fn a_long_response_is_served(rt: HostRuntime) -> Result<(), Fail> {
     let bytes = long_session(rt.alloc())?;
-    let mut node = Node::imported(rt.alloc())?;
     let client = Client {
         gives: bytes.as_slice(),
         most_send: 1,
@@ -208,7 +217,7 @@ fn a_long_response_is_served(rt: HostRuntime) -> Result<(), Fail> {
     serves(
         &rt,
         rt.alloc(),
-        &mut node,
+        &[],
         client,
         &[(70_000, ServeEnd::Closed)],
         sent,

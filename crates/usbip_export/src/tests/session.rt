@@ -1,6 +1,7 @@
 //! What the tests share: a client's session with a node, row by row, and its bytes.
 
 use crate::{DevEvent, Drove, Fed, Node};
+use std::alloc::Global;
 use std::process::Abort;
 use std::test::Fail;
 use tmc_base::Field;
@@ -10,10 +11,14 @@ use tmc_base::Field;
 pub(super) enum Row<'a> {
     /// The client sends these bytes.
     Sends(&'a [u8]),
+    /// The client sends these bytes one by one, and the calm moves are made behind each.
+    SendsEach(&'a [u8]),
     /// The client asks for the import of this bus id.
     Imports([u8; 3]),
     /// The client sends an IN submit with this number, on the interrupt endpoint.
     Submits(u32),
+    /// The client sends such submits, with the numbers up to this.
+    SubmitsUpTo(u32),
     /// The client sends these bytes, of which a field is refused.
     Fails(&'a [u8], Field),
     /// The client sends such a submit, of which a field is refused.
@@ -28,8 +33,22 @@ pub(super) enum Row<'a> {
     Calm,
     /// So many bytes are pending, the last of them these.
     Pending(usize, &'a [u8]),
+    /// The reply to the import is pending, and these answers behind it.
+    Answers(&'a [u8]),
     /// The node takes nothing in any more, and this field was refused.
     Closed(Option<Field>),
+}
+
+/// A session of a node that awaits operations.
+pub(super) fn from_start(rt: &impl Abort, alloc: Global, rows: &[Row<'_>]) -> Result<(), Fail> {
+    let mut node = Node::new(alloc)?;
+    runs(rt, &mut node, rows)
+}
+
+/// A session of a node that was imported.
+pub(super) fn behind_import(rt: &impl Abort, alloc: Global, rows: &[Row<'_>]) -> Result<(), Fail> {
+    let mut node = Node::imported(alloc)?;
+    runs(rt, &mut node, rows)
 }
 
 /// Goes through the rows of a session.
@@ -44,8 +63,10 @@ pub(super) fn runs(rt: &impl Abort, node: &mut Node, rows: &[Row<'_>]) -> Result
 fn passes(rt: &impl Abort, node: &mut Node, row: Row<'_>) -> Result<(), Fail> {
     match row {
         Row::Sends(bytes) => assert_eq!(rt; node.feed(bytes), Fed::Ok),
+        Row::SendsEach(bytes) => sends_each(rt, node, bytes)?,
         Row::Imports(busid) => assert_eq!(rt; node.feed(&import(busid)), Fed::Ok),
         Row::Submits(seqnum) => assert_eq!(rt; node.feed(&submit(seqnum)), Fed::Ok, "at {seqnum}"),
+        Row::SubmitsUpTo(last) => submits_up_to(rt, node, last),
         Row::Fails(bytes, field) => assert_eq!(rt; node.feed(bytes), Fed::Refused(field)),
         Row::SubmitFails(seqnum, field) => {
             assert_eq!(rt;
@@ -61,12 +82,29 @@ fn passes(rt: &impl Abort, node: &mut Node, row: Row<'_>) -> Result<(), Fail> {
         Row::Stays(event) => assert_eq!(rt; node.drive(event), Drove::NotEnabled, "{event:?}"),
         Row::Calm => node.calm()?,
         Row::Pending(count, last) => pending(rt, node, count, last),
+        Row::Answers(answers) => answered(rt, node.pending_out(), answers),
         Row::Closed(field) => {
             assert!(rt; node.closed());
             assert_eq!(rt; node.refused(), field);
         }
     }
     Ok(())
+}
+
+/// The client sends these bytes one by one, and the calm moves are made behind each.
+fn sends_each(rt: &impl Abort, node: &mut Node, bytes: &[u8]) -> Result<(), Fail> {
+    for byte in bytes {
+        assert_eq!(rt; node.feed(&[*byte]), Fed::Ok);
+        node.calm()?;
+    }
+    Ok(())
+}
+
+/// The client sends submits with the numbers up to this.
+fn submits_up_to(rt: &impl Abort, node: &mut Node, last: u32) {
+    for seqnum in 1..=last {
+        assert_eq!(rt; node.feed(&submit(seqnum)), Fed::Ok, "at {seqnum}");
+    }
 }
 
 /// So many bytes are pending, the last of them these.
