@@ -1,6 +1,6 @@
 use super::session::Row::{
-    Answers, Calm, Closed, Fails, Goes, Imports, Pending, Sends, SendsEach, Stays, SubmitFails,
-    Submits, SubmitsTwice, SubmitsUpTo,
+    Answers, Calm, Closed, Fails, Goes, Imports, PairFails, Pending, Sends, SendsEach, Stays,
+    SubmitFails, Submits, SubmitsUpTo,
 };
 use super::session::{DOWN, UP, behind_import, from_start};
 use crate::DevEvent;
@@ -68,7 +68,8 @@ fn a_pending_number_is_refused_and_nothing_behind_it_is_taken(rt: HostRuntime) -
         &[
             Sends(&UP),
             Pending(368, &[0, 0, 0, 0]),
-            SubmitsTwice(6, TWICE),
+            Submits(6),
+            PairFails(6, 7, TWICE),
             Closed(Some(TWICE)),
             Pending(368, &[0, 0, 0, 0]),
             Calm,

@@ -23,8 +23,8 @@ pub(super) enum Row<'a> {
     Fails(&'a [u8], Field),
     /// The client sends such a submit, of which a field is refused.
     SubmitFails(u32, Field),
-    /// The client sends two such submits with one number in one piece, and others behind them. A field is refused.
-    SubmitsTwice(u32, Field),
+    /// The client sends two such submits in one piece, of which a field is refused.
+    PairFails(u32, u32, Field),
     /// The event is applied.
     Goes(DevEvent),
     /// The event is not enabled.
@@ -62,33 +62,43 @@ pub(super) fn runs(rt: &impl Abort, node: &mut Node, rows: &[Row<'_>]) -> Result
 /// Goes through one row.
 fn passes(rt: &impl Abort, node: &mut Node, row: Row<'_>) -> Result<(), Fail> {
     match row {
-        Row::Sends(bytes) => assert_eq!(rt; node.feed(bytes), Fed::Ok),
+        Row::Sends(bytes) => feeds(rt, node, bytes, Fed::Ok),
         Row::SendsEach(bytes) => sends_each(rt, node, bytes)?,
-        Row::Imports(busid) => assert_eq!(rt; node.feed(&import(busid)), Fed::Ok),
-        Row::Submits(seqnum) => assert_eq!(rt; node.feed(&submit(seqnum)), Fed::Ok, "at {seqnum}"),
+        Row::Imports(busid) => feeds(rt, node, &import(busid), Fed::Ok),
+        Row::Submits(seqnum) => feeds(rt, node, &submit(seqnum), Fed::Ok),
         Row::SubmitsUpTo(last) => submits_up_to(rt, node, last),
-        Row::Fails(bytes, field) => assert_eq!(rt; node.feed(bytes), Fed::Refused(field)),
-        Row::SubmitFails(seqnum, field) => {
-            assert_eq!(rt;
-                node.feed(&submit(seqnum)),
+        Row::Fails(bytes, field) => feeds(rt, node, bytes, Fed::Refused(field)),
+        Row::SubmitFails(seqnum, field) => feeds(rt, node, &submit(seqnum), Fed::Refused(field)),
+        Row::PairFails(first, second, field) => {
+            feeds(
+                rt,
+                node,
+                &pair(submit(first), submit(second)),
                 Fed::Refused(field),
-                "at {seqnum}"
             );
         }
-        Row::SubmitsTwice(seqnum, field) => {
-            assert_eq!(rt; node.feed(&submits_twice(seqnum)), Fed::Refused(field));
-        }
-        Row::Goes(event) => assert_eq!(rt; node.drive(event), Drove::Applied, "{event:?}"),
-        Row::Stays(event) => assert_eq!(rt; node.drive(event), Drove::NotEnabled, "{event:?}"),
+        Row::Goes(event) => drives(rt, node, event, Drove::Applied),
+        Row::Stays(event) => drives(rt, node, event, Drove::NotEnabled),
         Row::Calm => node.calm()?,
         Row::Pending(count, last) => pending(rt, node, count, last),
         Row::Answers(answers) => answered(rt, node.pending_out(), answers),
-        Row::Closed(field) => {
-            assert!(rt; node.closed());
-            assert_eq!(rt; node.refused(), field);
-        }
+        Row::Closed(field) => closed(rt, node, field),
     }
     Ok(())
+}
+
+fn feeds(rt: &impl Abort, node: &mut Node, bytes: &[u8], fed: Fed) {
+    assert_eq!(rt; node.feed(bytes), fed);
+}
+
+fn drives(rt: &impl Abort, node: &mut Node, event: DevEvent, drove: Drove) {
+    assert_eq!(rt; node.drive(event), drove, "{event:?}");
+}
+
+/// The node takes nothing in any more, and this field was refused.
+fn closed(rt: &impl Abort, node: &Node, field: Option<Field>) {
+    assert!(rt; node.closed());
+    assert_eq!(rt; node.refused(), field);
 }
 
 /// The client sends these bytes one by one, and the calm moves are made behind each.
@@ -199,12 +209,10 @@ fn submit(seqnum: u32) -> [u8; 48] {
     bytes
 }
 
-/// Four IN submits on the interrupt endpoint: two with this number, and two with the next.
-fn submits_twice(seqnum: u32) -> [u8; 192] {
-    let mut bytes = [0; 192];
-    bytes[..48].copy_from_slice(&submit(seqnum));
-    bytes[48..96].copy_from_slice(&submit(seqnum));
-    bytes[96..144].copy_from_slice(&submit(seqnum.saturating_add(1)));
-    bytes[144..].copy_from_slice(&submit(seqnum.saturating_add(1)));
+/// Two messages in one piece.
+fn pair(first: [u8; 48], second: [u8; 48]) -> [u8; 96] {
+    let mut bytes = [0; 96];
+    bytes[..48].copy_from_slice(&first);
+    bytes[48..].copy_from_slice(&second);
     bytes
 }
