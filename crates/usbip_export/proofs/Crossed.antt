@@ -1,5 +1,5 @@
 -- what a node and a link do together, call by call
-use Rattle.std.proofs.Common.{◌≡◌, ◌≢◌, ◌⊎◌, inl, inr, ◌∙◌, ◌↔◌, ℕ, Bool, true, false, List, [], ◌++◌, take, drop, Option, Some, None, refl, sym, ap, subst, append_assoc, append-nil}
+use Rattle.std.proofs.Common.{◌≡◌, ◌∙◌, ℕ, Bool, true, false, List, [], ◌++◌, take, drop, None, refl, sym, ap, subst, append_assoc, append-nil}
 use Rattle.tmc_base.specs.Told.{Told, WentOut, CameIn, Exchanged, IsFront}
 use Rattle.tmc_device.specs.Seen.{is_closed}
 use Rattle.usbip_export.specs.Seen.{Seen, standing}

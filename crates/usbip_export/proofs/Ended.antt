@@ -1,5 +1,5 @@
 -- what ends a serving, and what follows from that
-use Rattle.std.proofs.Common.{◌≡◌, ◌≢◌, ◌⊎◌, inl, inr, ◌∙◌, ◌↔◌, ℕ, ◌+◌, ◌<◌, ◌≤◌, List, [], Option, Some, None, refl, sym, ap, subst, arith}
+use Rattle.std.proofs.Common.{◌≡◌, ◌≢◌, ◌⊎◌, inl, inr, ◌∙◌, ◌↔◌, ℕ, ◌+◌, ◌<◌, ◌≤◌, List, Option, Some, None, refl, sym, ap, subst, arith}
 use Rattle.tmc_base.specs.declared.field.Field.{Field}
 use Rattle.tmc_base.specs.declared.link.SendStep.{SendStep}
 use Rattle.tmc_base.specs.declared.link.SendStep.TheVariants as send
@@ -7,7 +7,6 @@ use Rattle.tmc_base.specs.declared.link.PollStep.{PollStep}
 use Rattle.tmc_base.specs.declared.link.PollStep.TheVariants as poll
 use Rattle.tmc_base.specs.Faults.{Rose}
 use Rattle.tmc_base.specs.Link.{Counts, SendCounts, PollCounts}
-use Rattle.usbip_export.specs.declared.fed.Fed.{Fed}
 use Rattle.usbip_export.specs.declared.fed.Fed.TheVariants as fed
 use Rattle.usbip_export.specs.declared.serving.ServeEnd.{ServeEnd}
 use Rattle.usbip_export.specs.declared.serving.ServeEnd.TheVariants as end
