@@ -4,6 +4,17 @@ pub mod Tickets
 pub mod Grows
 pub mod Orders
 pub mod Seen
+pub mod Booking
+pub mod Knowing
+pub mod Lengths
+pub mod Wrote
+pub mod Putting
+pub mod Begins
+pub mod Asks
+pub mod Nexts
+pub mod Parts
+pub mod Responses
+pub mod Givings
 pub mod Lawful
 pub mod Numbers
 pub mod Pasts
@@ -27,6 +38,7 @@ pub mod Fronts
 pub mod Starts
 pub mod Views
 pub mod Exact
+pub mod Assembled
 pub mod Numbered
 pub mod Determined
 pub mod Own

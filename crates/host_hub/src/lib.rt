@@ -1,14 +1,19 @@
-//! The hub's record: what happened at a hub, the latest first, from which its messages, its book and its outcomes are read.
+//! The hub's record: what happened at a hub, the latest first, from which its messages, its book and its outcomes are read;
+//! and a hub without its link, as far as it asks, writes and ends.
 //!
 //! The functions of `laws` do nothing: their contracts say what holds of the definitions in `specs/`.
 #![tactic(auto)]
 
 mod answers;
+mod asking;
 mod book;
+mod ending;
 mod facts;
+mod hub_core;
 mod kind;
 mod laws;
 mod limits;
+mod notes;
 mod outcome;
 mod refusals;
 pub mod refused;
@@ -18,8 +23,10 @@ mod steps;
 mod stops;
 mod ticket;
 mod ties;
+mod transfers;
 mod view;
 pub mod worked;
+mod writing;
 
 pub use answers::{CancelAnswer, DropAnswer, Turn};
 pub use book::{Book, BookEntry};
@@ -53,4 +60,5 @@ pub use stops::{
     an_unlink_is_answered,
 };
 pub use ties::records_are_tied;
+pub use transfers::{messages_are_planned_in_parts, pieces_are_assembled};
 pub use view::View;

@@ -13,5 +13,14 @@ pub mod Hosted
 pub mod Positions
 pub mod Requests
 pub mod Drains
+-- a host that nothing disturbs
+pub mod Hand
+pub mod Pieces
+pub mod Tie
+-- a host that cancels, and recovers
+pub mod Bond
+-- both over a link
+pub mod Joint
 -- examples
 pub mod WorkedAsks
+pub mod WorkedTies
