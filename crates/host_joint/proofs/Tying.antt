@@ -215,10 +215,12 @@ held_step laws (Says message said) waits next ups downs puts s t move calm none 
     last = h.last;
     tag = h.tag;
     size = h.size;
-    written = h.written;
+    front = h.front;
+    job = h.job;
     answered = h.answered;
     asking = asking_held laws _ tie.run s t move ups downs puts tie.reached calm tie.fitting none h.asking;
     counted = h.counted;
+    inner = h.inner;
     goes_on = h.goes_on;
     so_far = h.so_far;
     out = h.out;
@@ -230,10 +232,12 @@ held_step laws (Said last message) waits next ups downs puts s t move calm none 
   held = record {
     tag = h.tag;
     size = h.size;
-    written = h.written;
+    front = h.front;
+    job = h.job;
     answered = h.answered;
     asking = asking_held laws _ tie.run s t move ups downs puts tie.reached calm tie.fitting none h.asking;
     counted = h.counted;
+    inner = h.inner;
     ended = h.ended;
     out = h.out;
   };
