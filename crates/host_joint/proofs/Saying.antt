@@ -26,7 +26,7 @@ use Rattle.host_joint.proofs.Numbered.{below_next}
 use Rattle.host_joint.proofs.Booking.{unlink_written}
 use Rattle.host_joint.proofs.Hosting as hosting
 use Rattle.host_joint.proofs.Hosting.{unlinks_written, out_answered}
-use Rattle.host_joint.proofs.Handing.{hands_out, hands_first, hands_message}
+use Rattle.host_joint.proofs.Handing.{hands_out, hands_part, hands_first, hands_message}
 use Rattle.host_joint.proofs.Running.{AskLaws, asking_step, safe_move, cancelled_step}
 use Rattle.host_joint.proofs.Transfers.{WireLaws}
 use Rattle.host_joint.proofs.Tying.{none_unlinked, in_order, unlinks_taken}
@@ -51,6 +51,7 @@ again tag first ended taken_it gone went ups others downs more s t h asking = re
   inner = h.inner;
   header = h.header;
   alone = h.alone;
+  goes_on = h.goes_on;
   final = h.final;
 }
 
@@ -83,6 +84,7 @@ from_part tag first message said head ups downs s h own header alone = record {
   inner = h.inner;
   header = header;
   alone = alone;
+  goes_on = λ e. h.goes_on;
   final = λ e. absurd (cc);
 }
 
@@ -101,6 +103,7 @@ from_last tag first last message head ups downs s h own header alone = record {
   inner = h.inner;
   header = header;
   alone = alone;
+  goes_on = λ e. absurd (cc);
   final = λ e. h.ended;
 }
 
@@ -223,6 +226,7 @@ answered_own tag first ended gone head a transferred unlinks next ups downs s ow
         inner = h.inner;
         header = h.header;
         alone = h.alone;
+        goes_on = h.goes_on;
         final = h.final;
       }),
     )
@@ -256,9 +260,22 @@ unlinked_part tag first ended taken_it waits_for unlink next asked a ups downs s
 not_inner : (o : Option OutHeader) (t n : ℕ) → IsInner o → o ≡ Some (Request t n) → ⊥
 not_inner o t n inner e = subst (λ (x : Option OutHeader). IsInner x) e inner
 
-pub part_to_out : (tag : ℕ) (first ended gone : Bool) (next : ℕ) (ups : List up.Message) (downs : List Put) (s : State)
-    → (bond : Bond (WasSaying tag first ended false gone) (asked_of None) [] next ups downs s) → IsAt (out_begun tag) s
-part_to_out tag first ended gone next ups downs s bond =
+not_final : (o : Option OutHeader) (t n : ℕ) → IsFinal o → o ≡ Some (Request t n) → ⊥
+not_final o t n final e = subst (λ (x : Option OutHeader). IsFinal x) e final
+
+unasked : (ended : Bool) (header : OutHeader) → (ended ≡ false → IsInner (Some header)) → (ended ≡ true → IsFinal (Some header)) → (t n : ℕ) → Some header ≡ Some (Request t n) → ⊥
+unasked true header inner final t n e = not_final (Some header) t n (final refl) e
+unasked false header inner final t n e = not_inner (Some header) t n (inner refl) e
+
+pub part_to_out : (tag : ℕ) (first ended taken_it gone : Bool) (next : ℕ) (ups : List up.Message) (downs : List Put) (s : State)
+    → (bond : Bond (WasSaying tag first ended taken_it gone) (asked_of None) [] next ups downs s) → IsAt (out_begun tag) s
+part_to_out tag first ended true gone next ups downs s bond =
+    let h = bond.held in
+    let out = empty _ next ups downs s BulkOut bond in
+    let ins = empty _ next ups downs s BulkIn bond in
+    let a = subst (λ (n : ℕ). Asking (said_with gone h.last h.message h.mark h.size (h.front ++ h.job ∷ []) n) ups downs s) h.counted h.asking in
+    hands_part h.last h.message h.mark h.size (h.front ++ h.job ∷ []) tag [] [] gone ups downs s (λ t n e. unasked ended h.job.header h.goes_on h.final t n (sym (last_more h.front h.job) ∙ e)) a out.queue ins.queue
+part_to_out tag first ended false gone next ups downs s bond =
     let h = bond.held in
     let out = empty _ next ups downs s BulkOut bond in
     let ins = empty _ next ups downs s BulkIn bond in

@@ -110,6 +110,7 @@ pub record WasSaying (tag : ℕ) (first ended taken gone : Bool) (ups : List up.
   pub inner : IsInner (last_header front)
   pub header : tag_of job.header ≡ tag
   pub alone : first ≡ true → front ≡ []
+  pub goes_on : ended ≡ false → IsInner (Some job.header)
   pub final : ended ≡ true → IsFinal (Some job.header)
 
 -- the unlinks that are not answered, where it was unlinked, and where it was not

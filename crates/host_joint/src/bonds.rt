@@ -47,8 +47,8 @@ pub fn cancels_begin()
 
 /// A message may be cancelled while its last transfer so far is not answered. What binds a host and a device then holds from where that
 /// transfer is written, beside the tie; with the cancel, its unlink comes behind. The answer says that the transfer was taken whole, or that
-/// Bulk-OUT is halted. Where all was answered, the recovery begins: with this Bulk-OUT transfer to abort where it was not taken, and
-/// with nothing where it was and ends the message.
+/// Bulk-OUT is halted. Where all was answered, the recovery begins: with this Bulk-OUT transfer to abort, which is in progress at most where it was
+/// not taken, and with nothing where it was taken and ends the message.
 pub fn messages_are_cancelled()
     ensures part { (before : hand.Hand) (head : SubmitHead) (bytes : List ℕ) (tag : ℕ) (message said text more : List ℕ) (next : ℕ) (ups : List up.Message) (downs : List Put) (s : State)
         → hand.Speaks before message said → message ≡ said ++ (text ++ more) → hand.IsTransfer head (Message tag (length text) false) text bytes → head.seqnum ≡ next → Tie before None next ups downs s
@@ -67,8 +67,8 @@ pub fn messages_are_cancelled()
         → (answer.seqnum ≡ unlink.seqnum) × Bound (Saying tag first ended taken true) None [] next ups downs s }
     ensures to_first { (tag : ℕ) (ended gone : Bool) (next : ℕ) (ups : List up.Message) (downs : List Put) (s : State)
         → Bound (Saying tag true ended false gone) None [] next ups downs s → Bound (Stands (ToAbortFirst tag)) None [] next ups downs s }
-    ensures to_out { (tag : ℕ) (first ended gone : Bool) (next : ℕ) (ups : List up.Message) (downs : List Put) (s : State)
-        → Bound (Saying tag first ended false gone) None [] next ups downs s → Bound (Stands (ToAbortOut tag)) None [] next ups downs s }
+    ensures to_out { (tag : ℕ) (first ended taken gone : Bool) (next : ℕ) (ups : List up.Message) (downs : List Put) (s : State)
+        → Bound (Saying tag first ended taken gone) None [] next ups downs s → Bound (Stands (ToAbortOut tag)) None [] next ups downs s }
     ensures to_rest { (tag : ℕ) (first gone : Bool) (next : ℕ) (ups : List up.Message) (downs : List Put) (s : State)
         → Bound (Saying tag first true true gone) None [] next ups downs s → Bound (Stands Resting) None [] next ups downs s }
 {

@@ -51,8 +51,8 @@ returns-clause-to_first c tag ended gone next ups downs s bound = record {
 }
 
 pub returns-clause-to_out : goal.returns-clause-to_out
-returns-clause-to_out c tag first ended gone next ups downs s bound = record {
-  bond = bond_as _ (Holds (Stands (ToAbortOut tag))) (asked_of None) [] next ups downs s bound.bond (part_to_out tag first ended gone next ups downs s bound.bond);
+returns-clause-to_out c tag first ended taken gone next ups downs s bound = record {
+  bond = bond_as _ (Holds (Stands (ToAbortOut tag))) (asked_of None) [] next ups downs s bound.bond (part_to_out tag first ended taken gone next ups downs s bound.bond);
   awaited = (refl, refl);
 }
 
