@@ -5,6 +5,7 @@ use Rattle.tmc_base.specs.FailPlan.{Plan, after_call, next_fails}
 use Rattle.tmc_base.specs.MemLink.{Linked}
 use Rattle.tmc_live.specs.declared.net.NetFault.{NetFault}
 use Rattle.tmc_live.specs.declared.net.NetFault.TheVariants.{Failed, Memory}
+use Rattle.tmc_live.specs.Net.{Standing}
 
 pub record Held : Type 0 where
   pub links : List Linked
@@ -13,6 +14,10 @@ pub record Held : Type 0 where
   pub given : ℕ
   pub plan : Plan
   pub faults : ℕ
+
+-- what every net tells
+abbrev pub standing_of : Held → Standing
+standing_of net = record { listens = net.listens; given = net.given; faults = net.faults }
 
 -- a dial or an accept: it fails where it is to fail or no link is left, and else gives the next link
 abbrev pub GivesNext : Held → Result Linked NetFault → Held → Type 0

@@ -1,6 +1,8 @@
 //! The line that is printed of a connection.
 
-ghost use Rattle.std.specs.Prelude.{◌≡◌, IfOk, string_bytes};
+ghost use Rattle.std.specs.Prelude.{◌≡◌, ◌++◌, IfOk, codes, string_bytes};
+ghost use Rattle.std.specs.Fmt.{decimal};
+ghost use Rattle.usbip_export.specs.declared.serving.ServeEnd.TheVariants as end;
 ghost use Rattle.event_text.specs.Printed.{layer_word, name_word};
 ghost use Rattle.tmc_live.specs.Line.{connection_line};
 
@@ -29,7 +31,7 @@ fn plain_line(alloc: Global, number: u32, end: &str) -> Result<String, Memory>
 }
 
 fn refused_line(alloc: Global, number: u32, field: Field) -> Result<String, Memory>
-    ensures { IfOk result (λ line. string_bytes line ≡ connection_line number (ServeEnd.Refused field)) }
+    ensures { IfOk result (λ line. string_bytes line ≡ connection_line number (end.Refused field)) }
 {
     let layer = layer_word(field.layer);
     let name = name_word(field.name);

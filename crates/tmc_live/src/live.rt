@@ -9,16 +9,14 @@ ghost use Rattle.tmc_live.specs.Served.{IsServed};
 ghost use Rattle.tmc_live.specs.Live.{code_of, Ends, EndsServing};
 ghost use Rattle.tmc_live.specs.Next.{Prints, PrintsFault, Next};
 
-use crate::command::{Command, command_of};
+use crate::client::serve_client;
+use crate::command::{Serve, command_of};
 use crate::line::connection_line;
 use crate::net::{Net, NetFault};
 use crate::status::Status;
 use std::alloc::Global;
-use tmc_base::{Link, Memory, Sink, Source, write_all};
-use usbip_export::{Node, ServeEnd, serve_link};
-
-/// The most calls on the link of one connection.
-const TURNS: u64 = 1_000_000;
+use tmc_base::{Sink, Source, write_all};
+use usbip_export::ServeEnd;
 
 /// Runs the program: `words` are the arguments behind its name, and the text goes to `sink`. The source is not read.
 ///
@@ -56,7 +54,7 @@ fn run<K: Sink, N: Net>(alloc: Global, words: &[String], sink: &mut K, net: &mut
         (map string_bytes words.now) result net.old sink.old net.new sink.new }
 {
     match command_of(words) {
-        Some(Command::Serve { address, count }) => serve(alloc, address, count, sink, net),
+        Some(Serve { address, count }) => serve(alloc, address, count, sink, net),
         None => print(sink, b"usage\n", Status::Usage),
     }
 }
@@ -113,16 +111,6 @@ fn serve_next<K: Sink, N: Net>(
         None
     } else {
         Some(Status::SinkFault)
-    }
-}
-
-/// Serves one client from a node that awaits operations.
-fn serve_client<L: Link>(alloc: Global, link: &mut L) -> ServeEnd
-    ensures { IsServed L.told L.counts L.sends L.polls link.old result link.new }
-{
-    match Node::new(alloc) {
-        Ok(mut node) => serve_link(&mut node, link, TURNS),
-        Err(Memory) => ServeEnd::Memory,
     }
 }
 

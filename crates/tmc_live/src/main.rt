@@ -1,6 +1,7 @@
 //! The bench link's program with threads and sockets: `serve`.
 #![tactic(auto)]
 
+mod client;
 mod command;
 mod line;
 mod live;

@@ -1,4 +1,9 @@
 ghost use Rattle.std.specs.Prelude.{◌≡◌, [], false, IfOk};
+ghost use Rattle.tmc_base.specs.Faults.{raised};
+ghost use Rattle.tmc_base.specs.FailPlan.{after_call, next_fails};
+ghost use Rattle.tmc_live.specs.declared.net.NetFault.TheVariants.{Failed};
+ghost use Rattle.tmc_live.specs.Net.{Gives, IsFault};
+ghost use Rattle.tmc_live.specs.MemNet.{GivesNext, standing_of};
 
 use crate::net::{Net, NetFault};
 use std::alloc::Global;
@@ -80,6 +85,7 @@ impl MemNet {
     fn fail(&mut self) -> NetFault
         ensures answer { result ≡ Failed }
         ensures counted { self.new ≡ record self.old { faults = raised self.old.faults } }
+        ensures standing { IsFault result (standing_of self.old) (standing_of self.new) }
     {
         self.faults = self.faults.saturating_add(1);
         NetFault::Failed
@@ -87,7 +93,8 @@ impl MemNet {
 
     /// Gives the next link.
     fn give(&mut self) -> Result<MemLink, NetFault>
-        ensures { GivesNext self.old result self.new }
+        ensures goes { GivesNext self.old result self.new }
+        ensures standing { Gives result (standing_of self.old) (standing_of self.new) }
     {
         if self.next_fails() {
             return Err(self.fail());
@@ -108,7 +115,7 @@ impl Net for MemNet {
 
     type L = MemLink;
 
-    ghost standing = { λ a. record { listens = a.listens; given = a.given; faults = a.faults } };
+    ghost standing = { standing_of };
 
     ghost back = { λ a. Some a.back };
 

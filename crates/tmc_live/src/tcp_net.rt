@@ -1,6 +1,5 @@
-ghost use Rattle.std.specs.Prelude.{◌≡◌, ◌≤◌, false};
-ghost use Rattle.tmc_base.specs.Faults.{raised};
-ghost use Rattle.tmc_live.specs.Net.{IsFault};
+ghost use Rattle.std.specs.Prelude.{◌≡◌, false};
+ghost use Rattle.tmc_live.specs.Net.{IsFault, Gives};
 
 use crate::net::{Net, NetFault};
 use std::alloc::Global;
