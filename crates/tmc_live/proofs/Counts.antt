@@ -51,9 +51,10 @@ some_same e = cc
 
 -- the number that a word is, and no other
 pub count_is : (word : List ℕ) (n : ℕ) → word ≡ decimal n → 1 ≤ n → n ≤ 1000 → (count : ℕ) → (Some n ≡ Some count) ↔ IsCount word count
-count_is word n e some few count =
-    (λ same. subst (λ m. IsCount word m) (some_same same) (record { spelled = e; some = some; few = few }),
-    λ is. ap (λ m. Some m) (same_number word n count (omega (arith, few)) (let short = is.few in omega (arith, short)) e is.spelled))
+count_is word n e some few count = (
+  λ same. subst (λ m. IsCount word m) (some_same same) (record { spelled = e; some = some; few = few }),
+  λ is. ap (λ m. Some m) (same_number word n count (omega (arith, few)) (let short = is.few in omega (arith, short)) e is.spelled),
+)
 
 pub no_count : (word : List ℕ) → ((n : ℕ) → IsCount word n → ⊥) → (count : ℕ) → (None ≡ Some count) ↔ IsCount word count
 no_count word none count = (λ same. absurd cc, λ is. absurd (none count is))

@@ -3,7 +3,7 @@
 ghost use Rattle.std.specs.Prelude.{◌≡◌, ◌≢◌, ◌⊎◌, ℕ, ◌+◌, ◌≤◌, List, length, map, codes, Some, None, true, string_bytes};
 ghost use Rattle.tmc_base.specs.Faults.{Rose};
 ghost use Rattle.usbip_export.specs.declared.serving.ServeEnd.TheVariants as end;
-ghost use Rattle.tmc_live.specs.declared.status.Status.TheVariants.{Served, Usage, SinkFault, NoMemory};
+ghost use Rattle.tmc_live.specs.declared.status.Status.TheVariants.{Served, Usage, SinkFault, NoMemory, NetFault as NetFaulted};
 ghost use Rattle.tmc_live.specs.Command.{IsCommand};
 ghost use Rattle.tmc_live.specs.Served.{IsServed};
 ghost use Rattle.tmc_live.specs.Live.{code_of, Ends, EndsServing};
@@ -45,6 +45,10 @@ pub fn live_main<S: Source, K: Sink, N: Net>(
     ensures usage { (IsCommand (map string_bytes words.now) → ⊥) → (Rose (K.faults sink.old) (K.faults sink.new) → ⊥) → result ≡ code_of Usage }
     ensures served { IsCommand (map string_bytes words.now) → (Rose (N.standing net.old).faults (N.standing net.new).faults → ⊥) → (Rose (K.faults sink.old) (K.faults sink.new) → ⊥)
         → (result ≡ code_of Served) ⊎ (result ≡ code_of NoMemory) }
+    ensures sink_fault { result ≡ code_of SinkFault → Rose (K.faults sink.old) (K.faults sink.new) }
+    ensures net_fault { result ≡ code_of NetFaulted → Rose (N.standing net.old).faults (N.standing net.new).faults }
+    ensures sink_stands { result ≢ code_of SinkFault → K.faults sink.new ≡ K.faults sink.old }
+    ensures net_stands { result ≢ code_of SinkFault → result ≢ code_of NetFaulted → (N.standing net.new).faults ≡ (N.standing net.old).faults }
 {
     run(alloc, words, sink, net).code()
 }

@@ -23,7 +23,13 @@ fn main(rt: HostRuntime) -> ExitCode {
     let mut source = StdSource::new(rt.stdin());
     let mut sink = StdSink::new(rt.stdout());
     let mut net = TcpNet::new(rt.alloc(), &rt);
-    live_exit(rt.alloc(), words_given(&rt), &mut source, &mut sink, &mut net)
+    live_exit(
+        rt.alloc(),
+        words_given(&rt),
+        &mut source,
+        &mut sink,
+        &mut net,
+    )
 }
 
 /// The words that the shell gave behind the program's name.

@@ -3,10 +3,9 @@ ghost use Rattle.tmc_live.specs.Net.{IsFault, Gives};
 
 use crate::net::{Net, NetFault};
 use std::alloc::Global;
-use std::io;
 use std::marker::Model;
-use std::net;
 use std::net::{SocketAddr, TcpListener, TcpStream};
+use std::{io, net};
 use tmc_base::TcpLink;
 
 /// The TCP network of the system. It counts its faults, and tells nothing of its links.
