@@ -1,5 +1,5 @@
 -- how the serving goes on and ends
-use Rattle.std.proofs.Common.{◌≡◌, ◌≢◌, ◌⊎◌, inl, inr, ℕ, ◌+◌, ◌<◌, List, [], ◌∷◌, ◌++◌, length, Option, Result, Ok, Err, Some, None, codes, refl, sym, ap, ◌∙◌, subst}
+use Rattle.std.proofs.Common.{◌≡◌, ◌≢◌, ◌⊎◌, inl, inr, ℕ, ◌+◌, ◌<◌, List, [], ◌∷◌, ◌++◌, length, Option, Ok, Err, Some, Bool, true, false, refl, sym, ap, ◌∙◌, subst}
 use Rattle.usbip_export.specs.declared.serving.ServeEnd.TheVariants as end
 use Rattle.tmc_live.specs.declared.net.NetFault.{NetFault}
 use Rattle.tmc_live.specs.declared.net.NetFault.TheVariants as fault
@@ -7,8 +7,11 @@ use Rattle.tmc_live.specs.declared.status.Status.{Status}
 use Rattle.tmc_live.specs.declared.status.Status.TheVariants.{Served, Usage, SinkFault, NoMemory, NetFault as NetFaulted}
 use Rattle.tmc_live.specs.Line.{connection_line}
 use Rattle.tmc_live.specs.Net.{Standing, Gives, Listens, IsFault, TakesOne, back_after}
-use Rattle.tmc_base.specs.Sink.{put_after}
-use Rattle.tmc_live.specs.Live.{Ways, Connection, Handles, Serves, none, more, Reaches, Lacks, Lost, Fails, deaf, lost, Unprinted, EndsServing, lines_of}
+use Rattle.tmc_base.specs.declared.sink.WriteStep.{WriteStep}
+use Rattle.tmc_base.specs.Faults.{Rose}
+use Rattle.tmc_base.specs.Sink.{PutsFront, put_after}
+use Rattle.tmc_base.specs.Writing.{WriteRun}
+use Rattle.tmc_live.specs.Live.{Ways, Connection, Puts, Breaks, Handles, Serves, none, more, Reaches, Lacks, Lost, Fails, deaf, lost, Unprinted, EndsServing, lines_of}
 use Rattle.tmc_live.specs.Next.{PrintsFault, Next}
 use Rattle.tmc_live.proofs.Lines.{length_more, lines_more, put_again, back_more, back_none, put_none}
 
@@ -25,6 +28,31 @@ handled w net accepted new one accepts gives same serves takes stands back = rec
   takes = takes;
   back = back ∙ ap (λ b. back_after one.after b) same;
   counts = ap (λ (s : Standing). s.faults) stands ∙ ap (λ (s : Standing). s.faults) gives;
+}
+
+-- the net listens still
+pub listens_still : {L : Type 0} (link : L) (before mid after : Standing) → before.listens ≡ true → Gives {A = L} (Ok link) before mid → TakesOne mid after
+    → after.listens ≡ true
+listens_still link before mid after heard gives stands = ap (λ (s : Standing). s.listens) stands ∙ (ap (λ (s : Standing). s.listens) gives ∙ heard)
+
+-- a text was written whole
+pub line_put : {K : Type 0} (put : K → Option (List ℕ)) (faults : K → ℕ) (writes : K → List ℕ → WriteStep → K → Type 0) (sink after : K) (given text : List ℕ) (result : Bool)
+    → given ≡ text → result ≡ true → (result ≡ true → put after ≡ put_after given (put sink)) → (result ≡ true → faults after ≡ faults sink)
+    → WriteRun writes sink after result given → Puts put faults writes text sink after
+line_put put faults writes sink after given text result same whole told counts run = record {
+  told = subst (λ t. put after ≡ put_after t (put sink)) same (told whole);
+  run = subst (λ t. WriteRun writes sink after true t) same (subst (λ r. WriteRun writes sink after r given) whole run);
+  counts = counts whole;
+}
+
+-- a text was not written whole
+pub line_broken : {K : Type 0} (put : K → Option (List ℕ)) (faults : K → ℕ) (writes : K → List ℕ → WriteStep → K → Type 0) (sink after : K) (given text : List ℕ) (result : Bool)
+    → given ≡ text → result ≡ false → PutsFront given (put sink) (put after) → (result ≡ false → Rose (faults sink) (faults after))
+    → WriteRun writes sink after result given → Breaks put faults writes text sink after
+line_broken put faults writes sink after given text result same broken told rose run = record {
+  told = subst (λ t. PutsFront t (put sink) (put after)) same told;
+  run = subst (λ t. WriteRun writes sink after false t) same (subst (λ r. WriteRun writes sink after r given) broken run);
+  rose = rose broken;
 }
 
 -- a call that gave nothing
@@ -69,6 +97,13 @@ reached_more w address net mid new sink before after done one r s = record {
 
     put_text : List ℕ → Option (List ℕ)
     put_text text = put_after text (w.put sink)
+
+-- the same by the number of that connection
+pub reached_at : {N K L : Type 0} (w : Ways N K L) (address : List ℕ) (number : ℕ) (net mid new : N) (sink before after : K) (done : List (Connection L)) (one : Connection L)
+    → Reaches w address net sink done mid before → number ≡ length done + 1 → Serves w number mid before one new after
+    → Reaches w address net sink (done ++ one ∷ []) new after
+reached_at w address number net mid new sink before after done one r e s =
+    reached_more w address net mid new sink before after done one r (subst (λ n. Serves w n mid before one new after) e s)
 
 -- the net could not listen
 pub ends_deaf : {N K L : Type 0} (w : Ways N K L) (address : List ℕ) (count : ℕ) (why : NetFault) (status : Status) (net new : N) (sink after : K)

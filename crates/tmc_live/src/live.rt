@@ -105,7 +105,7 @@ fn serve_next<K: Sink, N: Net>(
     };
     let end = serve_client(alloc, &mut link);
     net.done(link);
-    if end == ServeEnd::Memory {
+    if let ServeEnd::Memory = end {
         return Some(Status::NoMemory);
     }
     let Ok(line) = connection_line(alloc, number, end) else {

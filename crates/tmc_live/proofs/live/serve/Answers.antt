@@ -1,6 +1,7 @@
-use Rattle.std.proofs.Common.{◌+◌, [], refl, ap, arith}
+use Rattle.std.proofs.Common.{◌+◌, [], ◌∷◌, ◌++◌, refl, ap, arith}
 use Rattle.tmc_live.specs.Net.{Standing}
-use Rattle.tmc_live.proofs.Serving.{lacks, reached_none, ends_deaf, ends_at}
+use Rattle.tmc_live.proofs.Lines.{length_more}
+use Rattle.tmc_live.proofs.Serving.{lacks, reached_none, reached_at, ends_deaf, ends_at}
 use Rattle.tmc_live.proofs.live.serve.Goals as goal
 
 pub returns-in-Err : goal.returns-in-Err
@@ -21,3 +22,17 @@ returns-in-Some g c =
     ends_at _ c.args.address.now c.args.count (c.connections.served + 1) c.in-Some.status c.args.net.now c.connections.net c.serve_next.new.net
     c.args.sink.now c.connections.sink c.serve_next.new.sink reached.0 reached.2
     (omega (arith, reached.1, c.connections-test.true)) (omega (arith, reached.1)) c.in-Some.ensures.next
+
+pub connections-preserved : goal.connections-preserved
+connections-preserved g c =
+    let reached = c.connections.invariant.reached in
+    let next = c.in_default-serve_next.ensures.next in record {
+      reached = (
+          reached.0 ++ next.0 ∷ [],
+          omega (arith, length_more reached.0 next.0, reached.1),
+          reached_at _ c.args.address.now (c.connections.served + 1) c.args.net.now c.connections.net c.serve_next.new.net c.args.sink.now c.connections.sink c.serve_next.new.sink
+          reached.0 next.0 reached.2 (omega (arith, reached.1)) next.1,
+      );
+      within = omega (arith, c.connections.invariant.within, c.connections-test.true);
+      listens = c.in_default-serve_next.ensures.listens;
+    }
