@@ -1,4 +1,4 @@
--- each submit that a stopped ticket waits for is unlinked exactly once
+-- each submit that a stopped ticket waits for is unlinked exactly once, and so is each that was made ahead and is of no use
 use Rattle.std.proofs.Common.{◌≡◌, ◌⊎◌, ℕ, ◌≤◌, suc, ◌||◌, ◌&&◌, not, Bool, true, false, List, [], ◌∷◌, ◌++◌, Option, Some, None, inl, inr, refl, sym, subst, ◌∙◌, ap, arith}
 use Rattle.std.specs.Prelude.{◌==◌, is_some, if◌then◌else◌}
 use Rattle.std.proofs.lemmas.Bool.{eqb-true}
@@ -12,23 +12,24 @@ use Rattle.host_hub.specs.declared.outcome.End.{End}
 use Rattle.host_hub.specs.declared.outcome.Outcome.{Outcome}
 use Rattle.host_hub.specs.declared.outcome.Outcome.TheVariants as outcome
 use Rattle.host_recover.specs.declared.need.Need.{Need}
-use Rattle.host_hub.specs.Order.{Class, ClearHalt, Listen, Order, Part, Read, Request, Setting, Trigger, Unlink, is_unlink, message_of}
+use Rattle.host_hub.specs.Order.{Class, ClearHalt, Listen, Order, Part, Read, Request, Setting, Trigger, Unlink, is_bulk, is_listen, is_unlink, message_of}
 use Rattle.host_hub.specs.Record.{Asked, Cancelled, Cleared, Fell, GaveUp, Happening, Of, Owner, Past, Recovers, Recovery, Settled, Stopped, Took, Wrote, next, written}
 use Rattle.host_hub.specs.Crossings.{crossings}
 use Rattle.host_hub.specs.Book.{active, has, is_live, live, or_else}
-use Rattle.host_hub.specs.Hand.{ended, in_hand, is_begun}
-use Rattle.host_hub.specs.Outstanding.{Sent, is_unlinked, not_unlinked, outstanding, own_bulk}
+use Rattle.host_hub.specs.Hand.{ended, in_hand, is_begun, is_of}
+use Rattle.host_hub.specs.Outstanding.{Sent, busy, is_unlinked, not_unlinked, outstanding, own_bulk}
 use Rattle.host_hub.specs.Pieces.{pieces}
 use Rattle.host_hub.specs.Status.{awaits}
 use Rattle.host_hub.specs.Causes.{cause, once_free, reached}
 use Rattle.host_hub.specs.Unlinks.{is_deep, is_over, unlinks_due, unlinks_of}
+use Rattle.host_hub.specs.Sentences.{IsLeft}
 use Rattle.host_hub.specs.Ends.{end_due}
 use Rattle.host_hub.specs.Recovery.{MayComeFor, running}
 use Rattle.host_hub.specs.Law.{ByBytes, ByClosing, ByFault, ByItself, ByNumbers, IsHandOver, Kept, Lawful, Recovering, Runs, StopLaw, WriteLaw}
 use Rattle.host_hub.proofs.Entries.{IsIn, same_named}
 use Rattle.host_hub.proofs.Fronts.{running_over}
 use Rattle.host_hub.proofs.Lawful.{lawful_crossings}
-use Rattle.host_hub.proofs.Lists.{clash, first_has, has_other, own, same}
+use Rattle.host_hub.proofs.Lists.{and_false, clash, first_has, has_other, has_removed, own, same}
 use Rattle.host_hub.proofs.Messages.{written_same}
 use Rattle.host_hub.proofs.Numbers.{may_next, same_outstanding}
 use Rattle.host_hub.proofs.Pasts.{hand_begun, still_live}
@@ -54,16 +55,64 @@ named_all (y ∷ ys) all x h m plain = step (is_unlink y.order) refl (is_unlinke
     step true e c f k (inr i) again = again k i plain
     step false e true f k (inr i) again = again k i plain
 
+-- ---- a bulk submit
+
+bulk_speaks : (k : Order) → is_bulk k ≡ true → is_listen k ≡ false
+bulk_speaks (Part tag text eom) h = refl
+bulk_speaks (Request tag size) h = refl
+bulk_speaks (Trigger tag) h = refl
+bulk_speaks Read h = refl
+bulk_speaks Listen h = clash h
+bulk_speaks (Class request) h = clash h
+bulk_speaks (ClearHalt endpoint) h = clash h
+bulk_speaks (Unlink target) h = clash h
+
+bulk_plain : (k : Order) → is_bulk k ≡ true → is_unlink k ≡ false
+bulk_plain (Part tag text eom) h = refl
+bulk_plain (Request tag size) h = refl
+bulk_plain (Trigger tag) h = refl
+bulk_plain Read h = refl
+bulk_plain Listen h = clash h
+bulk_plain (Class request) h = clash h
+bulk_plain (ClearHalt endpoint) h = clash h
+bulk_plain (Unlink target) h = clash h
+
+own_is_bulk : (t : ℕ) (xs : List Sent) (x : Sent) → IsIn x (own_bulk t xs) → is_bulk x.order ≡ true
+own_is_bulk t [] x m = absurd m
+own_is_bulk t (y ∷ ys) x m = step (is_of t y.owner) refl (is_bulk y.order) refl m (own_is_bulk t ys x)
+  where
+    step : (a : Bool) → is_of t y.owner ≡ a → (b : Bool) → is_bulk y.order ≡ b → IsIn x (if a && b then y ∷ own_bulk t ys else own_bulk t ys)
+        → (IsIn x (own_bulk t ys) → is_bulk x.order ≡ true) → is_bulk x.order ≡ true
+    step true e true f (inl i) again = ap (λ (z : Sent). is_bulk z.order) i ∙ f
+    step true e true f (inr i) again = again i
+    step true e false f i again = again i
+    step false e b f i again = again i
+
+own_is_busy : {P : Type 0} (t : ℕ) (xs : List Sent) (x : Sent) → IsIn x (own_bulk t xs) → busy xs ≡ [] → P
+own_is_busy t [] x m none = absurd m
+own_is_busy {P} t (y ∷ ys) x m none = step (is_listen y.order) refl none (is_bulk y.order) refl m (own_is_busy t ys x)
+  where
+    step : (l : Bool) → is_listen y.order ≡ l → (if l then busy ys else y ∷ busy ys) ≡ [] → (b : Bool) → is_bulk y.order ≡ b
+        → IsIn x (if is_of t y.owner && b then y ∷ own_bulk t ys else own_bulk t ys) → (IsIn x (own_bulk t ys) → busy ys ≡ [] → P) → P
+    step false e k b f i again = cc
+    step true e k true f i again = clash (sym (bulk_speaks y.order f) ∙ e)
+    step true e k false f i again = again (subst (λ (c : Bool). IsIn x (if c then y ∷ own_bulk t ys else own_bulk t ys)) (and_false (is_of t y.owner)) i) k
+
 -- ---- what is true until its unlink is written
+
+-- why a submit is to be unlinked
+pub data Why (s : Setting) (t : ℕ) (x : Sent) (q : Past) : Type 0 where
+  -- its ticket was stopped, and waits for it
+  Stops : (lives : has t (live q) ≡ true) → (stopped : is_some (reached t q) ≡ true) → (waits : IsIn x (awaits t q)) → (uncaused : cause s t q ≡ None) → Why s t x q
+  -- it was made ahead, and its ticket is settled or has read its piece to the end
+  Left : (deep : is_deep s ≡ true) → (free : (is_live t q && is_some (reached t q)) ≡ false) → (over : (not (is_live t q) || is_over (pieces t q)) ≡ true)
+      → (out : IsIn x (own_bulk t (outstanding q))) → Why s t x q
 
 pub record Owed (s : Setting) (t : ℕ) (x : Sent) (q : Past) : Type 0 where
   pub running : ended q ≡ None
   pub going : end_due q ≡ None
   pub hand : in_hand q ≡ Some t
-  pub lives : has t (live q) ≡ true
-  pub stopped : is_some (reached t q) ≡ true
-  pub waits : IsIn x (awaits t q)
-  pub uncaused : cause s t q ≡ None
+  pub why : Why s t x q
 
 abbrev IsDone : Setting → ℕ → Past → Type 0
 IsDone s n q = 1 ≤ unlinks.unlinks_of n (written s q)
@@ -71,17 +120,33 @@ IsDone s n q = 1 ≤ unlinks.unlinks_of n (written s q)
 abbrev Either : Setting → ℕ → Sent → Past → Type 0
 Either s t x q = IsDone s x.number q ⊎ Owed s t x q
 
-due_of : (s : Setting) (t : ℕ) (x : Sent) (q : Past) → Owed s t x q → unlinks_due s (ended q) q ≡ [] → not_unlinked (awaits t q) (outstanding q) ≡ []
-due_of s t x q o none = subst (λ (b : Bool). chosen b ≡ []) both now
+named_now : (s : Setting) (t : ℕ) (x : Sent) (q : Past) → is_unlink x.order ≡ false → Owed s t x q → unlinks_due s (ended q) q ≡ [] → is_unlinked x.number (outstanding q) ≡ true
+named_now s t x q plain o none = by o.why
   where
-    chosen : Bool → List ℕ
-    chosen b = not_unlinked (if b then awaits t q else if is_deep s && (not (is_live t q) || is_over (pieces t q)) then own_bulk t (outstanding q) else []) (outstanding q)
-
-    both : (is_live t q && is_some (reached t q)) ≡ true
-    both = rw o.lives o.stopped
+    ahead : Bool → Bool → List Sent
+    ahead a b = if a then awaits t q else if b then own_bulk t (outstanding q) else []
 
     now : unlinks_of s (Some t) q ≡ []
     now = subst (λ (k : Option ℕ). unlinks_of s k q ≡ []) o.hand (subst (λ (e : Option End). unlinks_due s e q ≡ []) o.running none)
+
+    none_of : Bool → Bool → Type 0
+    none_of a b = not_unlinked (ahead a b) (outstanding q) ≡ []
+
+    left : Bool
+    left = is_deep s && (not (is_live t q) || is_over (pieces t q))
+
+    chosen : none_of (is_live t q && is_some (reached t q)) left
+    chosen = now
+
+    by : Why s t x q → is_unlinked x.number (outstanding q) ≡ true
+    by (Stops lives stopped waits uncaused) =
+        let both : (is_live t q && is_some (reached t q)) ≡ true = rw lives stopped in
+        let due : not_unlinked (awaits t q) (outstanding q) ≡ [] = subst (λ (b : Bool). none_of b left) both chosen in
+        named_all (awaits t q) (outstanding q) x due waits plain
+    by (Left deep free over out) =
+        let both : left ≡ true = rw deep over in
+        let due : not_unlinked (own_bulk t (outstanding q)) (outstanding q) ≡ [] = subst (λ (b : Bool). none_of false b) both (subst (λ (b : Bool). none_of b left) free chosen) in
+        named_all (own_bulk t (outstanding q)) (outstanding q) x due out plain
 
 done_now : Counts → (s : Setting) (t : ℕ) (x : Sent) (q : Past) → Lawful s q → is_unlink x.order ≡ false → Owed s t x q → unlinks_due s (ended q) q ≡ [] → IsDone s x.number q
 done_now counts s t x q h plain o none =
@@ -90,7 +155,7 @@ done_now counts s t x q h plain o none =
       ap (λ (l : List up.Message). unlinks.unlinks_of x.number l) (written_same s q)
           ∙ counts.one s.first (crossings s q) x.number (lawful_crossings s q h)
           (subst (λ (l : List Awaited). is_named x.number l ≡ true) (same_outstanding s q h)
-          (same_named s x.number (outstanding q) ∙ named_all (awaits t q) (outstanding q) x (due_of s t x q o none) o.waits plain)),
+          (same_named s x.number (outstanding q) ∙ named_now s t x q plain o none)),
     )
 
 -- what was written stays
@@ -120,9 +185,15 @@ done_more s n y q h = h
 
 -- ---- each happening
 
-no_hand : {P : Type 0} (s : Setting) (t : ℕ) (x : Sent) (q : Past) → Owed s t x q → IsHandOver (in_hand q) q → P
-no_hand s t x q o over =
-    let settled : is_live t q ≡ false = subst (λ (k : Option ℕ). IsHandOver k q) o.hand over in clash (sym settled ∙ o.lives)
+no_hand : {P : Type 0} (s : Setting) (t : ℕ) (x : Sent) (q : Past) → Owed s t x q → IsHandOver (in_hand q) q → busy (outstanding q) ≡ [] → P
+no_hand {P} s t x q o over free = by o.why
+  where
+    settled : is_live t q ≡ false
+    settled = subst (λ (k : Option ℕ). IsHandOver k q) o.hand over
+
+    by : Why s t x q → P
+    by (Stops lives stopped waits uncaused) = clash (sym settled ∙ lives)
+    by (Left deep free_now over_now out) = own_is_busy t (outstanding q) x out free
 
 waits_on : (o : Option Outcome) (x : Sent) (xs : List Sent) → IsIn x xs → once_free o xs ≡ None
 waits_on o x [] m = absurd m
@@ -133,7 +204,7 @@ no_recovery {P} s t x q h o order law = by (running q) refl law.next.next
   where
     by : (k : Option Need) → running q ≡ k → MayComeFor k q law.next.submit → P
     by None e next = absurd next
-    by (Some need) e next = no_hand s t x q o (running_over s q h need e)
+    by (Some need) e next = no_hand s t x q o (running_over s q h need e) law.free
 
 reached_some : (o : Option Outcome) (p : Outcome) → is_some (or_else o (Some p)) ≡ true
 reached_some None p = refl
@@ -145,23 +216,21 @@ before s (y ∷ more) past h = before s more past h.0
 
 -- an unlink of another submit
 wrote_owed : (s : Setting) (t : ℕ) (x : Sent) (n target : ℕ) (q : Past) → Owed s t x q → n ≡ next s.first q → Owed s t x (Wrote n (Of t) (Unlink target) ∷ q)
-wrote_owed s t x n target q o e = record {
-  running = o.running;
-  going = o.going;
-  hand = refl;
-  lives = o.lives;
-  stopped = o.stopped;
-  waits = waits;
-  uncaused = still_live s q (Wrote n (Of t) (Unlink target)) t o.uncaused refl refl (waits_on (reached t q) x (awaits t (Wrote n (Of t) (Unlink target) ∷ q)) waits);
-}
+wrote_owed s t x n target q o e = record { running = o.running; going = o.going; hand = refl; why = by o.why }
   where
     begun : is_begun t q ≡ true
     begun = hand_begun t q o.hand
 
-    waits : IsIn x (awaits t (Wrote n (Of t) (Unlink target) ∷ q))
-    waits =
+    again : IsIn x (awaits t q) → IsIn x (awaits t (Wrote n (Of t) (Unlink target) ∷ q))
+    again waits =
         subst (λ (m : ℕ). IsIn x (awaits t (Wrote m (Of t) (Unlink target) ∷ q))) (sym e)
-        (subst (λ (xs : List Sent). IsIn x xs) (sym (awaits_wrote s q t (Unlink target) begun)) (inr o.waits))
+        (subst (λ (xs : List Sent). IsIn x xs) (sym (awaits_wrote s q t (Unlink target) begun)) (inr waits))
+
+    by : Why s t x q → Why s t x (Wrote n (Of t) (Unlink target) ∷ q)
+    by (Stops lives stopped waits uncaused) =
+        Stops lives stopped (again waits)
+        (still_live s q (Wrote n (Of t) (Unlink target)) t uncaused refl refl (waits_on (reached t q) x (awaits t (Wrote n (Of t) (Unlink target) ∷ q)) (again waits)))
+    by (Left deep free over out) = Left deep free (rw (own t) over) (rw (own t) out)
 
 wrote_unlink : (s : Setting) (t : ℕ) (x : Sent) (n u target : ℕ) (q : Past) → Lawful s (Wrote n (Of u) (Unlink target) ∷ q) → Owed s t x q → Either s t x (Wrote n (Of u) (Unlink target) ∷ q)
 wrote_unlink s t x n u target q h o =
@@ -213,7 +282,7 @@ step counts s t x (Wrote n Recovery Read) q h plain o = no_recovery s t x q h.0 
 step counts s t x (Wrote n Recovery Listen) q h plain o = no_recovery s t x q h.0 o Listen h.1.2
 step counts s t x (Wrote n Recovery (Class request)) q h plain o = no_recovery s t x q h.0 o (Class request) h.1.2
 step counts s t x (Wrote n Recovery (ClearHalt endpoint)) q h plain o = no_recovery s t x q h.0 o (ClearHalt endpoint) h.1.2
-step counts s t x Recovers q h plain o = no_hand s t x q o h.1.1.hand
+step counts s t x Recovers q h plain o = no_hand s t x q o h.1.1.hand h.1.1.free
 step counts s t x (Took m) q h plain o = inl (done_now counts s t x q h.0 plain o h.1.0.quiet.unlinked)
 step counts s t x (Fell m e) q h plain o = inl (done_now counts s t x q h.0 plain o h.1.0.quiet.unlinked)
 step counts s t x (Stopped e) q h plain o = inl (stop_done counts s t x e q h.0 plain o h.1.1)
@@ -221,21 +290,26 @@ step counts s t x (Asked u a) q h plain o = inl (done_now counts s t x q h.0 pla
 step counts s t x (Cancelled u) q h plain o = inl (done_now counts s t x q h.0 plain o h.1.0.quiet.unlinked)
 step counts s t x (Cleared w) q h plain o = inl (done_now counts s t x q h.0 plain o h.1.0.quiet.unlinked)
 step counts s t x GaveUp q h plain o = inl (done_now counts s t x q h.0 plain o h.1.0.quiet.unlinked)
-step counts s t x (Settled u p) q h plain o = by (u == t) refl
+step counts s t x (Settled u p) q h plain o = inr (record { running = o.running; going = o.going; hand = o.hand; why = by o.why })
   where
-    by : (b : Bool) → (u == t) ≡ b → Either s t x (Settled u p ∷ q)
-    by true e =
+    left : (deep : is_deep s ≡ true) → (is_live t q && is_some (reached t q)) ≡ false → (not (is_live t q) || is_over (pieces t q)) ≡ true → IsIn x (own_bulk t (outstanding q))
+        → (b : Bool) → is_live t (Settled u p ∷ q) ≡ b → Why s t x (Settled u p ∷ q)
+    left deep free over out false e = Left deep (rw e refl) (rw e refl) out
+    left deep free over out true e =
+        let lives : is_live t q ≡ true = (has_removed t u (live q) e).0 in
+        Left deep (rw e (subst (λ (b : Bool). (b && is_some (reached t q)) ≡ false) lives free)) (rw e (subst (λ (b : Bool). (not b || is_over (pieces t q)) ≡ true) lives over)) out
+
+    stops : has t (live q) ≡ true → is_some (reached t q) ≡ true → IsIn x (awaits t q) → cause s t q ≡ None → (b : Bool) → (u == t) ≡ b → Why s t x (Settled u p ∷ q)
+    stops lives stopped waits uncaused true e =
         let c : cause s t q ≡ Some p = subst (λ (v : ℕ). cause s v q ≡ Some p) (eqb-true u t e) h.1.1.caused in
-        let k : None ≡ Some p = sym o.uncaused ∙ c in cc
-    by false e = inr (record {
-      running = o.running;
-      going = o.going;
-      hand = o.hand;
-      lives = has_other t u (live q) o.lives e;
-      stopped = o.stopped;
-      waits = o.waits;
-      uncaused = still_live s q (Settled u p) t o.uncaused refl refl (waits_on (reached t q) x (awaits t q) o.waits);
-    })
+        let k : None ≡ Some p = sym uncaused ∙ c in cc
+    stops lives stopped waits uncaused false e =
+        Stops (has_other t u (live q) lives e) stopped waits
+        (still_live s q (Settled u p) t uncaused refl refl (waits_on (reached t q) x (awaits t q) waits))
+
+    by : Why s t x q → Why s t x (Settled u p ∷ q)
+    by (Stops lives stopped waits uncaused) = stops lives stopped waits uncaused (u == t) refl
+    by (Left deep free over out) = left deep free over out (is_live t (Settled u p ∷ q)) refl
 
 pub follow : Counts → (s : Setting) (t : ℕ) (x : Sent) (more q : Past) → Lawful s (more ++ q) → is_unlink x.order ≡ false → Owed s t x q → Either s t x (more ++ q)
 follow counts s t x [] q h plain o = inr o
@@ -267,10 +341,7 @@ stop_owes s t x y past runs h lives begun waits e f g k l none stop = record {
   running = k ∙ runs.running;
   going = l ∙ runs.quiet.over runs.running;
   hand = f ∙ begun_in_hand s past h t lives begun;
-  lives = ap (λ (ts : List ℕ). has t ts) e ∙ lives;
-  stopped = stop;
-  waits = subst (λ (xs : List Sent). IsIn x xs) (sym g) waits;
-  uncaused = none;
+  why = Stops (ap (λ (ts : List ℕ). has t ts) e ∙ lives) stop (subst (λ (xs : List Sent). IsIn x xs) (sym g) waits) none;
 }
 
 pub cancelled_once : Counts → (s : Setting) (more past : Past) (t : ℕ) (x : Sent) → Kept s (more ++ Cancelled t ∷ past) → is_begun t past ≡ true → IsIn x (awaits t past)
@@ -297,3 +368,8 @@ cleared_once counts s more past t w x kept turn begun waits plain =
 
     lives : has t (live past) ≡ true
     lives = first_has t (live past) turn
+
+pub left_once : Counts → (s : Setting) (more past : Past) (t : ℕ) (x : Sent) → Kept s (more ++ past) → IsLeft s past t x → unlinks.unlinks_of x.number (written s (more ++ past)) ≡ 1
+left_once counts s more past t x kept left =
+    exactly counts s t x more past kept (bulk_plain x.order (own_is_bulk t (outstanding past) x left.among))
+    (record { running = left.running; going = left.going; hand = left.hand; why = Left left.deep left.unstopped left.over left.among })

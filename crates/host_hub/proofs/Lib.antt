@@ -27,6 +27,7 @@ pub mod Fronts
 pub mod Starts
 pub mod Views
 pub mod Exact
+pub mod Assembled
 pub mod Numbered
 pub mod Determined
 pub mod Own

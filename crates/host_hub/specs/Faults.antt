@@ -13,6 +13,8 @@ use Rattle.tmc_wire.specs.HeaderFault.{MsgID, bTag, bTagInverse, TransferSize}
 use Rattle.tmc_wire.specs.ClassAnswer.{answer_length}
 use Rattle.tmc_wire.specs.Short.{short_answer, short_packet}
 use Rattle.tmc_wire.specs.ClassStatus.{STATUS_SUCCESS}
+use Rattle.host_transfers.specs.declared.piece.Piece as assembly
+use Rattle.host_transfers.specs.declared.piece.Piece.TheVariants.{Data, Ended, Bad}
 use Rattle.host_hub.specs.Order.{Order, Read, Listen, Class, Setting, size_of}
 use Rattle.host_hub.specs.Record.{Past}
 use Rattle.host_hub.specs.Pieces.{Piece, pieces, extended, does_count}
@@ -46,6 +48,12 @@ transfer_faults piece =
     ∷ record { has = nat_lt (header_size + TransferSize piece.bytes + 3) (length piece.bytes); field = bulk_field name.Length 12 }
     ∷ record { has = is_some piece.over && nat_lt (length piece.bytes) (header_size + TransferSize piece.bytes); field = bulk_field name.Length 12 }
     ∷ []
+
+-- the field at which the assembly of a piece refuses a read
+abbrev pub refused_by : assembly.Piece → Option Field
+refused_by (Data from to) = None
+refused_by (Ended from to eom) = None
+refused_by (Bad field) = Some field
 
 -- the number of an answer, in its USB/IP header
 abbrev pub number_field : Field

@@ -1,15 +1,19 @@
 -- what each reader can check of a hub against its lists and marks alone
-use Rattle.std.specs.Prelude.{◌≡◌, ◌⊎◌, ◌<◌, ◌≤◌, ◌==◌, ℕ, Bool, true, false, Option, Some, None, List, [], ◌∷◌, if◌then◌else◌}
+use Rattle.std.specs.Prelude.{◌≡◌, ◌⊎◌, ◌<◌, ◌≤◌, ◌==◌, ℕ, Bool, true, false, ◌&&◌, ◌||◌, not, Option, Some, None, is_some, List, [], ◌∷◌, if◌then◌else◌}
 use Rattle.tmc_wire.specs.declared.class_request.ClassRequest.TheVariants as class
 use Rattle.host_hub.specs.declared.kind.Kind.{Kind}
 use Rattle.host_hub.specs.declared.kind.Kind.TheVariants as kind
 use Rattle.host_hub.specs.declared.outcome.Outcome.{Outcome}
 use Rattle.host_hub.specs.declared.outcome.Outcome.TheVariants as outcome
 use Rattle.host_hub.specs.declared.outcome.End.TheVariants as end
-use Rattle.host_hub.specs.Order.{Class, Order}
+use Rattle.host_hub.specs.Order.{Class, Order, Setting}
 use Rattle.host_hub.specs.Record.{Happening, Past, Recovers, Settled, Stopped, Wrote}
-use Rattle.host_hub.specs.Hand.{start}
-use Rattle.host_hub.specs.Outstanding.{Sent}
+use Rattle.host_hub.specs.Hand.{ended, in_hand, start}
+use Rattle.host_hub.specs.Outstanding.{Sent, outstanding, own_bulk}
+use Rattle.host_hub.specs.Book.{is_live}
+use Rattle.host_hub.specs.Pieces.{pieces}
+use Rattle.host_hub.specs.Causes.{reached}
+use Rattle.host_hub.specs.Unlinks.{is_deep, is_over}
 use Rattle.host_hub.specs.Ends.{end_due}
 
 -- it is one of these
@@ -64,3 +68,16 @@ pub record IsNumberedFor (past : Past) (t n : ℕ) : Type 0 where
   pub from : start t past ≤ n
   pub starts : (u : ℕ) → start t past < start u past → n < start u past
   pub initiates : (m : ℕ) (x : Sent) → wrote_at m past ≡ Some x → is_initiate x.order ≡ true → start t past ≤ m → n < m
+
+-- ---- at a depth above 1, a submit that was made ahead and is of no more use
+
+-- It is one of the bulk submits of the ticket in hand, which is settled, or whose piece has ended while nothing stopped it.
+-- The hub runs, and has not to end.
+pub record IsLeft (s : Setting) (past : Past) (t : ℕ) (x : Sent) : Type 0 where
+  pub deep : is_deep s ≡ true
+  pub running : ended past ≡ None
+  pub going : end_due past ≡ None
+  pub hand : in_hand past ≡ Some t
+  pub unstopped : (is_live t past && is_some (reached t past)) ≡ false
+  pub over : (not (is_live t past) || is_over (pieces t past)) ≡ true
+  pub among : IsAmong x (own_bulk t (outstanding past))

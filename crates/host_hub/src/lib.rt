@@ -18,6 +18,7 @@ mod steps;
 mod stops;
 mod ticket;
 mod ties;
+mod transfers;
 mod view;
 pub mod worked;
 
@@ -53,4 +54,5 @@ pub use stops::{
     an_unlink_is_answered,
 };
 pub use ties::records_are_tied;
+pub use transfers::{messages_are_planned_in_parts, pieces_are_assembled};
 pub use view::View;

@@ -13,7 +13,7 @@ ghost use Rattle.host_urbs.specs.declared.limits.TheConstants.{LAST_SUBMIT};
 ghost use Rattle.tmc_wire.specs.declared.class_request.ClassRequest.TheVariants.{ReadStatus};
 ghost use Rattle.usbip_wire.specs.declared.dirs.TheConstants.{DIRS_MAX};
 ghost use Rattle.host_hub.specs.Book.{active, asking_of, has, live, settled};
-ghost use Rattle.host_hub.specs.Sentences.{IsAmong, IsItsOwn, IsNumberedFor, MaySettleAs, wrote_at};
+ghost use Rattle.host_hub.specs.Sentences.{IsAmong, IsItsOwn, IsLeft, IsNumberedFor, MaySettleAs, wrote_at};
 ghost use Rattle.host_hub.specs.declared.outcome.Outcome.{Outcome};
 ghost use Rattle.host_recover.specs.declared.need.Need.{Need};
 ghost use Rattle.host_recover.specs.Words.{Begins, words_of};
@@ -114,7 +114,8 @@ pub fn numbers_suffice()
 }
 
 /// Where a cancel, or a clear while it is active, reaches a ticket that has begun, what was written has exactly one unlink of
-/// each submit that it waited for then.
+/// each submit that it waited for then; and exactly one of each that was made ahead, where the ticket was settled or its piece
+/// ended before the answer came.
 pub fn each_submit_is_unlinked()
     ensures cancelled { (setting : Setting) (more past : Past) (ticket : ℕ) (sent : Sent) → Kept setting (more ++ Cancelled ticket ∷ past)
         → is_begun ticket past ≡ true → IsAmong sent (awaits ticket past) → is_unlink sent.order ≡ false
@@ -122,6 +123,8 @@ pub fn each_submit_is_unlinked()
     ensures cleared { (setting : Setting) (more past : Past) (ticket session : ℕ) (sent : Sent) → Kept setting (more ++ Cleared session ∷ past)
         → active past ≡ Some ticket → is_begun ticket past ≡ true → IsAmong sent (awaits ticket past) → is_unlink sent.order ≡ false
         → unlinks_of sent.number (written setting (more ++ Cleared session ∷ past)) ≡ 1 }
+    ensures left { (setting : Setting) (more past : Past) (ticket : ℕ) (sent : Sent) → Kept setting (more ++ past) → IsLeft setting past ticket sent
+        → unlinks_of sent.number (written setting (more ++ past)) ≡ 1 }
 {
     each_submit_is_unlinked_once();
 }

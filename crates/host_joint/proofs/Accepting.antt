@@ -36,10 +36,10 @@ no_first submit behind queue none some = let e : [] ≡ submit ∷ behind = sym 
 take_keeps : (one_header : OneHeader) (ask : Ask) (s t : State) (count : ℕ) (ups : List up.Message) (downs puts : List Put) → Leads s (Take count) puts t → Asking ask ups downs s
     → t.halted.bulk_out ≡ s.halted.bulk_out
 take_keeps one_header ask s t count ups downs puts h a =
-    by (take_goes one_header s.halted.bulk_out s t count puts a.todo (sent_to BulkOut ups) a.jobs
+    by (take_goes one_header s.halted.bulk_out ask.gone s t count puts a.todo (sent_to BulkOut ups) a.jobs
     (may_begin ask.last ask.message ask.tag ask.size a.past a.todo ask.sofar a.flow s a.jobs a.short h.0 a.stage) a.out h.1).1
   where
-    by : Took a.todo (sent_to BulkOut ups) s puts t → t.halted.bulk_out ≡ s.halted.bulk_out
+    by : Took ask.gone a.todo (sent_to BulkOut ups) s puts t → t.halted.bulk_out ≡ s.halted.bulk_out
     by (GoesOn queue transfer none to line) = ap (λ (x : State). x.halted.bulk_out) to
     by (Ends job rest queue first line effect put) = (effect_sides _ _ _ t effect).out_halted
 

@@ -41,7 +41,7 @@ use Rattle.host_joint.proofs.Rebuilding.{other_event, other_ended, Effect, effec
 all_more : (shut : Bool) (came : ℕ) (a b : List Event) → AllTaken shut came a → AllTaken shut 0 b → AllTaken shut came (a ++ b)
 all_more shut came [] b h k = subst (λ (n : ℕ). AllTaken shut n b) (sym h) k
 all_more shut came (Gives head answer transferred ∷ a) b (inl h) k = inl (h.0, h.1, h.2, h.3, all_more shut h.2 a b h.4 k)
-all_more shut came (Gives head answer transferred ∷ a) b (inr h) k = inr h
+all_more shut came (Gives head answer transferred ∷ a) b (inr h) k = inr (h.0, h.1, h.2, all_more shut 0 a b h.3 k)
 all_more shut came (Drops n ∷ a) b h k = all_more shut came a b h k
 
 -- one more, where Bulk-OUT is not halted
@@ -53,15 +53,16 @@ one_more shut came (Gives x y z ∷ a) head answer transferred usable ok all (in
 one_more shut came (Gives x y z ∷ a) head answer transferred usable ok all (inr h) = let e : false ≡ true = sym usable ∙ h.1 in absurd (cc)
 one_more shut came (Drops n ∷ a) head answer transferred usable ok all h = one_more shut came a head answer transferred usable ok all h
 
-more_parts : (written past todo hit : List Job) (answered : ℕ) (shut : Bool) (a b : List Event) → AllTaken shut 0 b → written ≡ past ++ (todo ++ hit) → (came : ℕ) → AllTaken shut came a
-    → length past ≡ answered + came → Parts written past todo hit answered shut (a ++ b)
-more_parts written past todo hit answered shut a b none whole came taken counted = record { whole = whole; came = came; taken = all_more shut came a b taken none; counted = counted }
+more_parts : (written past todo hit : List Job) (answered : ℕ) (shut gone : Bool) (a b : List Event) → AllTaken shut 0 b → written ≡ past ++ (todo ++ hit) → (came : ℕ) → AllTaken shut came a
+    → length past ≡ answered + came → (gone ≡ false → shut ≡ false → hit ≡ []) → Parts written past todo hit answered shut gone (a ++ b)
+more_parts written past todo hit answered shut gone a b none whole came taken counted missed = record { whole = whole; missed = missed; came = came; taken = all_more shut came a b taken none; counted = counted }
 
 -- a transfer was taken
-next_parts : (written past todo rest hit : List Job) (job : Job) (answered : ℕ) (shut : Bool) (a : List Event) (head : SubmitHead) (answer : RetSubmitHead) (transferred : List ℕ) → shut ≡ false
-    → answer.status ≡ success → answer.actual ≡ head.length → todo ≡ job ∷ rest → written ≡ past ++ (todo ++ hit) → (came : ℕ) → AllTaken shut came a → length past ≡ answered + came
-    → Parts written (past ++ job ∷ []) rest hit answered shut (a ++ Gives head answer transferred ∷ [])
-next_parts written past todo rest hit job answered shut a head answer transferred usable ok all first whole came taken counted = record {
+next_parts : (written past todo rest hit : List Job) (job : Job) (answered : ℕ) (shut gone : Bool) (a : List Event) (head : SubmitHead) (answer : RetSubmitHead) (transferred : List ℕ) → shut ≡ false
+    → answer.status ≡ success → answer.actual ≡ head.length → todo ≡ job ∷ rest → written ≡ past ++ (todo ++ hit) → (came : ℕ) → AllTaken shut came a → length past ≡ answered + came → (gone ≡ false → shut ≡ false → hit ≡ [])
+    → Parts written (past ++ job ∷ []) rest hit answered shut gone (a ++ Gives head answer transferred ∷ [])
+next_parts written past todo rest hit job answered shut gone a head answer transferred usable ok all first whole came taken counted missed = record {
+  missed = missed;
   whole = whole ∙ ap (λ (l : List Job). past ++ (l ++ hit)) first ∙ sym (append_assoc past (job ∷ []) (rest ++ hit));
   came = came + 1;
   taken = one_more shut came a head answer transferred usable ok all taken;
@@ -73,25 +74,25 @@ job_event : (job : Job) → IsJob job → events_of BulkOut (ended success (part
 job_event job is = rw (eq-eqb job.head.ep 1 is.number) refl
 
 takes : (last : ℕ) (message : List ℕ) (tag size : ℕ) (written : List Job) (answered : ℕ) (sofar read : List ℕ) (gone : Bool) (ups : List up.Message) (downs puts : List Put) (s t : State) (free : s.waiting ≡ None) → s.halted.bulk_out ≡ false
-    → (a : Asking (ask_of last message tag size written answered sofar read gone) ups downs s) → Took a.todo (sent_to BulkOut ups) s puts t → Asking (ask_of last message tag size written answered sofar read gone) ups (downs ++ puts) t
+    → (a : Asking (ask_of last message tag size written answered sofar read gone) ups downs s) → Took gone a.todo (sent_to BulkOut ups) s puts t → Asking (ask_of last message tag size written answered sofar read gone) ups (downs ++ puts) t
 takes last message tag size written answered sofar read gone ups downs puts s t free usable a (GoesOn queue transfer none to line) =
     let w : State = record s { bulk_out = queue; transfer = transfer } in
     rebuild last message tag size written answered sofar read gone ups downs puts w t (is_effect w t to) (calm_of gone ups s w refl refl a.calm) a.past a.todo a.hit a.flow a.short a.jobs
-    (subst (λ (b : Bool). OutLine b a.todo (sent_to BulkOut ups) queue transfer) (sym usable) line)
+    (subst (λ (b : Bool). OutLine b gone a.todo (sent_to BulkOut ups) queue transfer) (sym usable) line)
     (subst (λ (x : State). Stage last message tag size a.past a.todo sofar a.flow x) (sym to)
     (stage_same last message tag size a.past a.todo sofar a.flow s w (record { waiting = refl; part = refl; side = refl; log = refl; unread = refl; shut = refl; in_shut = refl }) a.stage))
     (subst (λ (l : List Event). InLine s.halted.bulk_in gone a.flow read l (sent_to BulkIn ups) s.bulk_in) (sym (no_ins downs puts (ap (λ (p : List Put). events_of BulkIn p) none))) a.ins) a.reads
-    (same_parts _ _ _ _ _ _ (events_of BulkOut downs) (events_of BulkOut puts) (ap (λ (p : List Put). events_of BulkOut p) none) a.whole a.came a.taken a.counted)
+    (same_parts _ _ _ _ _ _ _ (events_of BulkOut downs) (events_of BulkOut puts) (ap (λ (p : List Put). events_of BulkOut p) none) a.whole a.came a.taken a.counted a.missed)
 takes last message tag size written answered sofar read gone ups downs puts s t free usable a (Ends job rest queue first line effect put) =
     let is : AllJobs (job ∷ rest) = subst (λ (l : List Job). AllJobs l) first a.jobs in
     let w : State = record s { bulk_out = queue; transfer = None } in
     rebuild last message tag size written answered sofar read gone ups downs puts w t (effect_sides _ _ w t effect) (calm_of gone ups s w refl refl a.calm) (a.past ++ job ∷ []) rest a.hit a.flow a.short is.1
-    (subst (λ (b : Bool). OutLine b rest (sent_to BulkOut ups) queue None) (sym usable) line)
+    (subst (λ (b : Bool). OutLine b gone rest (sent_to BulkOut ups) queue None) (sym usable) line)
     (stage_takes last message tag size a.past a.todo sofar a.flow s t job rest queue a.jobs free first effect a.stage)
     (subst (λ (l : List Event). InLine s.halted.bulk_in gone a.flow read l (sent_to BulkIn ups) s.bulk_in)
     (sym (no_ins downs puts (ap (λ (p : List Put). events_of BulkIn p) put ∙ other_event BulkIn job.head _ _ [] 1 is.0.number refl))) a.ins) a.reads
-    (subst (λ (l : List Event). Parts written (a.past ++ job ∷ []) rest a.hit answered s.halted.bulk_out (events_of BulkOut downs ++ l)) (sym (ap (λ (p : List Put). events_of BulkOut p) put ∙ job_event job is.0))
-    (next_parts written a.past a.todo rest a.hit job answered s.halted.bulk_out (events_of BulkOut downs) _ _ _ usable refl (sym is.0.sized) first a.whole a.came a.taken a.counted))
+    (subst (λ (l : List Event). Parts written (a.past ++ job ∷ []) rest a.hit answered s.halted.bulk_out gone (events_of BulkOut downs ++ l)) (sym (ap (λ (p : List Put). events_of BulkOut p) put ∙ job_event job is.0))
+    (next_parts written a.past a.todo rest a.hit job answered s.halted.bulk_out gone (events_of BulkOut downs) _ _ _ usable refl (sym is.0.sized) first a.whole a.came a.taken a.counted a.missed))
 
 -- ---- execution, and pieces
 
@@ -102,7 +103,7 @@ executes last message tag size written answered sofar read gone ups downs puts s
     rebuild last message tag size written answered sofar read gone ups downs puts w t (logged goes) (calm_of gone ups s w refl refl a.calm) a.past a.todo a.hit a.flow a.short a.jobs a.out
     (stage_executes last message tag size a.past a.todo sofar a.flow s t stands goes a.stage)
     (subst (λ (l : List Event). InLine s.halted.bulk_in gone a.flow read l (sent_to BulkIn ups) s.bulk_in) (sym (no_ins downs puts (ap (λ (p : List Put). events_of BulkIn p) none))) a.ins) a.reads
-    (same_parts _ _ _ _ _ _ (events_of BulkOut downs) (events_of BulkOut puts) (ap (λ (p : List Put). events_of BulkOut p) none) a.whole a.came a.taken a.counted)
+    (same_parts _ _ _ _ _ _ _ (events_of BulkOut downs) (events_of BulkOut puts) (ap (λ (p : List Put). events_of BulkOut p) none) a.whole a.came a.taken a.counted a.missed)
   where
     logged : out.Executes s t → Effect (record s { waiting = None }) t
     logged (out.DoesExecute seq words waits logs) = effect_logs _ (record s { waiting = None }) (record s { waiting = None }) t (effect_own (record s { waiting = None })) logs
@@ -131,7 +132,7 @@ begins last message tag size written answered sofar read gone ups downs puts s t
     rebuild last message tag size written answered sofar read gone ups downs puts s t (logged goes) a.calm a.past a.todo a.hit (Giving []) a.short a.jobs a.out stage.1
     (begins_line s.halted.bulk_in gone read _ _ _ (subst (λ (f : Flow). InLine s.halted.bulk_in gone f read (gives (events_of BulkIn downs) ++ gives (events_of BulkIn puts)) (sent_to BulkIn ups) s.bulk_in) stage.0
     (subst (λ (l : List Event). InLine s.halted.bulk_in gone a.flow read l (sent_to BulkIn ups) s.bulk_in) (sym (no_ins downs puts (ap (λ (p : List Put). events_of BulkIn p) none))) a.ins))) a.reads
-    (same_parts _ _ _ _ _ _ (events_of BulkOut downs) (events_of BulkOut puts) (ap (λ (p : List Put). events_of BulkOut p) none) a.whole a.came a.taken a.counted)
+    (same_parts _ _ _ _ _ _ _ (events_of BulkOut downs) (events_of BulkOut puts) (ap (λ (p : List Put). events_of BulkOut p) none) a.whole a.came a.taken a.counted a.missed)
   where
     logged : Begins s count t → Effect s t
     logged («in».DoesBegin g n owes free low high logs) =
@@ -152,13 +153,13 @@ filled last message tag size written answered sofar read gone bytes ups downs pu
     rebuild last message tag size written answered sofar read gone ups downs puts w t (is_effect w t to) (calm_of gone ups s w refl refl a.calm) a.past a.todo a.hit (Giving (bytes ++ take n piece.left)) a.short a.jobs a.out
     (stage_gives last message tag size a.past a.todo sofar bytes s t piece queue n side to (subst (λ (f : Flow). Stage last message tag size a.past a.todo sofar f s) flow a.stage))
     (subst (λ (b : Bool). InLine b gone (Giving (bytes ++ take n piece.left)) read (gives (events_of BulkIn downs) ++ gives (events_of BulkIn puts)) (sent_to BulkIn ups) queue) (sym usable) line) a.reads
-    (same_parts _ _ _ _ _ _ (events_of BulkOut downs) (events_of BulkOut puts) (only BulkOut refl) a.whole a.came a.taken a.counted)
+    (same_parts _ _ _ _ _ _ _ (events_of BulkOut downs) (events_of BulkOut puts) (only BulkOut refl) a.whole a.came a.taken a.counted a.missed)
 filled last message tag size written answered sofar read gone bytes ups downs puts s t piece side usable a flow (filling.Ends queue to only line) =
     let w : State = record s { bulk_in = queue; side = Idle } in
     rebuild last message tag size written answered sofar read gone ups downs puts w t (is_effect w t to) (calm_of gone ups s w refl refl a.calm) a.past a.todo a.hit (Over (bytes ++ piece.left)) a.short a.jobs a.out
     (stage_ends last message tag size a.past a.todo sofar bytes s t piece queue side to (subst (λ (f : Flow). Stage last message tag size a.past a.todo sofar f s) flow a.stage))
     (subst (λ (b : Bool). InLine b gone (Over (bytes ++ piece.left)) read (gives (events_of BulkIn downs) ++ gives (events_of BulkIn puts)) (sent_to BulkIn ups) queue) (sym usable) line) a.reads
-    (same_parts _ _ _ _ _ _ (events_of BulkOut downs) (events_of BulkOut puts) (only BulkOut refl) a.whole a.came a.taken a.counted)
+    (same_parts _ _ _ _ _ _ _ (events_of BulkOut downs) (events_of BulkOut puts) (only BulkOut refl) a.whole a.came a.taken a.counted a.missed)
 
 fills : (last : ℕ) (message : List ℕ) (tag size : ℕ) (written : List Job) (answered : ℕ) (sofar read : List ℕ) (gone : Bool) (ups : List up.Message) (downs puts : List Put) (s t : State) (count : ℕ) → Fills s count puts t → Asking (ask_of last message tag size written answered sofar read gone) ups downs s → Asking (ask_of last message tag size written answered sofar read gone) ups (downs ++ puts) t
 fills last message tag size written answered sofar read gone ups downs puts s t count goes a =
@@ -209,17 +210,27 @@ own_event e head answer transferred puts is = rw (eq-eqb head.ep (number_of e) i
 stalled_taken : (queue : List Pending) → AllFit BulkOut queue → AllTaken true 0 (events_of BulkOut (all_ended stalled queue))
 stalled_taken [] fit = refl
 stalled_taken (first ∷ others) fit =
-    subst (λ (l : List Event). AllTaken true 0 l) (sym (own_event BulkOut first.head _ _ (map (λ submit. answer_of submit.head stalled []) others) fit.0.number)) (inr (refl, refl, refl))
+    subst (λ (l : List Event). AllTaken true 0 l) (sym (own_event BulkOut first.head _ _ (map (λ submit. answer_of submit.head stalled []) others) fit.0.number)) (inr (refl, refl, refl, rest others fit.1))
+  where
+    rest : (l : List Pending) → AllFit BulkOut l → AllTaken true 0 (events_of BulkOut (map (λ submit. answer_of submit.head stalled []) l))
+    rest [] h = refl
+    rest (x ∷ l) h =
+        subst (λ (k : List Event). AllTaken true 0 k) (sym (own_event BulkOut x.head _ _ (map (λ submit. answer_of submit.head stalled []) l) h.0.number)) (inr (refl, refl, refl, rest l h.1))
 
 stalled_halted : (queue : List Pending) → AllFit BulkIn queue → reads.IsHalted (gives (events_of BulkIn (all_ended stalled queue)))
 stalled_halted [] fit = tt
 stalled_halted (first ∷ others) fit =
-    subst (λ (l : List Event). reads.IsHalted (gives l)) (sym (own_event BulkIn first.head _ _ (map (λ submit. answer_of submit.head stalled []) others) fit.0.number)) refl
+    subst (λ (l : List Event). reads.IsHalted (gives l)) (sym (own_event BulkIn first.head _ _ (map (λ submit. answer_of submit.head stalled []) others) fit.0.number)) (refl, rest others fit.1)
+  where
+    rest : (l : List Pending) → AllFit BulkIn l → reads.IsHalted (gives (events_of BulkIn (map (λ submit. answer_of submit.head stalled []) l)))
+    rest [] h = tt
+    rest (x ∷ l) h =
+        subst (λ (k : List Event). reads.IsHalted (gives k)) (sym (own_event BulkIn x.head _ _ (map (λ submit. answer_of submit.head stalled []) l) h.0.number)) (refl, rest l h.1)
 
 shut_taken : (shut : Bool) (came : ℕ) (events : List Event) → AllTaken shut came events → AllTaken true came events
 shut_taken shut came [] h = h
 shut_taken shut came (Gives head answer transferred ∷ events) (inl h) = inl (h.0, h.1, h.2, h.3, shut_taken shut h.2 events h.4)
-shut_taken shut came (Gives head answer transferred ∷ events) (inr h) = inr (h.0, refl, h.2)
+shut_taken shut came (Gives head answer transferred ∷ events) (inr h) = inr (h.0, refl, h.2, shut_taken shut 0 events h.3)
 shut_taken shut came (Drops n ∷ events) h = shut_taken shut came events h
 
 halts_itself : (last : ℕ) (message : List ℕ) (tag size : ℕ) (written : List Job) (answered : ℕ) (sofar read : List ℕ) (gone : Bool) (ups : List up.Message) (downs puts : List Put) (s t : State) (e : Endpoint) → IsSound s
@@ -231,17 +242,17 @@ halts_itself last message tag size written answered sofar read gone ups downs pu
     (subst (λ (x : State). Stage last message tag size a.past [] sofar a.flow x) (sym is) (stage_shuts last message tag size a.past a.todo sofar a.flow s a.stage))
     (subst (λ (l : List Event). InLine s.halted.bulk_in gone a.flow read l (sent_to BulkIn ups) s.bulk_in)
     (sym (no_ins downs puts (ap (λ (p : List Put). events_of BulkIn p) put ∙ other_ended BulkIn BulkOut stalled s.bulk_out (sound.fits BulkOut) refl))) a.ins) a.reads
-    (more_parts written a.past [] (a.todo ++ a.hit) answered true (events_of BulkOut downs) (events_of BulkOut puts)
+    (more_parts written a.past [] (a.todo ++ a.hit) answered true gone (events_of BulkOut downs) (events_of BulkOut puts)
     (subst (λ (p : List Put). AllTaken true 0 (events_of BulkOut p)) (sym put) (stalled_taken s.bulk_out (sound.fits BulkOut))) a.whole a.came
-    (shut_taken s.halted.bulk_out a.came (events_of BulkOut downs) a.taken) a.counted)
+    (shut_taken s.halted.bulk_out a.came (events_of BulkOut downs) a.taken) a.counted (λ kept open_again. let e : true ≡ false = open_again in absurd (cc)))
 halts_itself last message tag size written answered sofar read gone ups downs puts s t BulkIn sound (DoesHalt other usable put is) a =
     let w : State = halts BulkIn s in
     rebuild last message tag size written answered sofar read gone ups downs puts w t (is_effect w t is) (calm_of gone ups s w refl refl a.calm) a.past a.todo a.hit (torn a.flow) a.short a.jobs a.out
     (subst (λ (x : State). Stage last message tag size a.past a.todo sofar (torn a.flow) x) (sym is) (stage_tears last message tag size a.past a.todo sofar a.flow s a.stage))
     (in_halts s.halted.bulk_in gone a.flow read (gives (events_of BulkIn downs)) (gives (events_of BulkIn puts)) (sent_to BulkIn ups) s.bulk_in
     (subst (λ (p : List Put). reads.IsHalted (gives (events_of BulkIn p))) (sym put) (stalled_halted s.bulk_in (sound.fits BulkIn))) usable a.ins) a.reads
-    (same_parts written a.past a.todo a.hit answered s.halted.bulk_out (events_of BulkOut downs) (events_of BulkOut puts)
-    (ap (λ (p : List Put). events_of BulkOut p) put ∙ other_ended BulkOut BulkIn stalled s.bulk_in (sound.fits BulkIn) refl) a.whole a.came a.taken a.counted)
+    (same_parts written a.past a.todo a.hit answered s.halted.bulk_out gone (events_of BulkOut downs) (events_of BulkOut puts)
+    (ap (λ (p : List Put). events_of BulkOut p) put ∙ other_ended BulkOut BulkIn stalled s.bulk_in (sound.fits BulkIn) refl) a.whole a.came a.taken a.counted a.missed)
 halts_itself last message tag size written answered sofar read gone ups downs puts s t InterruptIn sound (DoesHalt other usable put is) a =
     alone last message tag size written answered sofar read gone ups downs puts s t
     (effect_is s _ t is (record { bulk_out = refl; bulk_in = refl; transfer = refl; control = refl; running = refl; out_halted = refl; in_halted = refl }))
@@ -280,10 +291,11 @@ came last message tag size written answered sofar read gone head transferred ups
   todo = a.todo;
   hit = a.hit;
   whole = a.whole;
+  missed = a.missed;
   flow = a.flow;
   short = a.short;
   jobs = a.jobs;
-  out = subst (λ (l : List Sent). OutLine s.halted.bulk_out a.todo l s.bulk_out s.transfer) (sent_other BulkOut head transferred ups 3 is refl) a.out;
+  out = subst (λ (l : List Sent). OutLine s.halted.bulk_out gone a.todo l s.bulk_out s.transfer) (sent_other BulkOut head transferred ups 3 is refl) a.out;
   stage = a.stage;
   ins = subst (λ (l : List Sent). InLine s.halted.bulk_in gone a.flow read (gives (events_of BulkIn downs)) l s.bulk_in) (sent_other BulkIn head transferred ups 3 is refl) a.ins;
   reads = subst (λ (l : List Sent). SentReads l) (sent_other BulkIn head transferred ups 3 is refl) a.reads;
@@ -311,20 +323,20 @@ arrives last message tag size written answered sofar read gone head transferred 
 arrives last message tag size written answered sofar read gone head transferred ups downs puts s t fits (Queued BulkOut taken put is) a =
     let w : State = record s { bulk_out = s.bulk_out ++ arrived head transferred ∷ [] } in
     rebuild last message tag size written answered sofar read gone ups downs puts w t (is_effect w t is) (calm_of gone ups s w refl refl (came_calm gone head transferred ups s 1 taken.number refl a.calm)) a.past a.todo a.hit a.flow a.short a.jobs
-    (job_comes s.halted.bulk_out a.todo (record { head = head; transferred = transferred }) (sent_to BulkOut ups) s.bulk_out s.transfer taken.usable
-    (subst (λ (l : List Sent). OutLine s.halted.bulk_out a.todo l s.bulk_out s.transfer) (sent_one BulkOut head transferred ups taken.number) a.out))
+    (job_comes s.halted.bulk_out gone a.todo (record { head = head; transferred = transferred }) (sent_to BulkOut ups) s.bulk_out s.transfer taken.usable
+    (subst (λ (l : List Sent). OutLine s.halted.bulk_out gone a.todo l s.bulk_out s.transfer) (sent_one BulkOut head transferred ups taken.number) a.out))
     (subst (λ (x : State). Stage last message tag size a.past a.todo sofar a.flow x) (sym is)
     (stage_same last message tag size a.past a.todo sofar a.flow s w (record { waiting = refl; part = refl; side = refl; log = refl; unread = refl; shut = refl; in_shut = refl }) a.stage))
     (subst (λ (l : List Event). InLine s.halted.bulk_in gone a.flow read l (sent_to BulkIn ups) s.bulk_in) (sym (no_ins downs puts (ap (λ (p : List Put). events_of BulkIn p) put)))
     (subst (λ (l : List Sent). InLine s.halted.bulk_in gone a.flow read (gives (events_of BulkIn downs)) l s.bulk_in) (sent_other BulkIn head transferred ups 1 taken.number refl) a.ins))
     (subst (λ (l : List Sent). SentReads l) (sent_other BulkIn head transferred ups 1 taken.number refl) a.reads)
-    (same_parts _ _ _ _ _ _ (events_of BulkOut downs) (events_of BulkOut puts) (ap (λ (p : List Put). events_of BulkOut p) put) a.whole a.came a.taken a.counted)
+    (same_parts _ _ _ _ _ _ _ (events_of BulkOut downs) (events_of BulkOut puts) (ap (λ (p : List Put). events_of BulkOut p) put) a.whole a.came a.taken a.counted a.missed)
 arrives last message tag size written answered sofar read gone head transferred ups downs puts s t fits (Queued BulkIn taken put is) a =
     let first : SentReads (record { head = head; transferred = transferred } ∷ sent_to BulkIn ups) =
     subst (λ (l : List Sent). SentReads l) (sent_one BulkIn head transferred ups taken.number) a.reads in
     let w : State = record s { bulk_in = s.bulk_in ++ arrived head transferred ∷ [] } in
     rebuild last message tag size written answered sofar read gone ups downs puts w t (is_effect w t is) (calm_of gone ups s w refl refl (came_calm gone head transferred ups s 2 taken.number refl a.calm)) a.past a.todo a.hit a.flow a.short a.jobs
-    (subst (λ (l : List Sent). OutLine s.halted.bulk_out a.todo l s.bulk_out s.transfer) (sent_other BulkOut head transferred ups 2 taken.number refl) a.out)
+    (subst (λ (l : List Sent). OutLine s.halted.bulk_out gone a.todo l s.bulk_out s.transfer) (sent_other BulkOut head transferred ups 2 taken.number refl) a.out)
     (subst (λ (x : State). Stage last message tag size a.past a.todo sofar a.flow x) (sym is)
     (stage_same last message tag size a.past a.todo sofar a.flow s w (record { waiting = refl; part = refl; side = refl; log = refl; unread = refl; shut = refl; in_shut = refl }) a.stage))
     (subst (λ (l : List Event). InLine s.halted.bulk_in gone a.flow read l (sent_to BulkIn ups) (s.bulk_in ++ arrived head transferred ∷ [])) (sym (no_ins downs puts (ap (λ (p : List Put). events_of BulkIn p) put)))
@@ -332,7 +344,7 @@ arrives last message tag size written answered sofar read gone head transferred 
     (read_comes s.halted.bulk_in gone a.flow read (gives (events_of BulkIn downs)) (record { head = head; transferred = transferred }) (sent_to BulkIn ups) s.bulk_in head taken.usable first.0
     (subst (λ (l : List Sent). InLine s.halted.bulk_in gone a.flow read (gives (events_of BulkIn downs)) l s.bulk_in) (sent_one BulkIn head transferred ups taken.number) a.ins))))
     first.2
-    (same_parts _ _ _ _ _ _ (events_of BulkOut downs) (events_of BulkOut puts) (ap (λ (p : List Put). events_of BulkOut p) put) a.whole a.came a.taken a.counted)
+    (same_parts _ _ _ _ _ _ _ (events_of BulkOut downs) (events_of BulkOut puts) (ap (λ (p : List Put). events_of BulkOut p) put) a.whole a.came a.taken a.counted a.missed)
 arrives last message tag size written answered sofar read gone head transferred ups downs puts s t fits (TurnedAway none put is) a = by fits.endpoint refl
   where
     by : (e : Endpoint) → fits.endpoint ≡ e → Asking (ask_of last message tag size written answered sofar read gone) ups (downs ++ puts) t
@@ -346,29 +358,29 @@ arrives last message tag size written answered sofar read gone head transferred 
         let own : head.ep ≡ 1 = fits.number ∙ ap number_of h in
         let halted : s.halted.bulk_out ≡ true = not_usable head s BulkOut fits h none in
         rebuild last message tag size written answered sofar read gone ups downs puts s t (is_effect s t is) (came_calm gone head transferred ups s 1 own refl a.calm) a.past a.todo a.hit a.flow a.short a.jobs
-        (job_turned s.halted.bulk_out a.todo (record { head = head; transferred = transferred }) (sent_to BulkOut ups) s.bulk_out s.transfer halted
-        (subst (λ (l : List Sent). OutLine s.halted.bulk_out a.todo l s.bulk_out s.transfer) (sent_one BulkOut head transferred ups own) a.out))
+        (job_turned s.halted.bulk_out gone a.todo (record { head = head; transferred = transferred }) (sent_to BulkOut ups) s.bulk_out s.transfer halted
+        (subst (λ (l : List Sent). OutLine s.halted.bulk_out gone a.todo l s.bulk_out s.transfer) (sent_one BulkOut head transferred ups own) a.out))
         (subst (λ (x : State). Stage last message tag size a.past a.todo sofar a.flow x) (sym is) a.stage)
         (subst (λ (l : List Event). InLine s.halted.bulk_in gone a.flow read l (sent_to BulkIn ups) s.bulk_in)
         (sym (no_ins downs puts (ap (λ (p : List Put). events_of BulkIn p) put ∙ other_event BulkIn head _ _ [] 1 own refl)))
         (subst (λ (l : List Sent). InLine s.halted.bulk_in gone a.flow read (gives (events_of BulkIn downs)) l s.bulk_in) (sent_other BulkIn head transferred ups 1 own refl) a.ins))
         (subst (λ (l : List Sent). SentReads l) (sent_other BulkIn head transferred ups 1 own refl) a.reads)
-        (more_parts written a.past a.todo a.hit answered s.halted.bulk_out (events_of BulkOut downs) (events_of BulkOut puts)
-        (subst (λ (l : List Event). AllTaken s.halted.bulk_out 0 l) (sym (ap (λ (p : List Put). events_of BulkOut p) put ∙ own_event BulkOut head _ _ [] own)) (inr (refl, halted, refl)))
-        a.whole a.came a.taken a.counted)
+        (more_parts written a.past a.todo a.hit answered s.halted.bulk_out gone (events_of BulkOut downs) (events_of BulkOut puts)
+        (subst (λ (l : List Event). AllTaken s.halted.bulk_out 0 l) (sym (ap (λ (p : List Put). events_of BulkOut p) put ∙ own_event BulkOut head _ _ [] own)) (inr (refl, halted, refl, refl)))
+        a.whole a.came a.taken a.counted a.missed)
     by BulkIn h =
         let own : head.ep ≡ 2 = fits.number ∙ ap number_of h in
         let halted : s.halted.bulk_in ≡ true = not_usable head s BulkIn fits h none in
         let first : SentReads (record { head = head; transferred = transferred } ∷ sent_to BulkIn ups) = subst (λ (l : List Sent). SentReads l) (sent_one BulkIn head transferred ups own) a.reads in
         rebuild last message tag size written answered sofar read gone ups downs puts s t (is_effect s t is) (came_calm gone head transferred ups s 2 own refl a.calm) a.past a.todo a.hit a.flow a.short a.jobs
-        (subst (λ (l : List Sent). OutLine s.halted.bulk_out a.todo l s.bulk_out s.transfer) (sent_other BulkOut head transferred ups 2 own refl) a.out)
+        (subst (λ (l : List Sent). OutLine s.halted.bulk_out gone a.todo l s.bulk_out s.transfer) (sent_other BulkOut head transferred ups 2 own refl) a.out)
         (subst (λ (x : State). Stage last message tag size a.past a.todo sofar a.flow x) (sym is) a.stage)
         (subst (λ (l : List Event). InLine s.halted.bulk_in gone a.flow read (gives (events_of BulkIn downs) ++ gives l) (sent_to BulkIn ups) s.bulk_in)
         (sym (ap (λ (p : List Put). events_of BulkIn p) put ∙ own_event BulkIn head _ _ [] own))
         (read_turned s.halted.bulk_in gone a.flow read (gives (events_of BulkIn downs)) (record { head = head; transferred = transferred }) (sent_to BulkIn ups) s.bulk_in head _ _ halted refl
         (subst (λ (l : List Sent). InLine s.halted.bulk_in gone a.flow read (gives (events_of BulkIn downs)) l s.bulk_in) (sent_one BulkIn head transferred ups own) a.ins)))
         first.2
-        (same_parts _ _ _ _ _ _ (events_of BulkOut downs) (events_of BulkOut puts) (ap (λ (p : List Put). events_of BulkOut p) put ∙ other_event BulkOut head _ _ [] 2 own refl) a.whole a.came a.taken a.counted)
+        (same_parts _ _ _ _ _ _ _ (events_of BulkOut downs) (events_of BulkOut puts) (ap (λ (p : List Put). events_of BulkOut p) put ∙ other_event BulkOut head _ _ [] 2 own refl) a.whole a.came a.taken a.counted a.missed)
 
 -- ---- unlinks
 
@@ -393,13 +405,18 @@ all_left todo left job ends jobs = front left (subst (λ (l : List Job). AllJobs
     front [] h = tt
     front (x ∷ l) h = (h.0, front l h.1)
 
+-- an unlink is on its way only where the host made one
+unlinked : (head : UnlinkHead) (ups : List up.Message) (b : Bool) → (b ≡ false → head ∷ unlinks_in ups ≡ []) → b ≡ true
+unlinked head ups true none = refl
+unlinked head ups false none = no_unlink head ups (none refl)
+
 unlinks : (last : ℕ) (message : List ℕ) (tag size : ℕ) (written : List Job) (answered : ℕ) (sofar read : List ℕ) (gone : Bool) (head : UnlinkHead) (ups : List up.Message) (downs puts : List Put) (s t : State) → IsSound s → HitsLast head ups s
     → Unlinks s head puts t → Asking (ask_of last message tag size written answered sofar read gone) (up.Unlink head ∷ ups) downs s → Asking (ask_of last message tag size written answered sofar read gone) ups (downs ++ puts) t
 unlinks last message tag size written answered sofar read gone head ups downs puts s t sound last_one (Misses avoids put is) a =
     rebuild last message tag size written answered sofar read gone ups downs puts s t (is_effect s t is) (record { control = a.calm.control; none_comes = a.calm.none_comes; running = a.calm.running; unlinks = λ e. no_unlink head ups (a.calm.unlinks e) }) a.past a.todo a.hit a.flow a.short a.jobs a.out
     (subst (λ (x : State). Stage last message tag size a.past a.todo sofar a.flow x) (sym is) a.stage)
     (subst (λ (l : List Event). InLine s.halted.bulk_in gone a.flow read l (sent_to BulkIn ups) s.bulk_in) (sym (drops_ins downs puts head _ put)) a.ins) a.reads
-    (more_parts written a.past a.todo a.hit answered s.halted.bulk_out (events_of BulkOut downs) (events_of BulkOut puts) (drops_taken s.halted.bulk_out head _ puts put) a.whole a.came a.taken a.counted)
+    (more_parts written a.past a.todo a.hit answered s.halted.bulk_out gone (events_of BulkOut downs) (events_of BulkOut puts) (drops_taken s.halted.bulk_out head _ puts put) a.whole a.came a.taken a.counted a.missed)
 unlinks last message tag size written answered sofar read gone head ups downs puts s t sound last_one (Polled e before submit behind setup g line target polled asks row put is) a =
     let place = sound.polled e before submit behind line polled in
     no_control submit behind s.control a.calm.control
@@ -411,34 +428,35 @@ unlinks last message tag size written answered sofar read gone head ups downs pu
     (subst (λ (x : State). Stage last message tag size a.past a.todo sofar a.flow x) (sym is)
     (stage_same last message tag size a.past a.todo sofar a.flow s w (record { waiting = refl; part = refl; side = refl; log = refl; unread = refl; shut = refl; in_shut = refl }) a.stage))
     (subst (λ (l : List Event). InLine s.halted.bulk_in gone a.flow read l (sent_to BulkIn ups) s.bulk_in) (sym (drops_ins downs puts head _ put)) a.ins) a.reads
-    (more_parts written a.past a.todo a.hit answered s.halted.bulk_out (events_of BulkOut downs) (events_of BulkOut puts) (drops_taken s.halted.bulk_out head _ puts put) a.whole a.came a.taken a.counted)
+    (more_parts written a.past a.todo a.hit answered s.halted.bulk_out gone (events_of BulkOut downs) (events_of BulkOut puts) (drops_taken s.halted.bulk_out head _ puts put) a.whole a.came a.taken a.counted a.missed)
 unlinks last message tag size written answered sofar read gone head ups downs puts s t sound last_one (Hits BulkOut before submit behind line target fresh put is) a =
     let only = last_one BulkOut before submit behind tt line target in
-    let hit = job_hit s.halted.bulk_out a.todo before submit s.bulk_out s.transfer (line ∙ ap (λ (b : List Pending). before ++ submit ∷ b) only.0)
-    (subst (λ (l : List Sent). OutLine s.halted.bulk_out a.todo l s.bulk_out s.transfer) only.1 a.out) in
+    let hit = job_hit s.halted.bulk_out gone a.todo before submit s.bulk_out s.transfer (unlinked head ups gone a.calm.unlinks) (line ∙ ap (λ (b : List Pending). before ++ submit ∷ b) only.0)
+    (subst (λ (l : List Sent). OutLine s.halted.bulk_out gone a.todo l s.bulk_out s.transfer) only.1 a.out) in
     by hit.left hit.shorter hit.line (is ∙ ap (λ (b : List Pending). record s { bulk_out = before ++ b }) only.0 ∙ ap (λ (q : List Pending). record s { bulk_out = q }) (append-nil before)) only.1
   where
-    by : (left : List Job) → LeftOf a.todo left → OutLine s.halted.bulk_out left [] before s.transfer → t ≡ record s { bulk_out = before } → sent_to BulkOut ups ≡ [] → Asking (ask_of last message tag size written answered sofar read gone) ups (downs ++ puts) t
+    by : (left : List Job) → LeftOf a.todo left → OutLine s.halted.bulk_out gone left [] before s.transfer → t ≡ record s { bulk_out = before } → sent_to BulkOut ups ≡ [] → Asking (ask_of last message tag size written answered sofar read gone) ups (downs ++ puts) t
     by left (Same is_same) rest to none =
         let w : State = record s { bulk_out = before } in
         rebuild last message tag size written answered sofar read gone ups downs puts w t (is_effect w t to) (record { control = a.calm.control; none_comes = a.calm.none_comes; running = a.calm.running; unlinks = λ e. no_unlink head ups (a.calm.unlinks e) }) a.past left a.hit a.flow a.short
-        (subst (λ (l : List Job). AllJobs l) (sym is_same) a.jobs) (subst (λ (l : List Sent). OutLine s.halted.bulk_out left l before s.transfer) (sym none) rest)
+        (subst (λ (l : List Job). AllJobs l) (sym is_same) a.jobs) (subst (λ (l : List Sent). OutLine s.halted.bulk_out gone left l before s.transfer) (sym none) rest)
         (subst (λ (x : State). Stage last message tag size a.past left sofar a.flow x) (sym to)
         (stage_same last message tag size a.past left sofar a.flow s w (record { waiting = refl; part = refl; side = refl; log = refl; unread = refl; shut = refl; in_shut = refl })
         (subst (λ (l : List Job). Stage last message tag size a.past l sofar a.flow s) (sym is_same) a.stage)))
         (subst (λ (l : List Event). InLine s.halted.bulk_in gone a.flow read l (sent_to BulkIn ups) s.bulk_in) (sym (drops_ins downs puts head _ put)) a.ins) a.reads
-        (more_parts written a.past left a.hit answered s.halted.bulk_out (events_of BulkOut downs) (events_of BulkOut puts) (drops_taken s.halted.bulk_out head _ puts put)
-        (a.whole ∙ ap (λ (l : List Job). a.past ++ (l ++ a.hit)) (sym is_same)) a.came a.taken a.counted)
+        (more_parts written a.past left a.hit answered s.halted.bulk_out gone (events_of BulkOut downs) (events_of BulkOut puts) (drops_taken s.halted.bulk_out head _ puts put)
+        (a.whole ∙ ap (λ (l : List Job). a.past ++ (l ++ a.hit)) (sym is_same)) a.came a.taken a.counted a.missed)
     by left (Shorter job ends) rest to none =
         let w : State = record s { bulk_out = before } in
         rebuild last message tag size written answered sofar read gone ups downs puts w t (is_effect w t to) (record { control = a.calm.control; none_comes = a.calm.none_comes; running = a.calm.running; unlinks = λ e. no_unlink head ups (a.calm.unlinks e) }) a.past left (job ∷ a.hit) a.flow a.short
-        (all_left a.todo left job ends a.jobs) (subst (λ (l : List Sent). OutLine s.halted.bulk_out left l before s.transfer) (sym none) rest)
+        (all_left a.todo left job ends a.jobs) (subst (λ (l : List Sent). OutLine s.halted.bulk_out gone left l before s.transfer) (sym none) rest)
         (subst (λ (x : State). Stage last message tag size a.past left sofar a.flow x) (sym to)
         (stage_same last message tag size a.past left sofar a.flow s w (record { waiting = refl; part = refl; side = refl; log = refl; unread = refl; shut = refl; in_shut = refl })
         (stage_shorter last message tag size a.past a.todo left job sofar a.flow s ends a.stage)))
         (subst (λ (l : List Event). InLine s.halted.bulk_in gone a.flow read l (sent_to BulkIn ups) s.bulk_in) (sym (drops_ins downs puts head _ put)) a.ins) a.reads
-        (more_parts written a.past left (job ∷ a.hit) answered s.halted.bulk_out (events_of BulkOut downs) (events_of BulkOut puts) (drops_taken s.halted.bulk_out head _ puts put)
-        (a.whole ∙ ap (λ (l : List Job). a.past ++ (l ++ a.hit)) ends ∙ ap (λ (l : List Job). a.past ++ l) (append_assoc left (job ∷ []) a.hit)) a.came a.taken a.counted)
+        (more_parts written a.past left (job ∷ a.hit) answered s.halted.bulk_out gone (events_of BulkOut downs) (events_of BulkOut puts) (drops_taken s.halted.bulk_out head _ puts put)
+        (a.whole ∙ ap (λ (l : List Job). a.past ++ (l ++ a.hit)) ends ∙ ap (λ (l : List Job). a.past ++ l) (append_assoc left (job ∷ []) a.hit)) a.came a.taken a.counted
+        (λ kept usable. let e : true ≡ false = sym (unlinked head ups gone a.calm.unlinks) ∙ kept in absurd (cc)))
 unlinks last message tag size written answered sofar read gone head ups downs puts s t sound last_one (Hits BulkIn before submit behind line target fresh put is) a =
     let only = last_one BulkIn before submit behind tt line target in
     let to : t ≡ record s { bulk_in = before } =
@@ -448,13 +466,9 @@ unlinks last message tag size written answered sofar read gone head ups downs pu
     (subst (λ (x : State). Stage last message tag size a.past a.todo sofar a.flow x) (sym to)
     (stage_same last message tag size a.past a.todo sofar a.flow s w (record { waiting = refl; part = refl; side = refl; log = refl; unread = refl; shut = refl; in_shut = refl }) a.stage))
     (subst (λ (l : List Event). InLine s.halted.bulk_in gone a.flow read l (sent_to BulkIn ups) before) (sym (drops_ins downs puts head _ put))
-    (read_hit s.halted.bulk_in gone a.flow read (gives (events_of BulkIn downs)) (sent_to BulkIn ups) before s.bulk_in submit (unlinked gone a.calm.unlinks) only.1
+    (read_hit s.halted.bulk_in gone a.flow read (gives (events_of BulkIn downs)) (sent_to BulkIn ups) before s.bulk_in submit (unlinked head ups gone a.calm.unlinks) only.1
     (line ∙ ap (λ (b : List Pending). before ++ submit ∷ b) only.0) a.ins)) a.reads
-    (more_parts written a.past a.todo a.hit answered s.halted.bulk_out (events_of BulkOut downs) (events_of BulkOut puts) (drops_taken s.halted.bulk_out head _ puts put) a.whole a.came a.taken a.counted)
-  where
-    unlinked : (b : Bool) → (b ≡ false → head ∷ unlinks_in ups ≡ []) → b ≡ true
-    unlinked true none = refl
-    unlinked false none = no_unlink head ups (none refl)
+    (more_parts written a.past a.todo a.hit answered s.halted.bulk_out gone (events_of BulkOut downs) (events_of BulkOut puts) (drops_taken s.halted.bulk_out head _ puts put) a.whole a.came a.taken a.counted a.missed)
 
 -- ---- all moves
 
@@ -469,7 +483,7 @@ asking_goes one_header last message tag size written answered sofar read gone up
     (stage_is s _ t h.2 (record { waiting = refl; part = refl; side = refl; log = refl; unread = refl; shut = refl; in_shut = refl }))
     (ap (λ (p : List Put). events_of BulkOut p) h.1) (ap (λ (p : List Put). events_of BulkIn p) h.1) a
 asking_goes one_header last message tag size written answered sofar read gone ups downs puts s t (Take count) sound stands fit safe h a =
-    let took = take_goes one_header s.halted.bulk_out s t count puts a.todo (sent_to BulkOut ups) a.jobs (may_begin last message tag size a.past a.todo sofar a.flow s a.jobs a.short h.0 a.stage) a.out h.1 in
+    let took = take_goes one_header s.halted.bulk_out gone s t count puts a.todo (sent_to BulkOut ups) a.jobs (may_begin last message tag size a.past a.todo sofar a.flow s a.jobs a.short h.0 a.stage) a.out h.1 in
     takes last message tag size written answered sofar read gone ups downs puts s t h.0 took.0 a took.1
 asking_goes one_header last message tag size written answered sofar read gone ups downs puts s t Exec sound stands fit safe h a = executes last message tag size written answered sofar read gone ups downs puts s t stands h.1 h.0 a
 asking_goes one_header last message tag size written answered sofar read gone ups downs puts s t (Begin count) sound stands fit safe h a = begins last message tag size written answered sofar read gone ups downs puts s t count h.1 h.0 a

@@ -110,6 +110,7 @@ query_begins = record {
   todo = query_job ∷ request_job ∷ [];
   hit = [];
   whole = refl;
+  missed = λ kept usable. refl;
   jobs = (query_is, (request_is, tt));
   short = lit≤ tt;
   out = Unbegun [] (query_job ∷ request_job ∷ []) refl refl refl refl refl;
@@ -129,6 +130,7 @@ read_begins = record {
   todo = read_job ∷ request_job ∷ [];
   hit = [];
   whole = refl;
+  missed = λ kept usable. refl;
   jobs = (read_is, (request_is, tt));
   short = lit≤ tt;
   out = Unbegun [] (read_job ∷ request_job ∷ []) refl refl refl refl refl;
@@ -160,7 +162,7 @@ not_executed n (x ∷ []) behind message e = absurd (cc)
 not_executed n (x ∷ y ∷ []) behind message e = absurd (cc)
 not_executed n (x ∷ y ∷ z ∷ before) behind message e = absurd (cc)
 
-none_ran : (response : List ℕ) → Ran 4 (codes "*IDN?") response query_log → ⊥
+pub none_ran : (response : List ℕ) → Ran 4 (codes "*IDN?") response query_log → ⊥
 none_ran response ran = let e : 4 ≡ 1 = not_executed 4 ran.before ran.behind (codes "*IDN?") ran.whole in omega (arith, e)
 
 pub foreign_is_not : Owned foreign_ask (record start { log = query_log }) → ⊥
@@ -180,24 +182,30 @@ query_lines InterruptIn = refl
 good : (ask : Ask) (ups : List up.Message) (head : SubmitHead) (a : RetSubmitHead) (downs : List Put) (s : State) → a.status ≡ success → OutAnswered ask ups head a downs s
     → Asking (record ask { answered = ask.answered + 1 }) ups downs s
 good ask ups head a downs s ok (inl h) = h.2
-good ask ups head a downs s ok (inr e) = let f : success ≡ stalled = sym ok ∙ e in absurd (cc)
+good ask ups head a downs s ok (inr e) = let f : success ≡ stalled = sym ok ∙ e.0 in absurd (cc)
 
 piece_ends : (ask : Ask) (ups : List up.Message) (head : SubmitHead) (a : RetSubmitHead) (transferred : List ℕ) (downs : List Put) (s : State) → length transferred < read_size
     → s.halted.bulk_in ≡ false → InAnswered ask ups (Gives head a transferred) downs s → PieceEnd ask transferred ups downs s
 piece_ends ask ups head a transferred downs s short usable (TookFull x is full next) = let e : transferred ≡ x.bytes = cc in absurd (omega (arith, short, full, ap (λ (l : List ℕ). length l) e))
 piece_ends ask ups head a transferred downs s short usable (TookEnd x is small end) = let e : x.bytes ≡ transferred = cc in subst (λ (l : List ℕ). PieceEnd ask l ups downs s) e end
-piece_ends ask ups head a transferred downs s short usable (TookHalt shuts halted) = let e : false ≡ true = sym usable ∙ shuts in absurd (cc)
+piece_ends ask ups head a transferred downs s short usable (TookHalt shuts halted later) = let e : false ≡ true = sym usable ∙ shuts in absurd (cc)
 
-pub query_read : Asking query_ask [] (outputs (asking ++ answering)) (record start { log = query_log })
-    → PieceEnd (record query_ask { answered = 2 }) response_text [] [] (record start { log = query_log })
-query_read a =
+-- the first two answers of the query are taken
+pub query_taken : Asking query_ask [] (outputs (asking ++ answering)) (record start { log = query_log })
+    → Asking (record query_ask { answered = 2 }) [] (answered response_submit success 32 response_text ∷ []) (record start { log = query_log })
+query_taken a =
     let t : State = record start { log = query_log } in
     let message : Put = answered query_submit success 20 [] in
     let request : Put = answered request_submit success 12 [] in
     let response : Put = answered response_submit success 32 response_text in
     let first = good query_ask [] query_submit (record { seqnum = 1; status = success; actual = 20 }) (request ∷ response ∷ []) t refl
     (out_answered 1 (codes "*IDN?") 2 4000 (query_job ∷ request_job ∷ []) 0 [] [] false [] query_submit (record { seqnum = 1; status = success; actual = 20 }) [] (request ∷ response ∷ []) t refl a) in
-    let second = good (record query_ask { answered = 1 }) [] request_submit (record { seqnum = 2; status = success; actual = 12 }) (response ∷ []) t refl
-    (out_answered 1 (codes "*IDN?") 2 4000 (query_job ∷ request_job ∷ []) 1 [] [] false [] request_submit (record { seqnum = 2; status = success; actual = 12 }) [] (response ∷ []) t refl first) in
+    good (record query_ask { answered = 1 }) [] request_submit (record { seqnum = 2; status = success; actual = 12 }) (response ∷ []) t refl
+    (out_answered 1 (codes "*IDN?") 2 4000 (query_job ∷ request_job ∷ []) 1 [] [] false [] request_submit (record { seqnum = 2; status = success; actual = 12 }) [] (response ∷ []) t refl first)
+
+pub query_read : Asking query_ask [] (outputs (asking ++ answering)) (record start { log = query_log })
+    → PieceEnd (record query_ask { answered = 2 }) response_text [] [] (record start { log = query_log })
+query_read a =
+    let t : State = record start { log = query_log } in
     piece_ends (record query_ask { answered = 2 }) [] response_submit (record { seqnum = 3; status = success; actual = 32 }) response_text [] t (lit< tt) refl
-    (in_answered 1 (codes "*IDN?") 2 4000 (query_job ∷ request_job ∷ []) 2 [] [] false [] response_submit (record { seqnum = 3; status = success; actual = 32 }) response_text [] t refl second)
+    (in_answered 1 (codes "*IDN?") 2 4000 (query_job ∷ request_job ∷ []) 2 [] [] false [] response_submit (record { seqnum = 3; status = success; actual = 32 }) response_text [] t refl (query_taken a))

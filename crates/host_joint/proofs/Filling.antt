@@ -190,8 +190,8 @@ read_comes shut gone flow read events x coming queue head usable is (Closed fron
 
 -- one arrives where Bulk-IN is halted, and is answered at once
 halted-more : (rest : List Event) (head : SubmitHead) (answer : RetSubmitHead) (transferred : List ℕ) → answer.status ≡ stalled → IsHalted rest → IsHalted (rest ++ Gives head answer transferred ∷ [])
-halted-more [] head answer transferred is h = is
-halted-more (Gives h a t ∷ rest) head answer transferred is halted = halted
+halted-more [] head answer transferred is h = (is, tt)
+halted-more (Gives h a t ∷ rest) head answer transferred is halted = (halted.0, halted-more rest head answer transferred is halted.1)
 halted-more (Drops n ∷ rest) head answer transferred is halted = halted
 
 pub read_turned : (shut gone : Bool) (flow : Flow) (read : List ℕ) (events : List Event) (x : Sent) (coming : List Sent) (queue : List Pending) (head : SubmitHead) (answer : RetSubmitHead) (transferred : List ℕ)

@@ -21,11 +21,11 @@ use Rattle.host_joint.proofs.Parts.{ask_of}
 use Rattle.host_joint.proofs.Hosting.{inner_final, final_request, no_mix}
 
 -- no transfer is in progress where none is to be taken
-pub no_transfer : (shut : Bool) (todo : List Job) (coming : List OnWay) (queue : List Pending) (transfer : Option Transfer) → todo ≡ [] → OutLine shut todo coming queue transfer → transfer ≡ None
-no_transfer shut todo coming queue transfer none (Unbegun here later unshut whole come line free) = free
-no_transfer shut todo coming queue transfer none (Partly job here later moved left unshut whole come bytes begun more line runs) = let e : [] ≡ job ∷ (here ++ later) = sym none ∙ whole in absurd (cc)
-no_transfer shut todo coming queue transfer none (Cut job moved left unshut whole come bytes begun more line runs) = let e : [] ≡ job ∷ [] = sym none ∙ whole in absurd (cc)
-no_transfer shut todo coming queue transfer none (Shut shuts whole line free) = free
+pub no_transfer : (shut gone : Bool) (todo : List Job) (coming : List OnWay) (queue : List Pending) (transfer : Option Transfer) → todo ≡ [] → OutLine shut gone todo coming queue transfer → transfer ≡ None
+no_transfer shut gone todo coming queue transfer none (Unbegun here later unshut whole come line free) = free
+no_transfer shut gone todo coming queue transfer none (Partly job here later moved left unshut whole come bytes begun more line runs) = let e : [] ≡ job ∷ (here ++ later) = sym none ∙ whole in absurd (cc)
+no_transfer shut gone todo coming queue transfer none (Cut job moved left was unshut whole come bytes begun more line runs) = let e : [] ≡ job ∷ [] = sym none ∙ whole in absurd (cc)
+no_transfer shut gone todo coming queue transfer none (Shut shuts whole line free) = free
 
 -- a transfer that is over has an answer on its way
 no_end : {B : Type 0} (front : List Event) (last : Event) (rest events : List Event) → events ≡ (front ++ last ∷ []) ++ rest → events ≡ [] → B
@@ -86,7 +86,7 @@ hands_in last message tag size front request sofar read gone ups downs s header 
       bulk_in = ins;
       running = a.calm.running;
       side = at.side;
-      out = (no_transfer s.halted.bulk_out a.todo (sent_to BulkOut ups) s.bulk_out s.transfer past.todo_none a.out, at.part);
+      out = (no_transfer s.halted.bulk_out gone a.todo (sent_to BulkOut ups) s.bulk_out s.transfer past.todo_none a.out, at.part);
       waits = tt;
       shut = tt;
     }
@@ -120,17 +120,17 @@ no_later (x ∷ later) e = absurd (cc)
 one_todo : (x job : Job) (todo hit : List Job) → todo ≡ x ∷ [] → todo ++ hit ≡ job ∷ [] → x ≡ job
 one_todo x job todo hit is all = let e : x ∷ hit ≡ job ∷ [] = ap (λ (l : List Job). l ++ hit) (sym is) ∙ all in cc
 
-out_tag : (shut : Bool) (job : Job) (todo hit : List Job) (coming : List OnWay) (queue : List Pending) (transfer : Option Transfer) → todo ++ hit ≡ job ∷ [] → coming ≡ [] → queue ≡ []
-    → OutLine shut todo coming queue transfer → OutTag (tag_of job.header) transfer
-out_tag shut job todo hit coming queue transfer all nothing empty (Unbegun here later unshut whole come line free) = position_of.NoTransfer free
-out_tag shut job todo hit coming queue transfer all nothing empty (Partly x here later moved left unshut whole come bytes begun more line runs) =
+out_tag : (shut gone : Bool) (job : Job) (todo hit : List Job) (coming : List OnWay) (queue : List Pending) (transfer : Option Transfer) → todo ++ hit ≡ job ∷ [] → coming ≡ [] → queue ≡ []
+    → OutLine shut gone todo coming queue transfer → OutTag (tag_of job.header) transfer
+out_tag shut gone job todo hit coming queue transfer all nothing empty (Unbegun here later unshut whole come line free) = position_of.NoTransfer free
+out_tag shut gone job todo hit coming queue transfer all nothing empty (Partly x here later moved left unshut whole come bytes begun more line runs) =
     absurd (none (sym empty ∙ line))
   where
     none : {p : Pending} {l : List Pending} → [] ≡ p ∷ l → ⊥
     none e = cc
-out_tag shut job todo hit coming queue transfer all nothing empty (Cut x moved left unshut whole come bytes begun more line runs) =
+out_tag shut gone job todo hit coming queue transfer all nothing empty (Cut x moved left was unshut whole come bytes begun more line runs) =
     position_of.ThisTransfer (record { header = x.header; taken = moved }) runs (ap (λ (j : Job). tag_of j.header) (one_todo x job todo hit whole all))
-out_tag shut job todo hit coming queue transfer all nothing empty (Shut shuts whole line free) = position_of.NoTransfer free
+out_tag shut gone job todo hit coming queue transfer all nothing empty (Shut shuts whole line free) = position_of.NoTransfer free
 
 -- no request was taken
 not_asked : {B : Type 0} (tag size : ℕ) (o : Option OutHeader) → ((t n : ℕ) → o ≡ Some (Request t n) → ⊥) → o ≡ Some (Request tag size) → B
@@ -161,7 +161,7 @@ hands_out last message tag size front job sofar read gone ups downs s unasked a 
       bulk_in = ins;
       running = a.calm.running;
       side = idle last message tag size a.past a.todo sofar a.flow s (λ t n is. unasked t n (ap last_header (sym left.past_is) ∙ is)) a.stage;
-      out = out_tag s.halted.bulk_out job a.todo a.hit (sent_to BulkOut ups) s.bulk_out s.transfer left.rest_is nothing outs a.out;
+      out = out_tag s.halted.bulk_out gone job a.todo a.hit (sent_to BulkOut ups) s.bulk_out s.transfer left.rest_is nothing outs a.out;
       waits = tt;
       shut = tt;
     }
@@ -203,7 +203,7 @@ hands_none last message tag size sofar read gone ups downs s a some outs ins =
       bulk_in = ins;
       running = a.calm.running;
       side = f.side;
-      out = (no_transfer s.halted.bulk_out a.todo (sent_to BulkOut ups) s.bulk_out s.transfer none.1 a.out, f.part);
+      out = (no_transfer s.halted.bulk_out gone a.todo (sent_to BulkOut ups) s.bulk_out s.transfer none.1 a.out, f.part);
       waits = tt;
       shut = tt;
     }
@@ -271,7 +271,7 @@ hands_message last message tag size written sofar read gone ups downs s a final 
       bulk_in = ins;
       running = a.calm.running;
       side = e.side;
-      out = (no_transfer s.halted.bulk_out a.todo (sent_to BulkOut ups) s.bulk_out s.transfer past.todo_none a.out, e.part);
+      out = (no_transfer s.halted.bulk_out gone a.todo (sent_to BulkOut ups) s.bulk_out s.transfer past.todo_none a.out, e.part);
       waits = tt;
       shut = tt;
     }

@@ -42,13 +42,34 @@ other_event e head a transferred downs n is other = rw (ap (λ (k : ℕ). eqb k 
 -- it says that the transfer was taken whole, or that Bulk-OUT halted
 pub out_answered : (last : ℕ) (message : List ℕ) (tag size : ℕ) (written : List Job) (answered : ℕ) (sofar read : List ℕ) (gone : Bool) (ups : List up.Message) (head : SubmitHead) (a : RetSubmitHead) (transferred : List ℕ) (downs : List Put) (s : State)
     → head.ep ≡ 1 → Asking (ask_of last message tag size written answered sofar read gone) ups (Submitted head a transferred ∷ downs) s
-    → ((a.status ≡ success) × (a.actual ≡ head.length) × Asking (ask_of last message tag size written (answered + 1) sofar read gone) ups downs s) ⊎ (a.status ≡ stalled)
+    → ((a.status ≡ success) × (a.actual ≡ head.length) × Asking (ask_of last message tag size written (answered + 1) sofar read gone) ups downs s) ⊎ ((a.status ≡ stalled) × (s.halted.bulk_out ≡ true) × Asking (ask_of last message tag size written answered sofar read gone) ups downs s)
 out_answered last message tag size written answered sofar read gone ups head a transferred downs s own h =
     by (subst (λ (l : List Event). AllTaken s.halted.bulk_out h.came l) (own_event BulkOut head a transferred downs own) h.taken)
   where
     by : AllTaken s.halted.bulk_out h.came (Gives head a transferred ∷ events_of BulkOut downs)
-        → ((a.status ≡ success) × (a.actual ≡ head.length) × Asking (ask_of last message tag size written (answered + 1) sofar read gone) ups downs s) ⊎ (a.status ≡ stalled)
-    by (inr k) = inr k.0
+        → ((a.status ≡ success) × (a.actual ≡ head.length) × Asking (ask_of last message tag size written (answered + 1) sofar read gone) ups downs s) ⊎ ((a.status ≡ stalled) × (s.halted.bulk_out ≡ true) × Asking (ask_of last message tag size written answered sofar read gone) ups downs s)
+    by (inr k) = inr (
+      k.0,
+      k.1,
+      record {
+        past = h.past;
+        todo = h.todo;
+        hit = h.hit;
+        whole = h.whole;
+        missed = h.missed;
+        flow = h.flow;
+        short = h.short;
+        jobs = h.jobs;
+        out = h.out;
+        stage = h.stage;
+        ins = subst (λ (l : List Event). InLine s.halted.bulk_in gone h.flow read (gives l) (sent_to BulkIn ups) s.bulk_in) (other_event BulkIn head a transferred downs 1 own refl) h.ins;
+        reads = h.reads;
+        came = 0;
+        taken = k.3;
+        counted = h.counted ∙ omega (arith, k.2);
+        calm = h.calm;
+      },
+    )
     by (inl k) = inl (
       k.0,
       k.1,
@@ -57,6 +78,7 @@ out_answered last message tag size written answered sofar read gone ups head a t
         todo = h.todo;
         hit = h.hit;
         whole = h.whole;
+        missed = h.missed;
         flow = h.flow;
         short = h.short;
         jobs = h.jobs;
@@ -129,7 +151,7 @@ same_length a b none differ =
     let same : length a ≡ length (a ++ b) = sym (ap (λ (l : List ℕ). length l) (ap (λ (l : List ℕ). a ++ l) none ∙ append-nil a)) in
     let e : true ≡ false = sym (eq-eqb (length a) (length (a ++ b)) same) ∙ differ in cc
 
-not_nothing : (sofar carried : List ℕ) → 1 ≤ length carried → sofar ++ carried ≢ []
+pub not_nothing : (sofar carried : List ℕ) → 1 ≤ length carried → sofar ++ carried ≢ []
 not_nothing [] [] some e = omega (arith, some)
 not_nothing [] (x ∷ carried) some e = cc
 not_nothing (x ∷ sofar) carried some e = cc
@@ -168,10 +190,11 @@ in_answered last message tag size written answered sofar read gone ups head a tr
             todo = [];
             hit = [];
             whole = refl;
+            missed = λ kept usable. refl;
             flow = Still;
             short = h.short;
             jobs = tt;
-            out = subst (λ (l : List Job). OutLine s.halted.bulk_out l (sent_to BulkOut ups) s.bulk_out s.transfer) w.todo_none h.out;
+            out = subst (λ (l : List Job). OutLine s.halted.bulk_out gone l (sent_to BulkOut ups) s.bulk_out s.transfer) w.todo_none h.out;
             stage = Rests w.response w.waits w.part w.idle w.ran all refl (NoneComes refl) (inr (refl, not_nothing sofar w.carried w.fits.0)) (λ some. absurd (some refl));
             ins = line;
             reads = h.reads;
@@ -184,13 +207,31 @@ in_answered last message tag size written answered sofar read gone ups head a tr
 
     by : NextRead s.halted.bulk_in gone h.flow read (Gives head a transferred) (gives (events_of BulkIn downs)) (sent_to BulkIn ups) s.bulk_in
         → InAnswered (ask_of last message tag size written answered sofar read gone) ups (Gives head a transferred) downs s
-    by (HaltCame shuts halted) = TookHalt shuts halted
+    by (HaltCame shuts halted line) = TookHalt shuts halted (record {
+      past = h.past;
+      todo = h.todo;
+      hit = h.hit;
+      whole = h.whole;
+      missed = h.missed;
+      flow = h.flow;
+      short = h.short;
+      jobs = h.jobs;
+      out = h.out;
+      stage = h.stage;
+      ins = line;
+      reads = h.reads;
+      came = h.came;
+      taken = taken;
+      counted = h.counted;
+      calm = h.calm;
+    })
     by (ShortCame x bytes is small over whole line) = TookEnd x is small (ended x.bytes bytes whole over line)
     by (FullCame x is full line) = TookFull x is full (record {
       past = h.past;
       todo = h.todo;
       hit = h.hit;
       whole = h.whole;
+      missed = h.missed;
       flow = h.flow;
       short = h.short;
       jobs = h.jobs;
@@ -216,10 +257,10 @@ sent-append e (up.Submit head transferred ∷ a) b = by (eqb head.ep (number_of 
     by false h = h
 sent-append e (up.Unlink head ∷ a) b = sent-append e a b
 
-sent_one : (job : Job) → IsJob job → sent_to BulkOut (up.Submit job.head job.bytes ∷ []) ≡ record { head = job.head; transferred = job.bytes } ∷ []
+pub sent_one : (job : Job) → IsJob job → sent_to BulkOut (up.Submit job.head job.bytes ∷ []) ≡ record { head = job.head; transferred = job.bytes } ∷ []
 sent_one job is = rw (eq-eqb job.head.ep 1 is.number) refl
 
-sent_same : (e : Endpoint) (job : Job) (ups : List up.Message) → IsJob job → eqb 1 (number_of e) ≡ false → sent_to e (ups ++ up.Submit job.head job.bytes ∷ []) ≡ sent_to e ups
+pub sent_same : (e : Endpoint) (job : Job) (ups : List up.Message) → IsJob job → eqb 1 (number_of e) ≡ false → sent_to e (ups ++ up.Submit job.head job.bytes ∷ []) ≡ sent_to e ups
 sent_same e job ups is other =
     sent-append e ups (up.Submit job.head job.bytes ∷ []) ∙ ap (λ (l : List OnWay). sent_to e ups ++ l) (rw (ap (λ (n : ℕ). eqb n (number_of e)) is.number ∙ other) refl) ∙ append-nil (sent_to e ups)
 
@@ -229,22 +270,22 @@ unlinks_same job (up.Submit head transferred ∷ ups) = unlinks_same job ups
 unlinks_same job (up.Unlink head ∷ ups) = ap (λ (l : List UnlinkHead). head ∷ l) (unlinks_same job ups)
 
 -- where the transfer stands: it is on its way, or it will never be taken
-pub data Wrote (shut : Bool) (job : Job) (todo hit : List Job) (coming : List OnWay) (queue : List Pending) (transfer : Option Transfer) : Type 0 where
-  OnItsWay : todo ≡ job ∷ [] → hit ≡ [] → OutLine shut todo coming queue transfer → Wrote shut job todo hit coming queue transfer
-  Never : shut ≡ true → todo ≡ [] → hit ≡ job ∷ [] → OutLine shut todo coming queue transfer → Wrote shut job todo hit coming queue transfer
+pub data Wrote (shut gone : Bool) (job : Job) (todo hit : List Job) (coming : List OnWay) (queue : List Pending) (transfer : Option Transfer) : Type 0 where
+  OnItsWay : todo ≡ job ∷ [] → hit ≡ [] → OutLine shut gone todo coming queue transfer → Wrote shut gone job todo hit coming queue transfer
+  Never : shut ≡ true → todo ≡ [] → hit ≡ job ∷ [] → OutLine shut gone todo coming queue transfer → Wrote shut gone job todo hit coming queue transfer
 
-record Writing (shut : Bool) (job : Job) (coming : List OnWay) (queue : List Pending) (transfer : Option Transfer) : Type 0 where
+record Writing (shut gone : Bool) (job : Job) (coming : List OnWay) (queue : List Pending) (transfer : Option Transfer) : Type 0 where
   pub todo : List Job
   pub hit : List Job
-  pub wrote : Wrote shut job todo hit coming queue transfer
+  pub wrote : Wrote shut gone job todo hit coming queue transfer
 
 no_fresh_later : (here later : List Job) → here ++ later ≡ [] → (here ≡ []) × (later ≡ [])
 no_fresh_later [] later e = (refl, e)
 no_fresh_later (x ∷ here) later e = absurd (cc)
 
-writes_line : (shut : Bool) (job : Job) (coming : List OnWay) (queue : List Pending) (transfer : Option Transfer) → OutLine shut [] coming queue transfer
-    → Writing shut job (coming ++ record { head = job.head; transferred = job.bytes } ∷ []) queue transfer
-writes_line shut job coming queue transfer (Unbegun here later unshut whole come line free) =
+writes_line : (shut gone : Bool) (job : Job) (coming : List OnWay) (queue : List Pending) (transfer : Option Transfer) → OutLine shut gone [] coming queue transfer
+    → Writing shut gone job (coming ++ record { head = job.head; transferred = job.bytes } ∷ []) queue transfer
+writes_line shut gone job coming queue transfer (Unbegun here later unshut whole come line free) =
     let none = no_fresh_later here later (sym whole) in
     record {
       todo = job ∷ [];
@@ -252,9 +293,9 @@ writes_line shut job coming queue transfer (Unbegun here later unshut whole come
       wrote = OnItsWay refl refl (Unbegun [] (job ∷ []) unshut refl
           (ap (λ (l : List OnWay). l ++ record { head = job.head; transferred = job.bytes } ∷ []) (come ∙ ap sent none.1)) (line ∙ ap fresh none.0) free);
     }
-writes_line shut job coming queue transfer (Partly first here later moved left unshut whole come bytes begun more line runs) = let e : [] ≡ first ∷ (here ++ later) = whole in absurd (cc)
-writes_line shut job coming queue transfer (Cut first moved left unshut whole come bytes begun more line runs) = let e : [] ≡ first ∷ [] = whole in absurd (cc)
-writes_line shut job coming queue transfer (Shut shuts whole line free) = record { todo = []; hit = job ∷ []; wrote = Never shuts refl refl (Shut shuts refl line free) }
+writes_line shut gone job coming queue transfer (Partly first here later moved left unshut whole come bytes begun more line runs) = let e : [] ≡ first ∷ (here ++ later) = whole in absurd (cc)
+writes_line shut gone job coming queue transfer (Cut first moved left was unshut whole come bytes begun more line runs) = let e : [] ≡ first ∷ [] = whole in absurd (cc)
+writes_line shut gone job coming queue transfer (Shut shuts whole line free) = record { todo = []; hit = job ∷ []; wrote = Never shuts refl refl (Shut shuts refl line free) }
 
 pub inner_final : {B : Type 0} (o : Option OutHeader) → IsInner o → IsFinal o → B
 inner_final None a b = absurd b
@@ -294,10 +335,10 @@ next_part last message tag size past job sofar flow s next usable (Dropped respo
 next_part last message tag size past job sofar flow s next usable (Barred shuts another part idle none empty still over at) = let e : false ≡ true = sym usable ∙ shuts in absurd (cc)
 
 -- the stage with the request on its way
-abbrev IsStarted : List ℕ → Type 0
+abbrev pub IsStarted : List ℕ → Type 0
 IsStarted sofar = sofar ≢ []
 
-asks_next : (last : ℕ) (message : List ℕ) (tag size : ℕ) (past : List Job) (job : Job) (sofar : List ℕ) (flow : Flow) (s : State) → job.header ≡ Request tag size → IsUnasked past sofar → s.halted.bulk_out ≡ false
+pub asks_next : (last : ℕ) (message : List ℕ) (tag size : ℕ) (past : List Job) (job : Job) (sofar : List ℕ) (flow : Flow) (s : State) → job.header ≡ Request tag size → IsUnasked past sofar → s.halted.bulk_out ≡ false
     → ((past ≡ []) → IsStarted sofar) → (sofar ≢ [] → unread s ≢ []) → Stage last message tag size past [] sofar flow s → Stage last message tag size past (job ∷ []) sofar flow s
 asks_next last message tag size past job sofar flow s header done usable started more (Waits waits part idle none empty still asks at) = Waits waits part idle none empty still (OneComes job refl header) at
 asks_next last message tag size past job sofar flow s header done usable started more (Rests response waits part idle ran all still asks at further) = Rests response waits part idle ran all still (OneComes job refl header) at
@@ -323,9 +364,9 @@ written_asking : (last : ℕ) (message : List ℕ) (tag size : ℕ) (written : L
     → Asking (ask_of last message tag size (written ++ job ∷ []) (length written) sofar read gone) (ups ++ up.Submit job.head job.bytes ∷ []) downs s
 written_asking last message tag size written sofar read gone ups downs s job is goes h =
     let past = all_past written h.past h.todo h.hit h.came h.whole h.counted in
-    let w = writes_line s.halted.bulk_out job (sent_to BulkOut ups) s.bulk_out s.transfer
-    (subst (λ (l : List Job). OutLine s.halted.bulk_out l (sent_to BulkOut ups) s.bulk_out s.transfer) past.todo_none h.out) in
-    by past w.todo w.hit (subst (λ (l : List OnWay). Wrote s.halted.bulk_out job w.todo w.hit l s.bulk_out s.transfer)
+    let w = writes_line s.halted.bulk_out gone job (sent_to BulkOut ups) s.bulk_out s.transfer
+    (subst (λ (l : List Job). OutLine s.halted.bulk_out gone l (sent_to BulkOut ups) s.bulk_out s.transfer) past.todo_none h.out) in
+    by past w.todo w.hit (subst (λ (l : List OnWay). Wrote s.halted.bulk_out gone job w.todo w.hit l s.bulk_out s.transfer)
     (ap (λ (l : List OnWay). sent_to BulkOut ups ++ l) (sym (sent_one job is)) ∙ sym (sent-append BulkOut ups (up.Submit job.head job.bytes ∷ []))) w.wrote)
   where
     later : List up.Message
@@ -337,7 +378,7 @@ written_asking last message tag size written sofar read gone ups downs s job is 
     calm : Calm gone later s
     calm = record { control = h.calm.control; none_comes = sent_same Control job ups is refl ∙ h.calm.none_comes; running = h.calm.running; unlinks = λ e. unlinks_same job ups ∙ h.calm.unlinks e }
 
-    by : AllPast written h.past h.todo h.hit → (todo hit : List Job) → Wrote s.halted.bulk_out job todo hit (sent_to BulkOut later) s.bulk_out s.transfer
+    by : AllPast written h.past h.todo h.hit → (todo hit : List Job) → Wrote s.halted.bulk_out gone job todo hit (sent_to BulkOut later) s.bulk_out s.transfer
         → Asking (ask_of last message tag size (written ++ job ∷ []) (length written) sofar read gone) later downs s
     by past todo hit (OnItsWay comes none line) = record {
       past = h.past;
@@ -345,6 +386,7 @@ written_asking last message tag size written sofar read gone ups downs s job is 
       hit = hit;
       whole = ap (λ (l : List Job). l ++ job ∷ []) (sym past.past_all) ∙ ap (λ (l : List Job). h.past ++ l) (sym (append-nil (job ∷ []))) ∙ ap (λ (l : List Job). h.past ++ (job ∷ [] ++ l)) (sym none)
           ∙ ap (λ (l : List Job). h.past ++ (l ++ hit)) (sym comes);
+      missed = λ kept usable_out. none;
       flow = h.flow;
       short = h.short;
       jobs = subst (λ (l : List Job). AllJobs l) (sym comes) (is, tt);
@@ -359,16 +401,17 @@ written_asking last message tag size written sofar read gone ups downs s job is 
       calm = calm;
     }
       where
-        usable : (shut : Bool) → todo ≡ job ∷ [] → OutLine shut todo (sent_to BulkOut later) s.bulk_out s.transfer → shut ≡ false
+        usable : (shut : Bool) → todo ≡ job ∷ [] → OutLine shut gone todo (sent_to BulkOut later) s.bulk_out s.transfer → shut ≡ false
         usable shut some (Unbegun here rest unshut whole come q free) = unshut
         usable shut some (Partly first here rest moved left unshut whole come bytes begun more q runs) = unshut
-        usable shut some (Cut first moved left unshut whole come bytes begun more q runs) = unshut
+        usable shut some (Cut first moved left was unshut whole come bytes begun more q runs) = unshut
         usable shut some (Shut shuts whole q free) = let e : [] ≡ job ∷ [] = sym whole ∙ some in absurd (cc)
     by past todo hit (Never shuts none never line) = record {
       past = h.past;
       todo = todo;
       hit = hit;
       whole = ap (λ (l : List Job). l ++ job ∷ []) (sym past.past_all) ∙ ap (λ (l : List Job). h.past ++ l) (sym never) ∙ ap (λ (l : List Job). h.past ++ (l ++ hit)) (sym none);
+      missed = λ kept usable_out. let e : false ≡ true = sym usable_out ∙ shuts in absurd (cc);
       flow = h.flow;
       short = h.short;
       jobs = subst (λ (l : List Job). AllJobs l) (sym none) tt;
@@ -429,10 +472,11 @@ read_written last message tag size written answered sofar read ups downs s head 
   todo = h.todo;
   hit = h.hit;
   whole = h.whole;
+  missed = h.missed;
   flow = h.flow;
   short = h.short;
   jobs = h.jobs;
-  out = subst (λ (l : List OnWay). OutLine s.halted.bulk_out h.todo l s.bulk_out s.transfer) (sym (sent_other BulkOut head ups is.number refl)) h.out;
+  out = subst (λ (l : List OnWay). OutLine s.halted.bulk_out false h.todo l s.bulk_out s.transfer) (sym (sent_other BulkOut head ups is.number refl)) h.out;
   stage = h.stage;
   ins = subst (λ (l : List OnWay). InLine s.halted.bulk_in false h.flow read (gives (events_of BulkIn downs)) l s.bulk_in) (sym (sent_read head ups is.number))
       (read_writes s.halted.bulk_in false h.flow read (gives (events_of BulkIn downs)) (sent_to BulkIn ups) (record { head = head; transferred = [] } ∷ []) s.bulk_in refl h.ins);
@@ -455,6 +499,12 @@ sent_none e (head ∷ heads) = sent_none e heads
 sent_kept : (e : Endpoint) (ups : List up.Message) (heads : List UnlinkHead) → sent_to e (ups ++ unlinks_of heads) ≡ sent_to e ups
 sent_kept e ups heads = sent-append e ups (unlinks_of heads) ∙ ap (λ (l : List OnWay). sent_to e ups ++ l) (sent_none e heads) ∙ append-nil (sent_to e ups)
 
+out_goes : (shut gone : Bool) (todo : List Job) (coming : List OnWay) (queue : List Pending) (transfer : Option Transfer) → OutLine shut gone todo coming queue transfer → OutLine shut true todo coming queue transfer
+out_goes shut gone todo coming queue transfer (Unbegun here later unshut whole come line free) = Unbegun here later unshut whole come line free
+out_goes shut gone todo coming queue transfer (Partly first here later moved left unshut whole come bytes begun more line runs) = Partly first here later moved left unshut whole come bytes begun more line runs
+out_goes shut gone todo coming queue transfer (Cut first moved left was unshut whole come bytes begun more line runs) = Cut first moved left refl unshut whole come bytes begun more line runs
+out_goes shut gone todo coming queue transfer (Shut shuts whole line free) = Shut shuts whole line free
+
 -- the unlinks of a cancel are written
 pub unlinks_written : (last : ℕ) (message : List ℕ) (tag size : ℕ) (written : List Job) (answered : ℕ) (sofar read : List ℕ) (gone : Bool) (ups : List up.Message) (downs : List Put) (s : State) (heads : List UnlinkHead)
     → Asking (ask_of last message tag size written answered sofar read gone) ups downs s → Asking (ask_of last message tag size written answered sofar read true) (ups ++ unlinks_of heads) downs s
@@ -463,10 +513,12 @@ unlinks_written last message tag size written answered sofar read gone ups downs
   todo = h.todo;
   hit = h.hit;
   whole = h.whole;
+  missed = λ kept. clash kept;
   flow = h.flow;
   short = h.short;
   jobs = h.jobs;
-  out = subst (λ (l : List OnWay). OutLine s.halted.bulk_out h.todo l s.bulk_out s.transfer) (sym (sent_kept BulkOut ups heads)) h.out;
+  out = subst (λ (l : List OnWay). OutLine s.halted.bulk_out true h.todo l s.bulk_out s.transfer) (sym (sent_kept BulkOut ups heads))
+      (out_goes s.halted.bulk_out gone h.todo (sent_to BulkOut ups) s.bulk_out s.transfer h.out);
   stage = h.stage;
   ins = subst (λ (l : List OnWay). InLine s.halted.bulk_in true h.flow read (gives (events_of BulkIn downs)) l s.bulk_in) (sym (sent_kept BulkIn ups heads))
       (line_goes s.halted.bulk_in gone h.flow read (gives (events_of BulkIn downs)) (sent_to BulkIn ups) s.bulk_in h.ins);
@@ -489,6 +541,7 @@ other_answered last message tag size written answered sofar read gone ups head a
   todo = h.todo;
   hit = h.hit;
   whole = h.whole;
+  missed = h.missed;
   flow = h.flow;
   short = h.short;
   jobs = h.jobs;
@@ -509,6 +562,7 @@ unlink_answered last message tag size written answered sofar read gone ups head 
   todo = h.todo;
   hit = h.hit;
   whole = h.whole;
+  missed = h.missed;
   flow = h.flow;
   short = h.short;
   jobs = h.jobs;
@@ -533,10 +587,11 @@ other_written last message tag size written answered sofar read gone ups downs s
   todo = h.todo;
   hit = h.hit;
   whole = h.whole;
+  missed = h.missed;
   flow = h.flow;
   short = h.short;
   jobs = h.jobs;
-  out = subst (λ (l : List OnWay). OutLine s.halted.bulk_out h.todo l s.bulk_out s.transfer) (sym (kept_of BulkOut head ups is refl)) h.out;
+  out = subst (λ (l : List OnWay). OutLine s.halted.bulk_out gone h.todo l s.bulk_out s.transfer) (sym (kept_of BulkOut head ups is refl)) h.out;
   stage = h.stage;
   ins = subst (λ (l : List OnWay). InLine s.halted.bulk_in gone h.flow read (gives (events_of BulkIn downs)) l s.bulk_in) (sym (kept_of BulkIn head ups is refl)) h.ins;
   reads = subst (λ (l : List OnWay). SentReads l) (sym (kept_of BulkIn head ups is refl)) h.reads;

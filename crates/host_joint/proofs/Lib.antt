@@ -24,3 +24,11 @@ mod Accepting
 mod Setting
 mod Examples
 mod Booking
+mod Tying
+mod Transfers
+mod Writing
+mod Given
+mod Ending
+mod Joining
+mod Tied
+mod Ahead

@@ -7,7 +7,7 @@ use Rattle.tmc_law.specs.Run.{IsFront}
 use Rattle.tmc_law.specs.State.{State, Pending}
 use Rattle.tmc_law.specs.Logging.{unread}
 use Rattle.tmc_law.specs.BulkIn.{piece_bytes}
-use Rattle.host_joint.specs.Lines.{Sent, Event}
+use Rattle.host_joint.specs.Lines.{Sent, Event, Gives, Drops}
 use Rattle.host_joint.specs.Jobs.{Job}
 use Rattle.host_joint.specs.Reads as reads
 use Rattle.host_joint.specs.Reads.{read_size, Answered, answer, answers, contents, AreFull, Flow, Still, Giving, Over, Torn, IsPartial, Gave, Tore, InFront, NoneOf, Front, Whole, IsHalted, InLine}
@@ -25,13 +25,22 @@ pub data NextRead (shut gone : Bool) (flow : Flow) (read : List ℕ) (event : Ev
   ShortCame : (a : Answered) (bytes : List ℕ) → event ≡ answer a → length a.bytes < read_size → flow ≡ Over bytes → bytes ≡ read ++ a.bytes
       → InLine shut gone Still [] events coming queue
       → NextRead shut gone flow read event events coming queue
-  HaltCame : shut ≡ true → IsHalted (event ∷ events) → NextRead shut gone flow read event events coming queue
+  HaltCame : shut ≡ true → IsHalted (event ∷ []) → InLine shut gone flow read events coming queue → NextRead shut gone flow read event events coming queue
 
 no_event : {B : Type 0} (event : Event) (events : List Event) → event ∷ events ≡ [] → B
 no_event event events e = absurd (cc)
 
 one_event : (a b : Event) (as_ bs : List Event) → a ∷ as_ ≡ b ∷ bs → (a ≡ b) × (as_ ≡ bs)
 one_event a b as_ bs e = (cc, cc)
+
+-- of answers that tell of a halt, the first and the others
+first_halted : (event : Event) (events : List Event) → IsHalted (event ∷ events) → IsHalted (event ∷ [])
+first_halted (Gives head a transferred) events h = (h.0, tt)
+first_halted (Drops n) events h = h
+
+others_halted : (event : Event) (events : List Event) → IsHalted (event ∷ events) → IsHalted events
+others_halted (Gives head a transferred) events h = h.1
+others_halted (Drops n) events h = absurd h
 
 -- one full answer less
 less : (bytes read first rest : List ℕ) → bytes ≡ read ++ (first ++ rest) → bytes ≡ (read ++ first) ++ rest
@@ -64,8 +73,12 @@ next_read shut gone flow read event events coming queue (reads.Lost bytes lost (
 next_read shut gone flow read event events coming queue (reads.Closed front rest shuts come infront halted line) = by front come infront
   where
     by : (f : List Event) → event ∷ events ≡ f ++ rest → InFront flow read f → NextRead shut gone flow read event events coming queue
-    by f e (NoneOf still none empty) = HaltCame shuts (subst (λ (l : List Event). IsHalted l) (sym (e ∙ ap (λ (l : List Event). l ++ rest) empty)) halted)
-    by f e (Front bytes lost [] partial full whole is) = HaltCame shuts (subst (λ (l : List Event). IsHalted l) (sym (e ∙ ap (λ (l : List Event). l ++ rest) is)) halted)
+    by f e (NoneOf still none empty) =
+        let all = subst (λ (l : List Event). IsHalted l) (sym (e ∙ ap (λ (l : List Event). l ++ rest) empty)) halted in
+        HaltCame shuts (first_halted event events all) (reads.Closed [] events shuts refl (NoneOf still none refl) (others_halted event events all) line)
+    by f e (Front bytes lost [] partial full whole is) =
+        let all = subst (λ (l : List Event). IsHalted l) (sym (e ∙ ap (λ (l : List Event). l ++ rest) is)) halted in
+        HaltCame shuts (first_halted event events all) (reads.Closed [] events shuts refl (Front bytes lost [] partial full whole refl) (others_halted event events all) line)
     by f e (Front bytes lost (a ∷ more) partial full whole is) =
         let g = one_event event (answer a) events (answers more ++ rest) (e ∙ ap (λ (l : List Event). l ++ rest) is) in
         FullCame a g.0 full.0 (reads.Closed (answers more) rest shuts g.1 (Front bytes lost more partial full.1 (less_two bytes read a.bytes (contents more) lost whole) refl) halted line)

@@ -99,8 +99,9 @@ pub gives_of : (downs puts : List Put) → gives (events_of BulkIn (downs ++ put
 gives_of downs puts = ap gives (events-append BulkIn downs puts) ∙ gives-append (events_of BulkIn downs) (events_of BulkIn puts)
 
 -- how the transfers that the host wrote are divided, and how many of their answers are on their way
-pub record Parts (written past todo hit : List Job) (answered : ℕ) (shut : Bool) (events : List Event) : Type 0 where
+pub record Parts (written past todo hit : List Job) (answered : ℕ) (shut gone : Bool) (events : List Event) : Type 0 where
   pub whole : written ≡ past ++ (todo ++ hit)
+  pub missed : gone ≡ false → shut ≡ false → hit ≡ []
   pub came : ℕ
   pub taken : AllTaken shut came events
   pub counted : length past ≡ answered + came
@@ -108,20 +109,21 @@ pub record Parts (written past todo hit : List Job) (answered : ℕ) (shut : Boo
 -- `w` is the state behind a move, but for what no side reads
 pub rebuild : (last : ℕ) (message : List ℕ) (tag size : ℕ) (written : List Job) (answered : ℕ) (sofar read : List ℕ) (gone : Bool) (ups : List up.Message) (downs puts : List Put) (w t : State) → Effect w t → Calm gone ups w
     → (past todo hit : List Job) (flow : Flow) → length message ≤ message_most → AllJobs todo
-    → OutLine w.halted.bulk_out todo (sent_to BulkOut ups) w.bulk_out w.transfer → Stage last message tag size past todo sofar flow t
+    → OutLine w.halted.bulk_out gone todo (sent_to BulkOut ups) w.bulk_out w.transfer → Stage last message tag size past todo sofar flow t
     → InLine w.halted.bulk_in gone flow read (gives (events_of BulkIn downs) ++ gives (events_of BulkIn puts)) (sent_to BulkIn ups) w.bulk_in → SentReads (sent_to BulkIn ups)
-    → Parts written past todo hit answered w.halted.bulk_out (events_of BulkOut downs ++ events_of BulkOut puts) → Asking (ask_of last message tag size written answered sofar read gone) ups (downs ++ puts) t
+    → Parts written past todo hit answered w.halted.bulk_out gone (events_of BulkOut downs ++ events_of BulkOut puts) → Asking (ask_of last message tag size written answered sofar read gone) ups (downs ++ puts) t
 rebuild last message tag size written answered sofar read gone ups downs puts w t same calm past todo hit flow short jobs line stage ins rest parts = record {
   past = past;
   todo = todo;
   hit = hit;
   whole = parts.whole;
+  missed = λ kept usable. parts.missed kept (sym same.out_halted ∙ usable);
   flow = flow;
   short = short;
   jobs = jobs;
-  out = subst (λ (b : Bool). OutLine b todo (sent_to BulkOut ups) t.bulk_out t.transfer) (sym same.out_halted)
-      (subst (λ (q : List Pending). OutLine w.halted.bulk_out todo (sent_to BulkOut ups) q t.transfer) (sym same.bulk_out)
-      (subst (λ (x : Option Transfer). OutLine w.halted.bulk_out todo (sent_to BulkOut ups) w.bulk_out x) (sym same.transfer) line));
+  out = subst (λ (b : Bool). OutLine b gone todo (sent_to BulkOut ups) t.bulk_out t.transfer) (sym same.out_halted)
+      (subst (λ (q : List Pending). OutLine w.halted.bulk_out gone todo (sent_to BulkOut ups) q t.transfer) (sym same.bulk_out)
+      (subst (λ (x : Option Transfer). OutLine w.halted.bulk_out gone todo (sent_to BulkOut ups) w.bulk_out x) (sym same.transfer) line));
   stage = stage;
   ins = subst (λ (b : Bool). InLine b gone flow read (gives (events_of BulkIn (downs ++ puts))) (sent_to BulkIn ups) t.bulk_in) (sym same.in_halted)
       (subst (λ (q : List Pending). InLine w.halted.bulk_in gone flow read (gives (events_of BulkIn (downs ++ puts))) (sent_to BulkIn ups) q) (sym same.bulk_in)
@@ -148,10 +150,10 @@ pub no_outs : (downs puts : List Put) → events_of BulkOut puts ≡ [] → even
 no_outs downs puts none = ap (λ (l : List Event). events_of BulkOut downs ++ l) none ∙ append-nil (events_of BulkOut downs)
 
 -- no answer is added
-pub same_parts : (written past todo hit : List Job) (answered : ℕ) (shut : Bool) (a b : List Event) → b ≡ [] → written ≡ past ++ (todo ++ hit) → (came : ℕ) → AllTaken shut came a
-    → length past ≡ answered + came → Parts written past todo hit answered shut (a ++ b)
-same_parts written past todo hit answered shut a b none whole came taken counted =
-    record { whole = whole; came = came; taken = subst (λ (l : List Event). AllTaken shut came l) (sym (ap (λ (l : List Event). a ++ l) none ∙ append-nil a)) taken; counted = counted }
+pub same_parts : (written past todo hit : List Job) (answered : ℕ) (shut gone : Bool) (a b : List Event) → b ≡ [] → written ≡ past ++ (todo ++ hit) → (came : ℕ) → AllTaken shut came a
+    → length past ≡ answered + came → (gone ≡ false → shut ≡ false → hit ≡ []) → Parts written past todo hit answered shut gone (a ++ b)
+same_parts written past todo hit answered shut gone a b none whole came taken counted missed =
+    record { whole = whole; missed = missed; came = came; taken = subst (λ (l : List Event). AllTaken shut came l) (sym (ap (λ (l : List Event). a ++ l) none ∙ append-nil a)) taken; counted = counted }
 
 -- ---- a move that leaves the ask alone
 
@@ -160,4 +162,4 @@ pub alone : (last : ℕ) (message : List ℕ) (tag size : ℕ) (written : List J
 alone last message tag size written answered sofar read gone ups downs puts s t same stage outs ins a =
     rebuild last message tag size written answered sofar read gone ups downs puts s t same a.calm a.past a.todo a.hit a.flow a.short a.jobs a.out (stage_same last message tag size a.past a.todo sofar a.flow s t stage a.stage)
     (subst (λ (l : List Event). InLine s.halted.bulk_in gone a.flow read l (sent_to BulkIn ups) s.bulk_in) (sym (no_ins downs puts ins)) a.ins) a.reads
-    (same_parts _ _ _ _ _ _ (events_of BulkOut downs) (events_of BulkOut puts) outs a.whole a.came a.taken a.counted)
+    (same_parts _ _ _ _ _ _ _ (events_of BulkOut downs) (events_of BulkOut puts) outs a.whole a.came a.taken a.counted a.missed)

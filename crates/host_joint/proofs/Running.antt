@@ -39,7 +39,7 @@ asking_step laws run ask s t move ups downs puts reached step fit safe asking =
     (sound laws run s reached) (laws.stands run s reached) fit safe step.leads asking
 
 -- a move without an unlink
-safe_move : (move : Move) (ups : List up.Message) (s : State) → move ≢ Unplug → unlinks_in (taken move) ≡ [] → IsSafe move ups s
+pub safe_move : (move : Move) (ups : List up.Message) (s : State) → move ≢ Unplug → unlinks_in (taken move) ≡ [] → IsSafe move ups s
 safe_move (Comes (up.Submit head transferred)) ups s plugged none = tt
 safe_move (Comes (up.Unlink head)) ups s plugged none = absurd (cc)
 safe_move Unplug ups s plugged none = plugged refl

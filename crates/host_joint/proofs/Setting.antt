@@ -1,12 +1,12 @@
 -- what a host settles while nothing of its ask is on its way
-use Rattle.std.proofs.Common.{◌≡◌, ◌≢◌, ◌∙◌, ℕ, ◌+◌, Bool, false, List, [], length, Option, Some, refl, ap, sym, subst}
+use Rattle.std.proofs.Common.{◌≡◌, ◌≢◌, ◌∙◌, ℕ, ◌+◌, Bool, false, List, [], ◌∷◌, ◌++◌, length, Option, Some, refl, ap, sym, subst}
 use Rattle.usbip_wire.specs.Up as up
 use Rattle.tmc_wire.specs.declared.header.OutHeader.TheVariants.{Request}
-use Rattle.tmc_law.specs.Endpoint.{BulkIn}
-use Rattle.tmc_law.specs.State.{State, Pending, Waiting}
+use Rattle.tmc_law.specs.Endpoint.{BulkOut, BulkIn}
+use Rattle.tmc_law.specs.State.{State, Pending, Waiting, Transfer}
 use Rattle.tmc_law.specs.Put.{Put}
 use Rattle.host_joint.specs.Lines.{Sent as OnWay, sent_to, Event, events_of, unlinks_in}
-use Rattle.host_joint.specs.Jobs.{Job, last_header}
+use Rattle.host_joint.specs.Jobs.{Job, last_header, OutLine, Unbegun, Partly, Cut, Shut}
 use Rattle.host_joint.specs.Reads as reads
 use Rattle.host_joint.specs.Reads.{Flow, Still, Giving, Over, InLine, gives}
 use Rattle.host_joint.specs.Stage.{NoExec, IsAnother, NoneComes, Stage, Follows, Gathers, Waits, Rests, Owes, Sends, Sent, Tears, Barred, Dropped, IsInner}
@@ -15,10 +15,10 @@ use Rattle.host_joint.proofs.Counting.{all_past}
 use Rattle.host_joint.proofs.Hosting.{inner_final, inner_request, unasked}
 use Rattle.host_joint.proofs.Handing.{none_front, no_last}
 
-abbrev NotAsked : List Job → Type 0
+abbrev pub NotAsked : List Job → Type 0
 NotAsked past = (t n : ℕ) → last_header past ≡ Some (Request t n) → ⊥
 
-sets_request : (last : ℕ) (message : List ℕ) (tag size later more : ℕ) (past : List Job) (sofar : List ℕ) (flow : Flow) (s : State) → NotAsked past
+pub sets_request : (last : ℕ) (message : List ℕ) (tag size later more : ℕ) (past : List Job) (sofar : List ℕ) (flow : Flow) (s : State) → NotAsked past
     → Stage last message tag size past [] sofar flow s → Stage last message later more past [] sofar flow s
 sets_request last message tag size later more past sofar flow s free (Follows seq earlier waits other part idle none empty still carries at) = Follows seq earlier waits other part idle none empty still tt at
 sets_request last message tag size later more past sofar flow s free (Gathers done rest whole waits part idle none empty still carries at own) = Gathers done rest whole waits part idle none empty still tt at own
@@ -54,9 +54,10 @@ restaged ask later ups downs s a whole message answered read gone stage = record
   todo = a.todo;
   hit = a.hit;
   whole = whole ∙ a.whole;
+  missed = rw gone a.missed;
   jobs = a.jobs;
   short = rw message a.short;
-  out = a.out;
+  out = rw gone a.out;
   came = a.came;
   taken = a.taken;
   counted = rw answered a.counted;
@@ -109,6 +110,17 @@ none_lost shut gone now flow read events coming queue is (reads.Behind bytes ful
 none_lost shut gone now flow read events coming queue is (reads.Lost bytes lost full was unshut giving are whole come none line) = let e : Still ≡ Giving bytes = sym is ∙ giving in absurd (cc)
 none_lost shut gone now flow read events coming queue is (reads.Closed front rest shuts come infront halted line) = reads.Closed front rest shuts come infront halted line
 
+none_hit : (past todo hit : List Job) → [] ≡ past ++ (todo ++ hit) → hit ≡ []
+none_hit [] [] hit e = sym e
+none_hit [] (x ∷ todo) hit e = absurd (cc)
+none_hit (x ∷ past) todo hit e = absurd (cc)
+
+none_cut : (shut gone now : Bool) (todo : List Job) (coming : List OnWay) (queue : List Pending) (transfer : Option Transfer) → todo ≡ [] → OutLine shut gone todo coming queue transfer → OutLine shut now todo coming queue transfer
+none_cut shut gone now todo coming queue transfer none (Unbegun here later unshut whole come line free) = Unbegun here later unshut whole come line free
+none_cut shut gone now todo coming queue transfer none (Partly first here later moved left unshut whole come bytes begun more line runs) = Partly first here later moved left unshut whole come bytes begun more line runs
+none_cut shut gone now todo coming queue transfer none (Cut first moved left was unshut whole come bytes begun more line runs) = let e : [] ≡ first ∷ [] = sym none ∙ whole in absurd (cc)
+none_cut shut gone now todo coming queue transfer none (Shut shuts whole line free) = Shut shuts whole line free
+
 pub unlinks_over : (ask : Ask) (ups : List up.Message) (downs : List Put) (s : State) → ask.written ≡ [] → ask.sofar ≢ [] → unlinks_in ups ≡ [] → Asking ask ups downs s
     → Asking (record ask { gone = false }) ups downs s
 unlinks_over ask ups downs s none some over a =
@@ -118,9 +130,10 @@ unlinks_over ask ups downs s none some over a =
       todo = a.todo;
       hit = a.hit;
       whole = a.whole;
+      missed = λ kept usable. none_hit a.past a.todo a.hit (sym none ∙ a.whole);
       jobs = a.jobs;
       short = a.short;
-      out = a.out;
+      out = none_cut s.halted.bulk_out ask.gone false a.todo (sent_to BulkOut ups) s.bulk_out s.transfer (none_front a.past a.todo a.hit (sym none ∙ a.whole)).1 a.out;
       came = a.came;
       taken = a.taken;
       counted = a.counted;

@@ -38,8 +38,9 @@ record Begins (last : ℕ) (message : List ℕ) (tag size : ℕ) (job : Job) (co
   pub todo : List Job
   pub hit : List Job
   pub whole : job ∷ [] ≡ todo ++ hit
+  pub missed : s.halted.bulk_out ≡ false → hit ≡ []
   pub jobs : AllJobs todo
-  pub out : OutLine s.halted.bulk_out todo coming s.bulk_out s.transfer
+  pub out : OutLine s.halted.bulk_out false todo coming s.bulk_out s.transfer
   pub stage : Stage last message tag size [] todo [] Still s
 
 begins : (last : ℕ) (message : List ℕ) (tag size : ℕ) (job : Job) (coming : List Sent) (s : State) (shut : Bool) → s.halted.bulk_out ≡ shut → AtRest last s → IsJob job
@@ -48,6 +49,7 @@ begins last message tag size job coming s false usable rest is come carries = re
   todo = job ∷ [];
   hit = [];
   whole = refl;
+  missed = λ usable_out. refl;
   jobs = (is, tt);
   out = Unbegun [] (job ∷ []) usable refl come rest.bulk_out rest.transfer;
   stage = stage last message tag size job s s.waiting refl rest.waiting rest.part rest.side rest.log carries;
@@ -56,6 +58,7 @@ begins last message tag size job coming s true shuts rest is come carries = reco
   todo = [];
   hit = job ∷ [];
   whole = refl;
+  missed = λ usable_out. let e : true ≡ false = sym shuts ∙ usable_out in absurd (cc);
   jobs = tt;
   out = Shut shuts refl rest.bulk_out rest.transfer;
   stage = Barred shuts rest.waiting rest.part rest.side rest.log refl refl refl tt;
@@ -71,6 +74,7 @@ starts last message tag size job ups downs s rest quiet is short carries =
       todo = b.todo;
       hit = b.hit;
       whole = b.whole;
+      missed = λ kept. b.missed;
       flow = Still;
       short = short;
       jobs = b.jobs;

@@ -23,12 +23,12 @@ abbrev pub MayBegin : List Job → State → Type 0
 MayBegin todo s = (job : Job) (rest : List Job) → todo ≡ job ∷ rest → (s.side ≡ Idle) × Suits s.part job.header
 
 -- Packets were taken: the first transfer goes on, or it ends and takes effect.
-pub data Took (todo : List Job) (coming : List Sent) (s : State) (puts : List Put) (t : State) : Type 0 where
+pub data Took (gone : Bool) (todo : List Job) (coming : List Sent) (s : State) (puts : List Put) (t : State) : Type 0 where
   GoesOn : (queue : List Pending) (transfer : Option Transfer) → puts ≡ [] → t ≡ record s { bulk_out = queue; transfer = transfer }
-      → OutLine false todo coming queue transfer → Took todo coming s puts t
-  Ends : (job : Job) (rest : List Job) (queue : List Pending) → todo ≡ job ∷ rest → OutLine false rest coming queue None
+      → OutLine false gone todo coming queue transfer → Took gone todo coming s puts t
+  Ends : (job : Job) (rest : List Job) (queue : List Pending) → todo ≡ job ∷ rest → OutLine false gone rest coming queue None
       → TakesEffect job.head.seqnum (transfer_of job job.bytes) (record s { bulk_out = queue; transfer = None }) t
-      → puts ≡ ended success (partly job job.bytes []) ∷ [] → Took todo coming s puts t
+      → puts ≡ ended success (partly job job.bytes []) ∷ [] → Took gone todo coming s puts t
 
 -- bytes are one header
 abbrev pub OneHeader : Type 0
@@ -149,16 +149,16 @@ take_some : (n : ℕ) (xs : List ℕ) → 1 ≤ n → 1 ≤ length xs → take n
 take_some n xs some long none = omega (arith, some, long, length-take n xs, ap (λ (l : List ℕ). length l) none)
 
 -- packets of the first submit, with its transfer and what stands behind it known
-first : (s t : State) (count : ℕ) (puts : List Put) (job : Job) (here later rest todo : List Job) (coming : List Sent) (moved left : List ℕ)
+first : (gone : Bool) (s t : State) (count : ℕ) (puts : List Put) (job : Job) (here later rest todo : List Job) (coming : List Sent) (moved left : List ℕ)
     → todo ≡ job ∷ (here ++ later) → coming ≡ sent later → job.bytes ≡ moved ++ left → 1 ≤ length left → IsJob job → Owns s job moved left
-    → s.bulk_out ≡ partly job moved left ∷ fresh here → Takes s count puts t → Took todo coming s puts t
-first s t count puts job here later rest todo coming moved left whole come bytes some is owns queue (out.Empty submit behind line none one put to) =
+    → s.bulk_out ≡ partly job moved left ∷ fresh here → Takes s count puts t → Took gone todo coming s puts t
+first gone s t count puts job here later rest todo coming moved left whole come bytes some is owns queue (out.Empty submit behind line none one put to) =
     let e = same submit (partly job moved left) behind (fresh here) (sym line ∙ queue) in
     absurd (omega (arith, none, ap (λ (x : Pending). x.head.length) e.0, is.sized, is.whole))
-first s t count puts job here later rest todo coming moved left whole come bytes some is owns queue (out.Spoiled submit behind line long low high spoils put to) =
+first gone s t count puts job here later rest todo coming moved left whole come bytes some is owns queue (out.Spoiled submit behind line long low high spoils put to) =
     let e = same submit (partly job moved left) behind (fresh here) (sym line ∙ queue) in
     absurd (owns.unspoiled (subst (λ (x : Pending). Spoils s x) e.0 spoils))
-first s t count puts job here later rest todo coming moved left whole come bytes some is owns queue (out.Inside submit after behind transfer grown line long low fine belongs moves more put to) =
+first gone s t count puts job here later rest todo coming moved left whole come bytes some is owns queue (out.Inside submit after behind transfer grown line long low fine belongs moves more put to) =
     let e = same submit (partly job moved left) behind (fresh here) (sym line ∙ queue) in
     let own = owns.one transfer (subst (λ (x : Pending). Belongs s x transfer) e.0 belongs) in
     let on = moved_on job moved left count submit after transfer grown e.0 own moves in
@@ -174,7 +174,7 @@ first s t count puts job here later rest todo coming moved left whole come bytes
     behind_empty : (xs ys : List ℕ) → xs ++ ys ≡ [] → ys ≡ []
     behind_empty [] ys empty = empty
     behind_empty (x ∷ xs) ys empty = cc
-first s t count puts job here later rest todo coming moved left whole come bytes some is owns queue (out.SubmitEnds submit after behind transfer grown line long counts fine belongs moves more put to) =
+first gone s t count puts job here later rest todo coming moved left whole come bytes some is owns queue (out.SubmitEnds submit after behind transfer grown line long counts fine belongs moves more put to) =
     let e = same submit (partly job moved left) behind (fresh here) (sym line ∙ queue) in
     let own = owns.one transfer (subst (λ (x : Pending). Belongs s x transfer) e.0 belongs) in
     let all = moved_all job moved left count submit after transfer grown bytes e.0 own counts moves in
@@ -182,7 +182,7 @@ first s t count puts job here later rest todo coming moved left whole come bytes
   where
     full : wants (transfer_of job job.bytes) ≡ 0
     full = omega (arith, is.whole)
-first s t count puts job here later rest todo coming moved left whole come bytes some is owns queue (out.TransferEnds submit after behind transfer grown line long counts fine belongs moves none effect put) =
+first gone s t count puts job here later rest todo coming moved left whole come bytes some is owns queue (out.TransferEnds submit after behind transfer grown line long counts fine belongs moves none effect put) =
     let e = same submit (partly job moved left) behind (fresh here) (sym line ∙ queue) in
     let own = owns.one transfer (subst (λ (x : Pending). Belongs s x transfer) e.0 belongs) in
     let all = moved_all job moved left count submit after transfer grown bytes e.0 own counts moves in
@@ -199,27 +199,27 @@ no_first s t count puts none (out.Inside submit after behind transfer grown line
 no_first s t count puts none (out.SubmitEnds submit after behind transfer grown line a b c d f g h i) = let e : [] ≡ submit ∷ behind = sym none ∙ line in cc
 no_first s t count puts none (out.TransferEnds submit after behind transfer grown line a b c d f g h i) = let e : [] ≡ submit ∷ behind = sym none ∙ line in cc
 
-pub take_goes : (one_header : OneHeader) (shut : Bool) (s t : State) (count : ℕ) (puts : List Put) (todo : List Job) (coming : List Sent) → AllJobs todo → MayBegin todo s
-    → OutLine shut todo coming s.bulk_out s.transfer → Takes s count puts t → (shut ≡ false) × Took todo coming s puts t
-take_goes one_header shut s t count puts todo coming all may (Unbegun [] later unshut whole come queue none) takes = absurd (no_first s t count puts queue takes)
-take_goes one_header shut s t count puts todo coming all may (Unbegun (job ∷ here) later unshut whole come queue none) takes =
+pub take_goes : (one_header : OneHeader) (shut gone : Bool) (s t : State) (count : ℕ) (puts : List Put) (todo : List Job) (coming : List Sent) → AllJobs todo → MayBegin todo s
+    → OutLine shut gone todo coming s.bulk_out s.transfer → Takes s count puts t → (shut ≡ false) × Took gone todo coming s puts t
+take_goes one_header shut gone s t count puts todo coming all may (Unbegun [] later unshut whole come queue none) takes = absurd (no_first s t count puts queue takes)
+take_goes one_header shut gone s t count puts todo coming all may (Unbegun (job ∷ here) later unshut whole come queue none) takes =
     let is : IsJob job = (subst (λ (l : List Job). AllJobs l) whole all).0 in (
       unshut,
-      first s t count puts job here later (here ++ later) todo coming [] job.bytes whole come refl (omega (arith, is.whole)) is
+      first gone s t count puts job here later (here ++ later) todo coming [] job.bytes whole come refl (omega (arith, is.whole)) is
           (owns_fresh one_header s job (here ++ later) todo whole is may none) queue takes,
     )
-take_goes one_header shut s t count puts todo coming all may (Partly job here later moved left unshut whole come bytes begun more queue runs) takes =
+take_goes one_header shut gone s t count puts todo coming all may (Partly job here later moved left unshut whole come bytes begun more queue runs) takes =
     let is : IsJob job = (subst (λ (l : List Job). AllJobs l) whole all).0 in (
       unshut,
-      first s t count puts job here later (here ++ later) todo coming moved left whole come bytes (some left more) is
+      first gone s t count puts job here later (here ++ later) todo coming moved left whole come bytes (some left more) is
           (owns_partly s job moved left begun runs) queue takes,
     )
   where
     some : (l : List ℕ) → l ≢ [] → 1 ≤ length l
     some [] never = absurd (never refl)
     some (x ∷ l) never = omega arith
-take_goes one_header shut s t count puts todo coming all may (Cut job moved left unshut empty come bytes begun more queue runs) takes = absurd (no_first s t count puts queue takes)
-take_goes one_header shut s t count puts todo coming all may (Shut closed empty queue none) takes = absurd (no_first s t count puts queue takes)
+take_goes one_header shut gone s t count puts todo coming all may (Cut job moved left was unshut empty come bytes begun more queue runs) takes = absurd (no_first s t count puts queue takes)
+take_goes one_header shut gone s t count puts todo coming all may (Shut closed empty queue none) takes = absurd (no_first s t count puts queue takes)
 
 fresh-more : (jobs : List Job) (job : Job) → fresh (jobs ++ job ∷ []) ≡ fresh jobs ++ partly job [] job.bytes ∷ []
 fresh-more [] job = refl
@@ -235,29 +235,29 @@ abbrev pub came : Sent → Pending
 came x = record { head = x.head; left = x.transferred; moved = []; polled = false }
 
 -- a transfer arrives
-pub job_comes : (shut : Bool) (todo : List Job) (x : Sent) (coming : List Sent) (queue : List Pending) (transfer : Option Transfer) → shut ≡ false
-    → OutLine shut todo (x ∷ coming) queue transfer → OutLine shut todo coming (queue ++ came x ∷ []) transfer
-job_comes shut todo x coming queue transfer usable (Unbegun here [] unshut whole come is none) = no_sent x coming come
-job_comes shut todo x coming queue transfer usable (Unbegun here (job ∷ later) unshut whole come is none) =
+pub job_comes : (shut gone : Bool) (todo : List Job) (x : Sent) (coming : List Sent) (queue : List Pending) (transfer : Option Transfer) → shut ≡ false
+    → OutLine shut gone todo (x ∷ coming) queue transfer → OutLine shut gone todo coming (queue ++ came x ∷ []) transfer
+job_comes shut gone todo x coming queue transfer usable (Unbegun here [] unshut whole come is none) = no_sent x coming come
+job_comes shut gone todo x coming queue transfer usable (Unbegun here (job ∷ later) unshut whole come is none) =
     let e : x ≡ record { head = job.head; transferred = job.bytes } = cc in
     Unbegun (here ++ job ∷ []) later unshut (whole ∙ sym (append_assoc here (job ∷ []) later)) (cc)
     (ap (λ (q : List Pending). q ++ came x ∷ []) is ∙ ap (λ (y : Sent). fresh here ++ came y ∷ []) e ∙ sym (fresh-more here job)) none
-job_comes shut todo x coming queue transfer usable (Partly first here [] moved left unshut whole come bytes begun more is runs) = no_sent x coming come
-job_comes shut todo x coming queue transfer usable (Partly first here (job ∷ later) moved left unshut whole come bytes begun more is runs) =
+job_comes shut gone todo x coming queue transfer usable (Partly first here [] moved left unshut whole come bytes begun more is runs) = no_sent x coming come
+job_comes shut gone todo x coming queue transfer usable (Partly first here (job ∷ later) moved left unshut whole come bytes begun more is runs) =
     let e : x ≡ record { head = job.head; transferred = job.bytes } = cc in
     Partly first (here ++ job ∷ []) later moved left unshut (whole ∙ ap (λ (l : List Job). first ∷ l) (sym (append_assoc here (job ∷ []) later))) (cc) bytes begun more
     (ap (λ (q : List Pending). q ++ came x ∷ []) is ∙ ap (λ (y : Sent). (partly first moved left ∷ fresh here) ++ came y ∷ []) e
     ∙ ap (λ (l : List Pending). partly first moved left ∷ l) (sym (fresh-more here job))) runs
-job_comes shut todo x coming queue transfer usable (Cut job moved left unshut empty come bytes begun more is runs) = no_sent x coming come
-job_comes shut todo x coming queue transfer usable (Shut closed empty is none) = not_both shut usable closed
+job_comes shut gone todo x coming queue transfer usable (Cut job moved left was unshut empty come bytes begun more is runs) = no_sent x coming come
+job_comes shut gone todo x coming queue transfer usable (Shut closed empty is none) = not_both shut usable closed
 
 -- one arrives where Bulk-OUT is halted
-pub job_turned : (shut : Bool) (todo : List Job) (x : Sent) (coming : List Sent) (queue : List Pending) (transfer : Option Transfer) → shut ≡ true
-    → OutLine shut todo (x ∷ coming) queue transfer → OutLine shut todo coming queue transfer
-job_turned shut todo x coming queue transfer halted (Unbegun here later unshut whole come is none) = not_both shut unshut halted
-job_turned shut todo x coming queue transfer halted (Partly job here later moved left unshut whole come bytes begun more is runs) = not_both shut unshut halted
-job_turned shut todo x coming queue transfer halted (Cut job moved left unshut empty come bytes begun more is runs) = not_both shut unshut halted
-job_turned shut todo x coming queue transfer halted (Shut closed empty is none) = Shut closed empty is none
+pub job_turned : (shut gone : Bool) (todo : List Job) (x : Sent) (coming : List Sent) (queue : List Pending) (transfer : Option Transfer) → shut ≡ true
+    → OutLine shut gone todo (x ∷ coming) queue transfer → OutLine shut gone todo coming queue transfer
+job_turned shut gone todo x coming queue transfer halted (Unbegun here later unshut whole come is none) = not_both shut unshut halted
+job_turned shut gone todo x coming queue transfer halted (Partly job here later moved left unshut whole come bytes begun more is runs) = not_both shut unshut halted
+job_turned shut gone todo x coming queue transfer halted (Cut job moved left was unshut empty come bytes begun more is runs) = not_both shut unshut halted
+job_turned shut gone todo x coming queue transfer halted (Shut closed empty is none) = Shut closed empty is none
 
 -- ---- an unlink hits the last pending transfer
 
@@ -289,35 +289,35 @@ pub data LeftOf (todo left : List Job) : Type 0 where
   Same : left ≡ todo → LeftOf todo left
   Shorter : (job : Job) → todo ≡ left ++ job ∷ [] → LeftOf todo left
 
-pub record HitOut (shut : Bool) (todo : List Job) (queue : List Pending) (transfer : Option Transfer) : Type 0 where
+pub record HitOut (shut gone : Bool) (todo : List Job) (queue : List Pending) (transfer : Option Transfer) : Type 0 where
   pub left : List Job
   pub shorter : LeftOf todo left
-  pub line : OutLine shut left [] queue transfer
+  pub line : OutLine shut gone left [] queue transfer
 
 no_last : {B : Type 0} (before : List Pending) (submit : Pending) → [] ≡ before ++ submit ∷ [] → B
 no_last [] submit e = absurd (cc)
 no_last (x ∷ before) submit e = absurd (cc)
 
-pub job_hit : (shut : Bool) (todo : List Job) (before : List Pending) (submit : Pending) (queue : List Pending) (transfer : Option Transfer) → queue ≡ before ++ submit ∷ []
-    → OutLine shut todo [] queue transfer → HitOut shut todo before transfer
-job_hit shut todo before submit queue transfer last (Unbegun here (job ∷ later) unshut whole come is none) = absurd (cc)
-job_hit shut todo before submit queue transfer last (Unbegun here [] unshut whole come is none) = by (ended_of here)
+pub job_hit : (shut gone : Bool) (todo : List Job) (before : List Pending) (submit : Pending) (queue : List Pending) (transfer : Option Transfer) → gone ≡ true → queue ≡ before ++ submit ∷ []
+    → OutLine shut gone todo [] queue transfer → HitOut shut gone todo before transfer
+job_hit shut gone todo before submit queue transfer was_gone last (Unbegun here (job ∷ later) unshut whole come is none) = absurd (cc)
+job_hit shut gone todo before submit queue transfer was_gone last (Unbegun here [] unshut whole come is none) = by (ended_of here)
   where
-    by : Ended here → HitOut shut todo before transfer
+    by : Ended here → HitOut shut gone todo before transfer
     by (NoneEnds empty) = no_last before submit (sym (is ∙ ap fresh empty) ∙ last)
     by (LastEnds front job ends) =
         let e = last_pending before (fresh front) submit (partly job [] job.bytes) (sym last ∙ is ∙ ap fresh ends ∙ fresh-more front job) in
         record { left = front; shorter = Shorter job (whole ∙ append-nil here ∙ ends); line = Unbegun front [] unshut (sym (append-nil front)) refl e.0 none }
-job_hit shut todo before submit queue transfer last (Partly first here (job ∷ later) moved left unshut whole come bytes begun more is runs) = absurd (cc)
-job_hit shut todo before submit queue transfer last (Partly first here [] moved left unshut whole come bytes begun more is runs) = by (ended_of here)
+job_hit shut gone todo before submit queue transfer was_gone last (Partly first here (job ∷ later) moved left unshut whole come bytes begun more is runs) = absurd (cc)
+job_hit shut gone todo before submit queue transfer was_gone last (Partly first here [] moved left unshut whole come bytes begun more is runs) = by (ended_of here)
   where
-    by : Ended here → HitOut shut todo before transfer
+    by : Ended here → HitOut shut gone todo before transfer
     by (NoneEnds empty) =
         let e = last_pending before [] submit (partly first moved left) (sym last ∙ is ∙ ap (λ (l : List Job). partly first moved left ∷ fresh l) empty) in
         record {
           left = todo;
           shorter = Same refl;
-          line = Cut first moved left unshut (whole ∙ ap (λ (l : List Job). first ∷ l) (append-nil here ∙ empty)) refl bytes begun more e.0 runs;
+          line = Cut first moved left was_gone unshut (whole ∙ ap (λ (l : List Job). first ∷ l) (append-nil here ∙ empty)) refl bytes begun more e.0 runs;
         }
     by (LastEnds front job ends) =
         let e = last_pending before (partly first moved left ∷ fresh front) submit (partly job [] job.bytes)
@@ -327,5 +327,5 @@ job_hit shut todo before submit queue transfer last (Partly first here [] moved 
           shorter = Shorter job (whole ∙ ap (λ (l : List Job). first ∷ l) (append-nil here ∙ ends));
           line = Partly first front [] moved left unshut (ap (λ (l : List Job). first ∷ l) (sym (append-nil front))) refl bytes begun more e.0 runs;
         }
-job_hit shut todo before submit queue transfer last (Cut job moved left unshut empty come bytes begun more is runs) = no_last before submit (sym is ∙ last)
-job_hit shut todo before submit queue transfer last (Shut closed empty is none) = no_last before submit (sym is ∙ last)
+job_hit shut gone todo before submit queue transfer was_gone last (Cut job moved left was unshut empty come bytes begun more is runs) = no_last before submit (sym is ∙ last)
+job_hit shut gone todo before submit queue transfer was_gone last (Shut closed empty is none) = no_last before submit (sym is ∙ last)

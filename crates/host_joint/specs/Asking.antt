@@ -38,13 +38,13 @@ abbrev pub SentReads : List Sent → Type 0
 SentReads [] = Unit {0}
 SentReads (submit ∷ submits) = IsRead submit.head × (submit.transferred ≡ []) × SentReads submits
 
--- So many of these answers are of transfers that were taken whole. Behind the first that tells of a halt of Bulk-OUT they are
--- not looked at; `shut` says whether it is halted. The answers to unlinks say nothing here.
+-- So many of these answers are of transfers that were taken whole, and the others, behind them, tell of a halt of Bulk-OUT; `shut`
+-- says whether it is halted. The answers to unlinks say nothing here.
 abbrev pub AllTaken : (shut : Bool) (count : ℕ) → List Event → Type 0
 AllTaken shut count [] = count ≡ 0
 AllTaken shut count (Gives head answer transferred ∷ events) =
     ((answer.status ≡ success) × (answer.actual ≡ head.length) × (more : ℕ) × (count ≡ more + 1) × AllTaken shut more events)
-    ⊎ ((answer.status ≡ stalled) × (shut ≡ true) × (count ≡ 0))
+    ⊎ ((answer.status ≡ stalled) × (shut ≡ true) × (count ≡ 0) × AllTaken shut 0 events)
 AllTaken shut count (Drops n ∷ events) = AllTaken shut count events
 
 -- Nothing else goes on: no control request is pending or on its way, no abort and no clear runs, and no unlink is on its way
@@ -63,10 +63,11 @@ pub record Asking (ask : Ask) (ups : List up.Message) (downs : List Put) (s : St
   pub todo : List Job
   pub hit : List Job
   pub whole : ask.written ≡ past ++ (todo ++ hit)
+  pub missed : ask.gone ≡ false → s.halted.bulk_out ≡ false → hit ≡ []
   pub jobs : AllJobs todo
   pub short : length ask.message ≤ message_most
   -- Bulk-OUT: where the transfers are
-  pub out : OutLine s.halted.bulk_out todo (sent_to BulkOut ups) s.bulk_out s.transfer
+  pub out : OutLine s.halted.bulk_out ask.gone todo (sent_to BulkOut ups) s.bulk_out s.transfer
   -- how many good answers to them are on their way, so that the host comes to know how many were taken
   pub came : ℕ
   pub taken : AllTaken s.halted.bulk_out came (events_of BulkOut downs)

@@ -15,11 +15,11 @@ use Rattle.host_joint.specs.Reads.{Answered, answer, read_size, IsHalted}
 use Rattle.host_joint.specs.Stage.{Ran, Carries, IsInner}
 use Rattle.host_joint.specs.Asking.{Ask, Asking}
 
--- An answer to a transfer was taken: the transfer was taken whole, and the ask goes on; or Bulk-OUT halted.
+-- An answer to a transfer was taken: the transfer was taken whole, or Bulk-OUT is halted. The ask stays in hand.
 abbrev pub OutAnswered : Ask → List up.Message → SubmitHead → RetSubmitHead → List Put → State → Type 0
 OutAnswered ask ups head answer downs s =
     ((answer.status ≡ success) × (answer.actual ≡ head.length) × Asking (record ask { answered = ask.answered + 1 }) ups downs s)
-    ⊎ (answer.status ≡ stalled)
+    ⊎ ((answer.status ≡ stalled) × (s.halted.bulk_out ≡ true) × Asking ask ups downs s)
 
 -- What a host has behind the last read of a piece, which had these bytes.
 pub record PieceEnd (ask : Ask) (bytes : List ℕ) (ups : List up.Message) (downs : List Put) (s : State) : Type 0 where
@@ -41,12 +41,12 @@ pub record PieceEnd (ask : Ask) (bytes : List ℕ) (ups : List up.Message) (down
   pub next : (tag size : ℕ) → ask.answered ≡ length ask.written
       → Asking (record ask { tag = tag; size = size; written = []; answered = 0; sofar = ask.sofar ++ carried; read = [] }) ups downs s
 
--- An answer to a read was taken: it is full, it ends the piece, or it tells of a halt of Bulk-IN.
+-- An answer to a read was taken: it is full, it ends the piece, or it tells of a halt of Bulk-IN, and the ask stays in hand.
 pub data InAnswered (ask : Ask) (ups : List up.Message) (event : Event) (downs : List Put) (s : State) : Type 0 where
   TookFull : (x : Answered) → event ≡ answer x → length x.bytes ≡ read_size → Asking (record ask { read = ask.read ++ x.bytes }) ups downs s
       → InAnswered ask ups event downs s
   TookEnd : (x : Answered) → event ≡ answer x → length x.bytes < read_size → PieceEnd ask x.bytes ups downs s → InAnswered ask ups event downs s
-  TookHalt : s.halted.bulk_in ≡ true → IsHalted (event ∷ []) → InAnswered ask ups event downs s
+  TookHalt : s.halted.bulk_in ≡ true → IsHalted (event ∷ []) → Asking ask ups downs s → InAnswered ask ups event downs s
 
 -- the next part of the message, behind parts that make the first of it
 pub record IsNext (last : ℕ) (message : List ℕ) (tag size : ℕ) (past : List Job) (job : Job) (sofar : List ℕ) : Type 0 where

@@ -52,20 +52,20 @@ abbrev pub transfer_of : Job → (taken : List ℕ) → Transfer
 transfer_of job taken = record { header = job.header; taken = taken }
 
 -- Where the transfers are that the device did not take whole: first come those that are pending, of which the first may be
--- taken in part, then those on their way. `shut` says whether Bulk-OUT is halted.
-pub data OutLine (shut : Bool) (todo : List Job) (coming : List Sent) (queue : List Pending) (transfer : Option Transfer) : Type 0 where
+-- taken in part, then those on their way. `shut` says whether Bulk-OUT is halted, `gone` whether the host has unlinked submits.
+pub data OutLine (shut gone : Bool) (todo : List Job) (coming : List Sent) (queue : List Pending) (transfer : Option Transfer) : Type 0 where
   -- no packet of the first was taken
   Unbegun : (here later : List Job) → shut ≡ false → todo ≡ here ++ later → coming ≡ sent later → queue ≡ fresh here → transfer ≡ None
-      → OutLine shut todo coming queue transfer
+      → OutLine shut gone todo coming queue transfer
   -- the first has packets that were taken, and packets that were not
   Partly : (job : Job) (here later : List Job) (moved left : List ℕ) → shut ≡ false → todo ≡ job ∷ (here ++ later) → coming ≡ sent later
       → job.bytes ≡ moved ++ left → moved ≢ [] → left ≢ []
-      → queue ≡ partly job moved left ∷ fresh here → transfer ≡ Some (transfer_of job moved) → OutLine shut todo coming queue transfer
+      → queue ≡ partly job moved left ∷ fresh here → transfer ≡ Some (transfer_of job moved) → OutLine shut gone todo coming queue transfer
   -- it was the last one, and was unlinked behind its first packets: its transfer stays in progress
-  Cut : (job : Job) (moved left : List ℕ) → shut ≡ false → todo ≡ job ∷ [] → coming ≡ [] → job.bytes ≡ moved ++ left → moved ≢ [] → left ≢ []
-      → queue ≡ [] → transfer ≡ Some (transfer_of job moved) → OutLine shut todo coming queue transfer
+  Cut : (job : Job) (moved left : List ℕ) → gone ≡ true → shut ≡ false → todo ≡ job ∷ [] → coming ≡ [] → job.bytes ≡ moved ++ left → moved ≢ [] → left ≢ []
+      → queue ≡ [] → transfer ≡ Some (transfer_of job moved) → OutLine shut gone todo coming queue transfer
   -- Bulk-OUT is halted, and takes none
-  Shut : shut ≡ true → todo ≡ [] → queue ≡ [] → transfer ≡ None → OutLine shut todo coming queue transfer
+  Shut : shut ≡ true → todo ≡ [] → queue ≡ [] → transfer ≡ None → OutLine shut gone todo coming queue transfer
 
 -- the header of the last one
 abbrev pub last_header : List Job → Option OutHeader

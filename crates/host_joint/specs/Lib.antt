@@ -13,5 +13,11 @@ pub mod Hosted
 pub mod Positions
 pub mod Requests
 pub mod Drains
+-- a host that nothing disturbs
+pub mod Hand
+pub mod Pieces
+pub mod Tie
+pub mod Joint
 -- examples
 pub mod WorkedAsks
+pub mod WorkedTies

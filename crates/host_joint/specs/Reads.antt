@@ -78,10 +78,10 @@ pub data InFront (flow : Flow) (read : List ℕ) (events : List Event) : Type 0 
   Whole : (bytes : List ℕ) (full : List Answered) (short : Answered) → flow ≡ Over bytes → AreFull full → length short.bytes < read_size
       → bytes ≡ read ++ (contents full ++ short.bytes) → events ≡ answers full ++ answer short ∷ [] → InFront flow read events
 
--- there is no answer, or the first one tells of a halt
+-- all of these answers tell of a halt
 abbrev pub IsHalted : List Event → Type 0
 IsHalted [] = Unit {0}
-IsHalted (Gives head answer transferred ∷ events) = answer.status ≡ stalled
+IsHalted (Gives head answer transferred ∷ events) = (answer.status ≡ stalled) × IsHalted events
 IsHalted (Drops n ∷ events) = ⊥
 
 -- the answers without those to unlinks

@@ -14,7 +14,7 @@ ghost use Rattle.tmc_law.specs.Put.{Put, Submitted, Unlinked};
 ghost use Rattle.host_joint.specs.Lines.{Gives, unlinks_in};
 ghost use Rattle.host_joint.specs.Jobs.{Job, IsJob, last_header};
 ghost use Rattle.host_joint.specs.Reads.{IsRead};
-ghost use Rattle.host_joint.specs.Stage.{IsUnasked, IsInner, NoExec, IsAnother};
+ghost use Rattle.host_joint.specs.Stage.{IsUnasked, IsInner, IsFinal, NoExec, IsAnother};
 ghost use Rattle.host_joint.specs.Asking.{Ask, Asking};
 ghost use Rattle.host_joint.specs.Hosted.{OutAnswered, InAnswered, IsNextOf, unlinks_of};
 
@@ -33,7 +33,8 @@ pub fn answers_are_taken()
 {}
 
 /// What a host writes in an ask. Where all that it wrote was taken: the next part of the message; and behind the last part, or
-/// behind a piece without EOM, the request of a piece. At any time a submit to Interrupt-IN, before it cancels a read, and at last
+/// behind a piece without EOM, the request of a piece. At a greater depth the first request, right behind the last part, before that
+/// one was answered. At any time a submit to Interrupt-IN, before it cancels a read, and at last
 /// the unlinks of a cancel.
 pub fn messages_are_written()
     ensures part { (ask : Ask) (ups : List up.Message) (downs : List Put) (s : State) (job : Job) → IsJob job → IsNextOf ask job
@@ -43,6 +44,10 @@ pub fn messages_are_written()
         → job.header ≡ Request ask.tag ask.size → IsUnasked ask.written ask.sofar → (ask.sofar ≢ [] → unread s ≢ [])
         → ask.answered ≡ length ask.written → Asking ask ups downs s
         → Asking (record ask { written = ask.written ++ job ∷ [] }) (ups ++ up.Submit job.head job.bytes ∷ []) downs s }
+    ensures request_ahead { (ask : Ask) (tag size : ℕ) (front : List Job) (final job : Job) (ups : List up.Message) (downs : List Put) (s : State) → IsJob job
+        → job.header ≡ Request tag size → ask.written ≡ front ++ final ∷ [] → IsInner (last_header front) → IsFinal (Some final.header)
+        → ask.answered ≡ length front → ask.sofar ≡ [] → ask.gone ≡ false → Asking ask ups downs s
+        → Asking (record ask { tag = tag; size = size; written = ask.written ++ job ∷ [] }) (ups ++ up.Submit job.head job.bytes ∷ []) downs s }
     ensures one_read { (ask : Ask) (ups : List up.Message) (downs : List Put) (s : State) (head : SubmitHead) → IsRead head
         → ask.gone ≡ false → Asking ask ups downs s → Asking ask (ups ++ up.Submit head [] ∷ []) downs s }
     ensures interrupt { (ask : Ask) (ups : List up.Message) (downs : List Put) (s : State) (head : SubmitHead)

@@ -8,17 +8,26 @@
 mod accepted;
 mod asks;
 mod host_moves;
+mod joints;
 mod lines;
 mod numbers;
 mod owned;
 mod recovery;
+mod ties;
 mod worked;
 
 pub use accepted::{asks_halt_nothing, no_submit_is_refused};
 pub use asks::{asking_stays, asks_begin, cancelled_asks_stay, unplugged_asks_were_in_hand};
 pub use host_moves::{answers_are_taken, asks_are_settled_late, messages_are_written};
+pub use joints::{
+    joints_begin, joints_stay, no_answer_is_refused, the_next_answer_is_read, writes_keep_joints,
+};
 pub use lines::{hosts_keep_lines, lines_stay, what_is_answered_is_over};
 pub use numbers::{new_numbers_are_unused, new_numbers_rise, what_ran_is_kept};
 pub use owned::what_is_read_is_owned;
 pub use recovery::{asks_hand_over, devices_rest, drains_stay, requests_stay};
-pub use worked::worked_asks_are_in_hand;
+pub use ties::{
+    answers_are_the_expected, pieces_have_no_fault, tickets_end, ties_begin, ties_own, ties_stay,
+    writes_keep_ties,
+};
+pub use worked::{worked_asks_are_in_hand, worked_hosts_are_tied};

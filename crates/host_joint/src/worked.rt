@@ -1,20 +1,33 @@
 //! Example asks. The function does nothing.
 
-ghost use Rattle.std.specs.Prelude.{List, [], ◌++◌};
+ghost use Rattle.std.specs.Prelude.{List, ℕ, [], ◌∷◌, ◌++◌, Option, Some, None, take, codes};
+ghost use Rattle.usbip_wire.specs.declared.submit.SubmitHead.{SubmitHead};
+ghost use Rattle.usbip_wire.specs.Up as up;
 ghost use Rattle.tmc_law.specs.Endpoint.{BulkIn};
 ghost use Rattle.tmc_law.specs.State.{State, start};
 ghost use Rattle.tmc_law.specs.Halts.{halt_answers};
+ghost use Rattle.tmc_law.specs.Put.{Put, success};
 ghost use Rattle.tmc_law.specs.Step.{Steps, Halt};
 ghost use Rattle.tmc_law.specs.Run.{Runs, inputs, outputs};
-ghost use Rattle.tmc_law.specs.WorkedQuery.{response_text, asking, answering, query_log};
+ghost use Rattle.tmc_law.specs.WorkedQuery.{response_submit, response_text, identity, asking, answering, query_log};
+ghost use Rattle.tmc_law.specs.WorkedParts.{spaces_text, spaced, sending_parts, parts_log};
+ghost use Rattle.tmc_law.specs.WorkedSession.{out_submit, answered};
 ghost use Rattle.tmc_law.specs.WorkedRead.{reading};
 ghost use Rattle.host_joint.specs.Lines.{Lines};
 ghost use Rattle.host_joint.specs.Asking.{Asking};
 ghost use Rattle.host_joint.specs.Hosted.{PieceEnd};
 ghost use Rattle.host_joint.specs.Owned.{Owned};
+ghost use Rattle.host_joint.specs.Stage.{Ran};
+ghost use Rattle.host_joint.specs.Hand.{Free};
+ghost use Rattle.host_joint.specs.Tie.{Tie};
+ghost use Rattle.host_joint.specs.WorkedTies.{telling, told, told_to, querying, queried, foreign};
 ghost use Rattle.host_joint.specs.WorkedAsks.{query_ask, read_ask, query_asked, foreign_ask};
 
-use tmc_law::worked::a_query_is_answered;
+use crate::{
+    answers_are_the_expected, asking_stays, pieces_have_no_fault, tickets_end, ties_begin,
+    ties_own, ties_stay, writes_keep_ties,
+};
+use tmc_law::worked::{a_message_comes_in_parts, a_query_is_answered};
 use tmc_law::{
     pending_submits_are_sound, runs_join, steps_act, the_log_grows, worked_runs_meet_the_laws,
 };
@@ -39,4 +52,30 @@ pub fn worked_asks_are_in_hand()
     runs_join();
     the_log_grows();
     headers_are_read_again();
+}
+
+/// A host that tells a message in two transfers is tied from power-on to the end: when it wrote the first one, when that was
+/// answered, and when the message was told, which was executed under the number of the second. A host is tied that has yet to take the response to a
+/// query; then it has the whole response, and nothing is left in its hand. A host that takes the bytes of an earlier response for its own
+/// is never tied to the device that gave them.
+pub fn worked_hosts_are_tied()
+    ensures part { Tie telling (Some (out_submit 1 112)) 2 (up.Submit (out_submit 1 112) spaces_text ∷ []) [] start }
+    ensures taken { (s : State) × Runs start (take 3 sending_parts) s × Tie telling None 2 [] [] s }
+    ensures told { Tie told None 3 [] [] told_to × Tie Free None 3 [] [] told_to × ((response : List ℕ) × Ran 2 spaced response parts_log) }
+    ensures querying { Tie querying (Some response_submit) 4 [] (answered response_submit success 32 response_text ∷ []) queried }
+    ensures queried { Tie Free None 4 [] [] queried × Ran 1 (codes "*IDN?") identity query_log }
+    ensures foreign { (waits : Option SubmitHead) (next : ℕ) (ups : List up.Message) (downs : List Put) → Tie foreign waits next ups downs queried → ⊥ }
+{
+    a_message_comes_in_parts();
+    a_query_is_answered();
+    runs_join();
+    headers_are_read_again();
+    asking_stays();
+    ties_begin();
+    ties_stay();
+    writes_keep_ties();
+    answers_are_the_expected();
+    pieces_have_no_fault();
+    tickets_end();
+    ties_own();
 }

@@ -1,10 +1,11 @@
 //! What holds of parts and pieces. Each function does nothing, and its contract is the law.
 
-ghost use Rattle.std.specs.Prelude.{◌≡◌, ℕ, ◌+◌, ◌*◌, ◌<◌, ◌≤◌, Bool, true, false, List, [], ◌∷◌, ◌++◌, length};
+ghost use Rattle.std.specs.Prelude.{◌≡◌, ℕ, ◌+◌, ◌*◌, ◌<◌, ◌≤◌, nat_le, Bool, true, false, List, [], ◌∷◌, ◌++◌, length, take, drop};
 ghost use Rattle.host_transfers.specs.declared.limits.TheConstants.{PART_MAX, REQUEST_MAX};
 ghost use Rattle.host_transfers.specs.Answer.{Answers, GoesOn, Refuses};
 ghost use Rattle.host_transfers.specs.Assembly.{Read, AreSaid, AreGood, bytes_of, given};
 ghost use Rattle.host_transfers.specs.Cut.{AreParts, AreReads};
+ghost use Rattle.host_transfers.specs.Part.{IsPart};
 ghost use Rattle.host_transfers.specs.Piece.{data_of, eom_of};
 ghost use Rattle.host_transfers.specs.Tags.{tag_behind, tag_of};
 ghost use Rattle.tmc_base.specs.declared.field.Field.{Field};
@@ -19,12 +20,15 @@ pub fn limits_are_the_products()
     ensures read { BULK_IN_SUBMIT ≡ 4096 }
 {}
 
-/// Each message has parts, and no two cuts into parts. They are as few as parts of 1,024 bytes can be.
+/// Each message has parts, and no two cuts into parts. They are as few as parts of 1,024 bytes can be. The part of a number,
+/// counted from 0, begins behind so many times 1,024 bytes, and it has EOM where the message ends with it.
 pub fn messages_are_cut_once()
     ensures some { (message : List ℕ) → 1 ≤ length message → (parts : List (List ℕ)) × AreParts parts message }
     ensures one { (parts others : List (List ℕ)) (message : List ℕ) → AreParts parts message → AreParts others message → parts ≡ others }
     ensures enough { (parts : List (List ℕ)) (message : List ℕ) → AreParts parts message → length message ≤ 1024 * length parts }
     ensures few { (parts : List (List ℕ)) (message : List ℕ) → AreParts parts message → 1024 * length parts < length message + 1024 }
+    ensures by_number { (parts : List (List ℕ)) (message : List ℕ) (count : ℕ) → AreParts parts message → PART_MAX * count < length message
+        → IsPart parts count (take PART_MAX (drop (PART_MAX * count) message)) (nat_le (length message) (PART_MAX * (count + 1))) }
 {}
 
 /// The bytes of a transfer determine the answers to its reads: with T bytes they are T / 4,096 + 1, the last one short.

@@ -1,8 +1,10 @@
-ghost use Rattle.std.specs.Prelude.{◌≤◌, length};
+ghost use Rattle.std.specs.Prelude.{◌≡◌, ◌+◌, ◌≤◌, length};
+ghost use Rattle.host_urbs.specs.Held.{HasPlace};
 
 use super::*;
 use bytes::BytesMut;
 use std::alloc::Global;
+use std::process::Abort;
 use std::test::Fail;
 use tmc_base::{Field, Layer, MemLink, Memory, Name};
 use usb_setup::{DescFault, Ends, configuration};
@@ -210,5 +212,34 @@ fn messages_until_they_are_answered(rt: HostRuntime) -> Result<(), Fail> {
         actual: 5,
     });
     assert_eq!(rt; urbs.dirs().len(), 0);
+    Ok(())
+}
+
+/// A Bulk-IN submit of this number is written.
+fn read(rt: &impl Abort, urbs: &mut Urbs, number: u32)
+    requires { HasPlace urbs.old }
+    ensures { length urbs.new.entries ≡ length urbs.old.entries + 1 }
+{
+    assert!(rt; urbs.next() == number && number < 1_000);
+    assert!(rt; urbs.outbox().len() < 1_000);
+    assert_eq!(rt; urbs.submit(Dir::In, 2, 64, [0; 8], &[]), number);
+}
+
+#[test]
+fn sixteen_are_outstanding(rt: HostRuntime) -> Result<(), Fail> {
+    let mut urbs = Urbs::new(rt.alloc(), 0x0001_0002, 3)?;
+    for number in 3..19 {
+        read(&rt, &mut urbs, number);
+    }
+    let all = urbs.outbox().len();
+    assert_eq!(rt; all, 768);
+    urbs.sent(all.saturating_sub(1));
+    assert_eq!(rt; urbs.dirs().len(), 15);
+    assert!(rt; urbs.dirs().holds(17) && !urbs.dirs().holds(18));
+    urbs.sent(urbs.outbox().len());
+    assert_eq!(rt; urbs.dirs().len(), 16);
+    for number in 3..19 {
+        assert!(rt; urbs.dirs().holds(number), "{number}");
+    }
     Ok(())
 }

@@ -1,5 +1,6 @@
 use Rattle.std.proofs.Common.{arith}
 use Rattle.host_transfers.proofs.Cuts.{some_cut, one_cut, parts_enough, parts_few}
+use Rattle.host_transfers.proofs.Parting.{is_part}
 use Rattle.host_transfers.proofs.laws.messages_are_cut_once.Goals as goal
 
 pub returns-clause-some : goal.returns-clause-some
@@ -13,3 +14,6 @@ returns-clause-enough c = parts_enough
 
 pub returns-clause-few : goal.returns-clause-few
 returns-clause-few c = parts_few
+
+pub returns-clause-by_number : goal.returns-clause-by_number
+returns-clause-by_number c = is_part

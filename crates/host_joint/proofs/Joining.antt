@@ -1,0 +1,366 @@
+-- a host and a device stay joined over a link
+use Rattle.std.proofs.Common.{◌≡◌, ◌≢◌, ◌∙◌, ◌↔◌, ℕ, ◌≤◌, Bool, true, false, cond, eqb, List, [], ◌∷◌, ◌++◌, length, Option, Some, None, refl, ap, sym, subst, append_assoc, append-nil, arith}
+use Rattle.std.proofs.lemmas.Bool.{eq-eqb, eqb-true}
+use Rattle.std.proofs.lemmas.List.{append_cancel_left}
+use Rattle.tmc_base.specs.declared.field.Field.{Field}
+use Rattle.tmc_base.specs.declared.field.Layer.{Layer}
+use Rattle.tmc_base.specs.declared.field.Layer.TheVariants.{Op}
+use Rattle.tmc_base.specs.declared.run_step.RunStep.{RunStep}
+use Rattle.tmc_base.specs.Told as told
+use Rattle.tmc_base.specs.Told.{in_bytes, out_bytes}
+use Rattle.usbip_wire.specs.declared.submit.SubmitHead.{SubmitHead}
+use Rattle.usbip_wire.specs.declared.ret_submit.RetSubmitHead.{RetSubmitHead}
+use Rattle.usbip_wire.specs.declared.dirs.Outstanding.{Outstanding}
+use Rattle.usbip_wire.specs.declared.down.DownPhase.TheVariants.{Urbs}
+use Rattle.usbip_wire.specs.Dirs.{find, submit_of}
+use Rattle.usbip_wire.specs.JudgedFields.{bytes_in}
+use Rattle.usbip_wire.specs.Urb.{fields}
+use Rattle.usbip_wire.specs.Submit.{submit_bytes}
+use Rattle.usbip_wire.specs.Unlink.{unlink_bytes}
+use Rattle.usbip_wire.specs.RetSubmit.{ret_submit_bytes, SpellsRetSubmit}
+use Rattle.usbip_wire.specs.RetUnlink.{ret_unlink_bytes}
+use Rattle.usbip_wire.specs.Up as up
+use Rattle.usbip_wire.specs.Down as down
+use Rattle.usbip_wire.specs.Down.{SpellsAnswer}
+use Rattle.usbip_wire.specs.DownFed.{BadAt}
+use Rattle.usbip_wire.specs.Stream.{InRow}
+use Rattle.usbip_wire.specs.Laws.{ArePrefixFree, AreAlone, RefusedAt, AreBadFromTheirLast}
+use Rattle.tmc_law.specs.Endpoint.{Endpoint, Control, BulkOut, BulkIn, InterruptIn, number_of}
+use Rattle.tmc_law.specs.State.{State, Plugged, Closed}
+use Rattle.tmc_law.specs.Put.{Put, Submitted, Unlinked}
+use Rattle.tmc_law.specs.AnswerFits.{AllAnswers}
+use Rattle.tmc_law.specs.Laws.{EndsOver, refusal, message_of}
+use Rattle.tmc_law.specs.Queues.{pending_most}
+use Rattle.tmc_law.specs.Step.{IsOver}
+use Rattle.tmc_law.specs.Run.{Entry, Runs, TakesAll, inputs, outputs, SpellAll, SpellsPut, Fits}
+use Rattle.host_joint.specs.Lines.{Lines, NoneNumbered, Fitting, Event, sent_to, AllFitting, unlinks_in, unlinked_by}
+use Rattle.host_joint.specs.Unlinking.{AllHeads, Rising, AreApart, total_of}
+use Rattle.host_joint.specs.Stage.{Ran}
+use Rattle.host_joint.specs.Hand.{Hand}
+use Rattle.host_joint.specs.Tie.{IsUndisturbed, asked_of, IsGood, Tie, IsGiven}
+use Rattle.host_joint.specs.Joint.{TellsCalmly, Joint, entries_for, IsNextAnswer}
+use Rattle.host_joint.proofs.Flows.{all_answered}
+use Rattle.host_joint.proofs.Tying.{none_unlinked}
+use Rattle.host_joint.proofs.Hosting.{own_event}
+use Rattle.host_joint.proofs.Given.{lines_behind}
+use Rattle.host_joint.proofs.Writing.{other_asked}
+
+-- what this asks of the laws
+pub record JointLaws : Type 0 where
+  pub tie : (run : List Entry) (hand : Hand) (waits : Option SubmitHead) (next : ℕ) (ups : List up.Message) (downs : List Put) (s t : State)
+      → Runs s run t → IsUndisturbed run → Tie hand waits next (inputs run ++ ups) downs s → Tie hand waits next ups (downs ++ outputs run) t
+  pub together : (a b : List Entry) (s m t : State) → Runs s a m → Runs m b t → Runs s (a ++ b) t
+  pub taken_together : (devid : ℕ) (a b : List Entry) (front rest : List ℕ) → TakesAll devid a front → TakesAll devid b rest → TakesAll devid (a ++ b) (front ++ rest)
+  pub ins : (a b : List Entry) → inputs (a ++ b) ≡ inputs a ++ inputs b
+  pub outs : (a b : List Entry) → outputs (a ++ b) ≡ outputs a ++ outputs b
+  pub messages : (devid : ℕ) (run : List Entry) (s t : State) (bytes : List ℕ) → Runs s run t → ((f : Field) → t.presence ≡ Closed f → ⊥)
+      → TakesAll devid run bytes ↔ SpellAll (up.Spells devid) (inputs run) bytes
+  pub over : (devid : ℕ) (run : List Entry) (s t : State) (sent received later : List ℕ) (messages : List up.Message) (f : Field) → s.presence ≡ Plugged
+      → Runs s run t → Fits devid run sent received → t.presence ≡ Closed f → SpellAll (up.Spells devid) messages (sent ++ later) → EndsOver devid s run messages f
+  pub never : (asked : Endpoint → List SubmitHead) (unlinks : List _) (head : SubmitHead) (transferred : List ℕ) (ups : List up.Message) (downs : List Put) (s : State) (f : Field)
+      → Fitting head → AreApart asked → total_of asked ≤ pending_most → Lines asked unlinks (up.Submit head transferred ∷ ups) downs s → IsOver s head f → ⊥
+  pub free : (devid : ℕ) → ArePrefixFree (up.Spells devid)
+
+-- ---- rows of messages
+
+pub row_together : {M : Type 0} (S : M → List ℕ → Type 0) (ms ns : List M) (a b : List ℕ) → InRow S ms a [] → InRow S ns b [] → InRow S (ms ++ ns) (a ++ b) []
+row_together {M} S [] ns a b p q = subst (λ (l : List ℕ). InRow S ns (l ++ b) []) (sym p) q
+row_together {M} S (m ∷ ms) ns a b (front, after, e, s, p) q =
+    (front, after ++ b, ap (λ (l : List ℕ). l ++ b) e ∙ append_assoc front after b, s, row_together S ms ns after b p q)
+
+none_front : (a b : List ℕ) → a ++ b ≡ [] → a ≡ []
+none_front [] b e = refl
+none_front (byte ∷ a) b e = absurd (cc)
+
+none_behind : (a b : List ℕ) → a ++ b ≡ [] → b ≡ []
+none_behind [] b e = e
+none_behind (byte ∷ a) b e = absurd (cc)
+
+not_empty : (devid : ℕ) (message : up.Message) → up.Spells devid message [] → ⊥
+unfolding submit_bytes unlink_bytes fields
+not_empty devid (up.Submit head transferred) spelled = let e = spelled.layout in cc
+not_empty devid (up.Unlink head) spelled = let e = spelled.layout in cc
+
+-- what stands behind some messages of a row
+rest_of : (devid : ℕ) → ArePrefixFree (up.Spells devid) → (ms ns : List up.Message) (bytes more : List ℕ) → InRow (up.Spells devid) ms bytes [] → InRow (up.Spells devid) ns (bytes ++ more) []
+    → (left : List up.Message) × (ns ≡ ms ++ left) × InRow (up.Spells devid) left more []
+rest_of devid free [] ns bytes more p q = (ns, refl, subst (λ (l : List ℕ). InRow (up.Spells devid) ns (l ++ more) []) p q)
+rest_of devid free (m ∷ ms) [] bytes more (head, after, e, s, p) q =
+    absurd (not_empty devid m (subst (λ (l : List ℕ). up.Spells devid m l) (none_front head after (sym e ∙ none_front bytes more q)) s))
+rest_of devid free (m ∷ ms) (n ∷ ns) bytes more (head, after, e, s, p) (other, behind, d, t, q) =
+    let same = free m n head other (after ++ more) behind s t (sym (append_assoc head after more) ∙ (ap (λ (l : List ℕ). l ++ more) (sym e) ∙ d)) in
+    let next = rest_of devid free ms ns after more p (subst (λ (l : List ℕ). InRow (up.Spells devid) ns l []) (sym same.2) q) in
+    (next.0, ap (λ (x : up.Message). x ∷ ns) (sym same.0) ∙ ap (λ (l : List up.Message). m ∷ l) next.1, next.2)
+
+-- ---- told steps are a run
+
+undisturbed-append : (a b : List Entry) → IsUndisturbed a → IsUndisturbed b → IsUndisturbed (a ++ b)
+undisturbed-append [] b h k = k
+undisturbed-append (x ∷ a) b h k = (h.0, h.1, undisturbed-append a b h.2 k)
+
+undisturbed_front : (a b : List Entry) → IsUndisturbed (a ++ b) → IsUndisturbed a
+undisturbed_front [] b h = tt
+undisturbed_front (x ∷ a) b h = (h.0, h.1, undisturbed_front a b h.2)
+
+pub record Told (devid : ℕ) (s : State) (more : List RunStep) (t : State) : Type 0 where
+  pub run : List Entry
+  pub goes : Runs s run t
+  pub calm : IsUndisturbed run
+  pub took : TakesAll devid run (in_bytes more)
+  pub put : SpellAll SpellsPut (outputs run) (out_bytes more)
+
+pub told_run : (laws : JointLaws) (devid : ℕ) (s : State) (more : List RunStep) (t : State) → TellsCalmly devid s more t → Told devid s more t
+told_run laws devid s [] t tells = record { run = []; goes = tells; calm = tt; took = refl; put = refl }
+told_run laws devid s (step ∷ more) t tells =
+    let first = tells.1 in
+    let rest = told_run laws devid tells.0 more t tells.2 in
+    record {
+      run = first.means.run ++ rest.run;
+      goes = laws.together first.means.run rest.run s tells.0 t first.means.goes rest.goes;
+      calm = undisturbed-append first.means.run rest.run first.calm rest.calm;
+      took = laws.taken_together devid first.means.run rest.run step.took (in_bytes more) first.means.took rest.took;
+      put = subst (λ (l : List Put). SpellAll SpellsPut l (step.put ++ out_bytes more)) (sym (laws.outs first.means.run rest.run))
+          (row_together SpellsPut (outputs first.means.run) (outputs rest.run) step.put (out_bytes more) first.means.put rest.put);
+    }
+
+pub in-append : (a b : List RunStep) → in_bytes (a ++ b) ≡ in_bytes a ++ in_bytes b
+in-append [] b = refl
+in-append (x ∷ a) b = ap (λ (l : List ℕ). x.took ++ l) (in-append a b) ∙ sym (append_assoc x.took (in_bytes a) (in_bytes b))
+
+pub out-append : (a b : List RunStep) → out_bytes (a ++ b) ≡ out_bytes a ++ out_bytes b
+out-append [] b = refl
+out-append (x ∷ a) b = ap (λ (l : List ℕ). x.put ++ l) (out-append a b) ∙ sym (append_assoc x.put (out_bytes a) (out_bytes b))
+
+-- ---- the one submit that is not answered is one that the device can take
+
+rising_asked : (waits : Option SubmitHead) (e : Endpoint) → Rising (asked_of waits e)
+rising_asked None e = tt
+rising_asked (Some head) e = by (eqb head.ep (number_of e))
+  where
+    by : (b : Bool) → Rising (cond b (head ∷ []) [])
+    by true = (tt, tt)
+    by false = tt
+
+apart_asked : (waits : Option SubmitHead) (d e : Endpoint) → d ≢ e → AllHeads (λ (head : SubmitHead). NoneNumbered head.seqnum (asked_of waits e)) (asked_of waits d)
+apart_asked None d e differ = tt
+apart_asked (Some head) d e differ = by (eqb head.ep (number_of d)) refl
+  where
+    by : (b : Bool) → eqb head.ep (number_of d) ≡ b → AllHeads (λ (x : SubmitHead). NoneNumbered x.seqnum (asked_of (Some head) e)) (cond b (head ∷ []) [])
+    by true is = (subst (λ (l : List SubmitHead). NoneNumbered head.seqnum l) (sym (other_asked d e head (eqb-true head.ep (number_of d) is) (λ same. differ (sym same)))) tt, tt)
+    by false is = tt
+
+few_asked : (waits : Option SubmitHead) (e : Endpoint) → length (asked_of waits e) ≤ 1
+few_asked None e = omega arith
+few_asked (Some head) e = by (eqb head.ep (number_of e))
+  where
+    by : (b : Bool) → length (cond b (head ∷ []) []) ≤ 1
+    by true = omega arith
+    by false = omega arith
+
+few_total : (waits : Option SubmitHead) → total_of (asked_of waits) ≤ pending_most
+few_total waits = omega (arith, few_asked waits Control, few_asked waits BulkOut, few_asked waits BulkIn, few_asked waits InterruptIn)
+
+-- ---- they stay joined
+
+-- a run that took in bytes of what was written refused none
+refused_none : (laws : JointLaws) (devid : ℕ) (hand : Hand) (waits : Option SubmitHead) (next : ℕ) (run : List Entry) (s t : State) (took rest : List ℕ) (ups : List up.Message) (downs : List Put)
+    → ((f : Field) → s.presence ≡ Closed f → ⊥) → Runs s run t → IsUndisturbed run → TakesAll devid run took → SpellAll (up.Spells devid) ups (took ++ rest) → (text : List ℕ) → SpellAll SpellsPut (outputs run) text
+    → Tie hand waits next ups downs s → (f : Field) → t.presence ≡ Closed f → ⊥
+refused_none laws devid hand waits next [] s t took rest ups downs unrefused goes calm takes spelled text put tie f closed = unrefused f (sym (ap (λ (x : State). x.presence) goes) ∙ closed)
+refused_none laws devid hand waits next (entry ∷ more) s t took rest ups downs unrefused goes calm takes spelled text put tie f closed =
+    let e = laws.over devid (entry ∷ more) s t took [] rest ups f goes.1.plugged goes
+    (record { taken_in = took; takes = takes; sent_first = ([], sym (append-nil took)); text = text; spelled = put; put = (text, refl) }) closed spelled in
+    let same : inputs (entry ∷ more) ≡ inputs e.before = ap inputs e.last ∙ laws.ins e.before (refusal devid e.refused f ∷ []) ∙ append-nil (inputs e.before) in
+    let split : ups ≡ inputs e.before ++ up.Submit e.head e.transferred ∷ e.behind = e.next ∙ ap (λ (l : List up.Message). l ++ up.Submit e.head e.transferred ∷ e.behind) same in
+    let at = laws.tie e.before hand waits next (up.Submit e.head e.transferred ∷ e.behind) downs s e.mid e.goes
+    (undisturbed_front e.before (refusal devid e.refused f ∷ []) (subst (λ (r : List Entry). IsUndisturbed r) e.last calm)) (subst (λ (l : List up.Message). Tie hand waits next l downs s) split tie) in
+    laws.never (asked_of waits) [] e.head e.transferred e.behind (downs ++ outputs e.before) e.mid f at.fitting.0
+    (record { rising = rising_asked waits; apart = apart_asked waits }) (few_total waits) at.lines e.over
+
+pub joint_goes : (laws : JointLaws) (devid : ℕ) (hand : Hand) (waits : Option SubmitHead) (next : ℕ) (written read : List ℕ) (steps more : List RunStep) (s t : State)
+    → TellsCalmly devid s more t → told.IsFront (in_bytes (steps ++ more)) written → Joint devid hand waits next written read steps s → Joint devid hand waits next written read (steps ++ more) t
+joint_goes laws devid hand waits next written read steps more s t tells front j =
+    let r = told_run laws devid s more t tells in
+    let split : j.coming ≡ in_bytes more ++ front.0 =
+    append_cancel_left (in_bytes steps) j.coming (in_bytes more ++ front.0)
+    (sym j.sent ∙ front.1 ∙ ap (λ (l : List ℕ). l ++ front.0) (in-append steps more) ∙ append_assoc (in_bytes steps) (in_bytes more) front.0) in
+    let spelled = subst (λ (l : List ℕ). SpellAll (up.Spells devid) j.ups l) split j.spelled in
+    let unrefused = refused_none laws devid hand waits next r.run s t (in_bytes more) front.0 j.ups j.downs j.accepted r.goes r.calm r.took spelled (out_bytes more) r.put j.tie in
+    let rest = rest_of devid (laws.free devid) (inputs r.run) j.ups (in_bytes more) front.0 ((laws.messages devid r.run s t (in_bytes more) r.goes unrefused).0 r.took) spelled in
+    record {
+      coming = front.0;
+      ups = rest.0;
+      sent = front.1;
+      spelled = rest.2;
+      behind = j.behind ++ out_bytes more;
+      downs = j.downs ++ outputs r.run;
+      given = out-append steps more ∙ ap (λ (l : List ℕ). l ++ out_bytes more) j.given ∙ append_assoc read j.behind (out_bytes more);
+      put = row_together SpellsPut j.downs (outputs r.run) j.behind (out_bytes more) j.put r.put;
+      accepted = unrefused;
+      tie = laws.tie r.run hand waits next rest.0 j.downs s t r.goes r.calm (subst (λ (l : List up.Message). Tie hand waits next l j.downs s) rest.1 j.tie);
+    }
+
+pub joint_ran : (laws : JointLaws)
+    → ((run : List Entry) (hand : Hand) (waits : Option SubmitHead) (next n : ℕ) (message response : List ℕ) (ups : List up.Message) (downs : List Put) (s t : State)
+    → Runs s run t → Tie hand waits next (inputs run ++ ups) downs s → Ran n message response s.log → Ran n message response t.log)
+    → (devid : ℕ) (hand : Hand) (waits : Option SubmitHead) (next n : ℕ) (message response written read : List ℕ) (steps more : List RunStep) (s t : State)
+    → TellsCalmly devid s more t → told.IsFront (in_bytes (steps ++ more)) written → Joint devid hand waits next written read steps s → Ran n message response s.log → Ran n message response t.log
+joint_ran laws keeps devid hand waits next n message response written read steps more s t tells front j ran =
+    let r = told_run laws devid s more t tells in
+    let split : j.coming ≡ in_bytes more ++ front.0 =
+    append_cancel_left (in_bytes steps) j.coming (in_bytes more ++ front.0)
+    (sym j.sent ∙ front.1 ∙ ap (λ (l : List ℕ). l ++ front.0) (in-append steps more) ∙ append_assoc (in_bytes steps) (in_bytes more) front.0) in
+    let spelled = subst (λ (l : List ℕ). SpellAll (up.Spells devid) j.ups l) split j.spelled in
+    let unrefused = refused_none laws devid hand waits next r.run s t (in_bytes more) front.0 j.ups j.downs j.accepted r.goes r.calm r.took spelled (out_bytes more) r.put j.tie in
+    let rest = rest_of devid (laws.free devid) (inputs r.run) j.ups (in_bytes more) front.0 ((laws.messages devid r.run s t (in_bytes more) r.goes unrefused).0 r.took) spelled in
+    keeps r.run hand waits next n message response rest.0 j.downs s t r.goes (subst (λ (l : List up.Message). Tie hand waits next l j.downs s) rest.1 j.tie) ran
+
+-- ---- what comes next
+
+-- nothing is on its way to a device, where no list has anything
+no_ups : (ups : List up.Message) → AllFitting ups → unlinks_in ups ≡ [] → ((e : Endpoint) → sent_to e ups ≡ []) → ups ≡ []
+no_ups [] fit none empty = refl
+no_ups (up.Unlink head ∷ ups) fit none empty = absurd (cc)
+no_ups (up.Submit head transferred ∷ ups) fit none empty = absurd (some (sym (empty fit.0.endpoint) ∙ own))
+  where
+    own : sent_to fit.0.endpoint (up.Submit head transferred ∷ ups) ≡ record { head = head; transferred = transferred } ∷ sent_to fit.0.endpoint ups
+    own = rw (eq-eqb head.ep (number_of fit.0.endpoint) fit.0.number) refl
+
+    some : {A : Type 0} {x : A} {l : List A} → [] ≡ x ∷ l → ⊥
+    some e = cc
+
+no_downs : (hand : Hand) (next : ℕ) (ups : List up.Message) (downs : List Put) (s : State) → AllAnswers IsGood downs → Lines (asked_of None) [] ups downs s → downs ≡ []
+no_downs hand next ups [] s good lines = refl
+no_downs hand next ups (Unlinked asked a ∷ downs) s good lines = absurd good.0
+no_downs hand next ups (Submitted asked a transferred ∷ downs) s good lines =
+    absurd (some (sym (all_answered (asked_of None) good.0.0.endpoint ups (Submitted asked a transferred ∷ downs) s lines refl).events ∙ own_event good.0.0.endpoint asked a transferred downs good.0.0.number))
+  where
+    some : {x : Event} {l : List Event} → [] ≡ x ∷ l → ⊥
+    some e = cc
+
+-- where an answer is on its way, it is the one to the submit, and nothing else is
+record Alone (ups : List up.Message) (head : SubmitHead) (put : Put) (downs : List Put) : Type 0 where
+  pub answer : RetSubmitHead
+  pub transferred : List ℕ
+  pub is : put ≡ Submitted head answer transferred
+  pub ups_none : ups ≡ []
+  pub downs_none : downs ≡ []
+
+alone : (hand : Hand) (head : SubmitHead) (next : ℕ) (put : Put) (ups : List up.Message) (downs : List Put) (s : State) → IsGiven hand head put next ups downs s → Tie hand (Some head) next ups (put ∷ downs) s → Alone ups head put downs
+alone hand head next put ups downs s given tie =
+    let own = subst (λ (p : Put). Tie hand (Some head) next ups (p ∷ downs) s) given.is tie in
+    let lines = lines_behind hand head given.answer given.transferred next ups downs s own in
+    record {
+      answer = given.answer;
+      transferred = given.transferred;
+      is = given.is;
+      ups_none = no_ups ups tie.fitting (none_unlinked (unlinked_by (put ∷ downs)) (unlinks_in ups) tie.lines.unlinked).1 (λ e. (all_answered (asked_of None) e ups downs s lines refl).sent);
+      downs_none = no_downs hand next ups downs s tie.good.1 lines;
+    }
+
+pub record ReadLaws : Type 0 where
+  pub given : (hand : Hand) (head : SubmitHead) (next : ℕ) (put : Put) (ups : List up.Message) (downs : List Put) (s : State) → Tie hand (Some head) next ups (put ∷ downs) s → IsGiven hand head put next ups downs s
+
+answer_not_empty : (entries : List Outstanding) (message : down.Message) → SpellsAnswer entries message [] → ⊥
+unfolding ret_submit_bytes ret_unlink_bytes fields
+answer_not_empty entries (down.RetSubmit head transferred) spelled = let e = spelled.2.layout in cc
+answer_not_empty entries (down.RetUnlink head) spelled = let e = spelled.1.layout in cc
+
+own_answer : (head : SubmitHead) (a : RetSubmitHead) (transferred bytes : List ℕ) → a.seqnum ≡ head.seqnum → SpellsRetSubmit (record { dir = head.dir; size = head.length }) a transferred bytes
+    → SpellsAnswer (entries_for (Some head)) (down.RetSubmit a transferred) bytes
+own_answer head a transferred bytes same spelled = (record { dir = head.dir; size = head.length }, found, spelled)
+  where
+    found : submit_of (find a.seqnum (entries_for (Some head))) ≡ Some (head.dir, head.length)
+    found = rw (eq-eqb head.seqnum a.seqnum (sym same)) refl
+
+spelled_put : (head : SubmitHead) (put : Put) (bytes : List ℕ) (a : RetSubmitHead) (transferred : List ℕ) → put ≡ Submitted head a transferred → a.seqnum ≡ head.seqnum → SpellsPut put bytes
+    → SpellsAnswer (entries_for (Some head)) (message_of put) bytes
+spelled_put head put bytes a transferred is same spelled =
+    subst (λ (p : Put). SpellsAnswer (entries_for (Some head)) (message_of p) bytes) (sym is) (own_answer head a transferred bytes same (subst (λ (p : Put). SpellsPut p bytes) is spelled))
+
+all_in : (written took coming : List ℕ) (devid : ℕ) (ups : List up.Message) → written ≡ took ++ coming → SpellAll (up.Spells devid) ups coming → ups ≡ [] → took ≡ written
+all_in written took coming devid ups whole spelled none =
+    let empty : coming ≡ [] = subst (λ (l : List up.Message). SpellAll (up.Spells devid) l coming) none spelled in
+    sym (whole ∙ ap (λ (l : List ℕ). took ++ l) empty ∙ append-nil took)
+
+pub next_answer : (laws : ReadLaws) → ((entries : List Outstanding) → ArePrefixFree (SpellsAnswer entries)) → (devid : ℕ) (hand : Hand) (head : SubmitHead) (next : ℕ) (written read this more : List ℕ) (message : down.Message) (steps : List RunStep) (s : State)
+    → Joint devid hand (Some head) next written read steps s → out_bytes steps ≡ read ++ (this ++ more) → SpellsAnswer (entries_for (Some head)) message this
+    → IsNextAnswer devid hand head message next written read this steps s
+next_answer laws free devid hand head next written read this more message steps s j split spelled =
+    by j.downs (append_cancel_left read j.behind (this ++ more) (sym j.given ∙ split)) j.put j.tie
+  where
+    by : (downs : List Put) → j.behind ≡ this ++ more → SpellAll SpellsPut downs j.behind → Tie hand (Some head) next j.ups downs s → IsNextAnswer devid hand head message next written read this steps s
+    by [] comes put tie = absurd (answer_not_empty (entries_for (Some head)) message (subst (λ (l : List ℕ). SpellsAnswer (entries_for (Some head)) message l) (none_front this more (sym comes ∙ put)) spelled))
+    by (put ∷ downs) comes (front, after, e, one, rest) tie =
+        let given = laws.given hand head next put j.ups downs s tie in
+        let only = alone hand head next put j.ups downs s given tie in
+        let same = free (entries_for (Some head)) message (message_of put) this front more after spelled (spelled_put head put front given.answer given.transferred given.is given.number one) (sym comes ∙ e) in
+        record {
+          put = put;
+          ups = j.ups;
+          downs = downs;
+          is = sym same.0;
+          given = given;
+          taken_in = all_in written (in_bytes steps) j.coming devid j.ups j.sent j.spelled only.ups_none;
+          later = λ hand_then tied. record {
+            coming = j.coming;
+            ups = j.ups;
+            sent = j.sent;
+            spelled = j.spelled;
+            behind = after;
+            downs = downs;
+            given = j.given ∙ ap (λ (l : List ℕ). read ++ l) (e ∙ ap (λ (l : List ℕ). l ++ after) (sym same.1)) ∙ sym (append_assoc read this after);
+            put = rest;
+            accepted = j.accepted;
+            tie = tied;
+          };
+        }
+
+none_behind_joint : (devid : ℕ) (hand : Hand) (next : ℕ) (written read : List ℕ) (steps : List RunStep) (s : State) → (j : Joint devid hand None next written read steps s) → j.behind ≡ []
+none_behind_joint devid hand next written read steps s j =
+    subst (λ (l : List Put). SpellAll SpellsPut l j.behind) (no_downs hand next j.ups j.downs s j.tie.good j.tie.lines) j.put
+
+pub all_read : (devid : ℕ) (hand : Hand) (next : ℕ) (written read : List ℕ) (steps : List RunStep) (s : State) → Joint devid hand None next written read steps s → out_bytes steps ≡ read
+all_read devid hand next written read steps s j = j.given ∙ ap (λ (l : List ℕ). read ++ l) (none_behind_joint devid hand next written read steps s j) ∙ append-nil read
+
+pub all_taken_in : (laws : ReadLaws) (devid : ℕ) (hand : Hand) (waits : Option SubmitHead) (next : ℕ) (written read : List ℕ) (steps : List RunStep) (s : State) → Joint devid hand waits next written read steps s
+    → out_bytes steps ≢ read → in_bytes steps ≡ written
+all_taken_in laws devid hand None next written read steps s j some = absurd (some (all_read devid hand next written read steps s j))
+all_taken_in laws devid hand (Some head) next written read steps s j some = by j.downs j.put j.tie
+  where
+    by : (downs : List Put) → SpellAll SpellsPut downs j.behind → Tie hand (Some head) next j.ups downs s → in_bytes steps ≡ written
+    by [] put tie = absurd (some (j.given ∙ ap (λ (l : List ℕ). read ++ l) put ∙ append-nil read))
+    by (put ∷ downs) spelled tie =
+        all_in written (in_bytes steps) j.coming devid j.ups j.sent j.spelled (alone hand head next put j.ups downs s (laws.given hand head next put j.ups downs s tie) tie).ups_none
+
+-- ---- no field of them is bad
+
+some_bytes : (layer : Layer) → bytes_in layer ≢ 0
+some_bytes Op e = cc
+some_bytes _ e = cc
+
+pub record FieldLaws : Type 0 where
+  pub alone : (entries : List Outstanding) → AreAlone (SpellsAnswer entries) (BadAt Urbs entries)
+  pub refused : (entries : List Outstanding) (rest : List ℕ) (f : Field) → BadAt Urbs entries rest f → RefusedAt (SpellsAnswer entries) rest f
+  pub stay : (entries : List Outstanding) → AreBadFromTheirLast (BadAt Urbs entries)
+
+none_bad : (laws : FieldLaws) (entries : List Outstanding) (rest : List ℕ) (f : Field) → rest ≡ [] → BadAt Urbs entries rest f → ⊥
+none_bad laws entries rest f none bad =
+    let at = laws.refused entries rest f bad in
+    let empty : at.value ≡ [] = none_front at.value at.tail (none_behind at.front (at.value ++ at.tail) (sym at.holds ∙ none)) in
+    some_bytes f.layer (sym at.whole ∙ ap (λ (l : List ℕ). length l) empty)
+
+pub never_bad : (reads : ReadLaws) (laws : FieldLaws) (devid : ℕ) (hand : Hand) (waits : Option SubmitHead) (next : ℕ) (written read rest more : List ℕ) (steps : List RunStep) (s : State) (f : Field)
+    → Joint devid hand waits next written read steps s → out_bytes steps ≡ read ++ (rest ++ more) → BadAt Urbs (entries_for waits) rest f → ⊥
+never_bad reads laws devid hand None next written read rest more steps s f j split bad =
+    none_bad laws [] rest f (none_front rest more (sym (append_cancel_left read j.behind (rest ++ more) (sym j.given ∙ split)) ∙ none_behind_joint devid hand next written read steps s j)) bad
+never_bad reads laws devid hand (Some head) next written read rest more steps s f j split bad =
+    by j.downs (append_cancel_left read j.behind (rest ++ more) (sym j.given ∙ split)) j.put j.tie
+  where
+    by : (downs : List Put) → j.behind ≡ rest ++ more → SpellAll SpellsPut downs j.behind → Tie hand (Some head) next j.ups downs s → ⊥
+    by [] comes put tie = none_bad laws (entries_for (Some head)) rest f (none_front rest more (sym comes ∙ put)) bad
+    by (put ∷ downs) comes (front, after, e, one, others) tie =
+        let given = reads.given hand head next put j.ups downs s tie in
+        let worse = ((laws.stay (entries_for (Some head)) rest more f).0 bad).0 in
+        (laws.alone (entries_for (Some head)) (rest ++ more) f worse).0 (message_of put) front after
+        (spelled_put head put front given.answer given.transferred given.is given.number one) (sym comes ∙ e)

@@ -1,0 +1,31 @@
+-- example hosts: one that tells a message of two transfers, and what has in hand one that reads the response to `*IDN?`, or that of another
+use Rattle.std.specs.Prelude.{codes, replicate, []}
+use Rattle.instr_plain.specs.Standing.{at_power_on}
+use Rattle.tmc_law.specs.State.{State, start}
+use Rattle.tmc_law.specs.WorkedQuery.{identity, query_log, response_text}
+use Rattle.tmc_law.specs.WorkedParts.{spaced, parts_log}
+use Rattle.host_joint.specs.Hand.{Hand, Says, Said, Reads}
+
+-- the first transfer of the message that is told has 100 spaces
+abbrev pub telling : Hand
+telling = Says spaced (replicate 100 32)
+
+-- its second one has `*IDN?`, and the number 2
+abbrev pub told : Hand
+told = Said 2 spaced
+
+-- the device behind the execution of that message
+abbrev pub told_to : State
+told_to = record start { log = parts_log; standing = record at_power_on { unread = identity } }
+
+-- a piece of the response to `*IDN?` was requested, and nothing of it was read
+abbrev pub querying : Hand
+querying = Reads 1 (codes "*IDN?") 2 4000 [] []
+
+-- the device behind that response
+abbrev pub queried : State
+queried = record start { log = query_log }
+
+-- a host that takes the bytes of that response for those of the response to its own message, which no device executed
+abbrev pub foreign : Hand
+foreign = Reads 4 (codes "*IDN?") 2 4000 [] response_text
