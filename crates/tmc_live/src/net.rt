@@ -1,14 +1,17 @@
 ghost use Rattle.std.specs.Prelude.{◌≡◌, ℕ, ◌≤◌, true, List, Option};
 ghost use Rattle.tmc_live.specs.Net.{Standing, Gives, Listens, TakesOne, back_after};
 
+use thiserror::Error;
 use tmc_base::Link;
 
 /// Why a call of a net gave nothing.
-#[derive(Clone, Copy, Debug, PartialEq, Eq)]
+#[derive(Clone, Copy, Debug, PartialEq, Eq, Error)]
 pub enum NetFault {
     /// The call failed, and the count of faults rose.
+    #[error("the network did not do it; check the address, a host and a port, and whether the port is free")]
     Failed,
     /// The net wants memory.
+    #[error("out of memory; free some and try again")]
     Memory,
 }
 

@@ -28,10 +28,10 @@ connections-preserved g c =
     let reached = c.connections.invariant.reached in
     let next = c.in_default-serve_next.ensures.next in record {
       reached = (
-          reached.0 ++ next.0 ∷ [],
-          omega (arith, length_more reached.0 next.0, reached.1),
-          reached_at _ c.args.address.now (c.connections.served + 1) c.args.net.now c.connections.net c.serve_next.new.net c.args.sink.now c.connections.sink c.serve_next.new.sink
-          reached.0 next.0 reached.2 (omega (arith, reached.1)) next.1,
+        reached.0 ++ next.0 ∷ [],
+        omega (arith, length_more reached.0 next.0, reached.1),
+        reached_at _ c.args.address.now (c.connections.served + 1) c.args.net.now c.connections.net c.serve_next.new.net c.args.sink.now c.connections.sink c.serve_next.new.sink
+            reached.0 next.0 reached.2 (omega (arith, reached.1)) next.1,
       );
       within = omega (arith, c.connections.invariant.within, c.connections-test.true);
       listens = c.in_default-serve_next.ensures.listens;
