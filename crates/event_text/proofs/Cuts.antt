@@ -2,8 +2,10 @@
 use Rattle.std.proofs.Common.{⊎_elim, suc, ◌-◌, ◌≡◌, ℕ, ◌+◌, ◌<◌, ◌≤◌, Bool, true, false, eqb, Some, None, List, [], ◌∷◌, length, take, drop, refl, sym, ap, ◌∙◌, subst, arith}
 use Rattle.std.proofs.lemmas.Bool.{cases_lt, cond_below, cond_above}
 use Rattle.std.proofs.lemmas.List.{take_all, take_rest}
+use Rattle.std.proofs.lemmas.List.Splits.{slice_split_first}
 use Rattle.std.specs.List.{position_or_len, position, before_first, onto_first}
-use Rattle.event_text.specs.Words.{lines_of}
+use Rattle.event_text.specs.EventLine.{if_none}
+use Rattle.event_text.specs.Words.{lines_of, words_of}
 
 abbrev at_nl : List ℕ → ℕ
 at_nl bytes = position_or_len (λ byte. eqb byte 10) bytes
@@ -80,3 +82,46 @@ before_at p bytes n e = ap (λ m. take m bytes) (sym (placed p bytes n e).0)
 
 pub before_none : (p : ℕ → Bool) (bytes : List ℕ) → position p bytes ≡ None → bytes ≡ before_first p bytes
 before_none p bytes e = sym (take_all _ _ (missing p bytes e))
+
+-- ---- a line is cut at its first space
+
+abbrev is_space : ℕ → Bool
+is_space byte = eqb byte 32
+
+pub word_at : (line : List ℕ) (n : ℕ) → position is_space line ≡ Some n → words_of line ≡ take n line ∷ words_of (take (length line - (n + 1)) (drop (n + 1) line))
+word_at line n e =
+    let at = placed is_space line n e in
+    let all : take (length line - (n + 1)) (drop (n + 1) line) ≡ drop (n + 1) line = take_rest line (n + 1) in
+    let first : words_of line ≡ take n line ∷ words_of (drop (n + 1) line) =
+    subst (λ m. words_of line ≡ take m line ∷ words_of (drop (m + 1) line)) at.0 (slice_split_first is_space line 0 (omega (arith, at.0, at.1))) in
+    rw all first
+
+word_by : (b : ℕ) (bs : List ℕ) (t : Bool) → is_space b ≡ t → (length bs ≤ position_or_len is_space bs → words_of bs ≡ bs ∷ [])
+    → length (b ∷ bs) ≤ position_or_len is_space (b ∷ bs) → words_of (b ∷ bs) ≡ (b ∷ bs) ∷ []
+word_by b bs true e again h =
+    let none : position_or_len is_space (b ∷ bs) ≡ 0 = rw e refl in
+    absurd (omega (arith, h, none))
+word_by b bs false e again h =
+    let one : position_or_len is_space (b ∷ bs) ≡ 1 + position_or_len is_space bs = rw e refl in
+    let words : words_of (b ∷ bs) ≡ onto_first b (words_of bs) = rw e refl in
+    words ∙ ap (onto_first b) (again (omega (arith, h, one)))
+
+whole_word : (line : List ℕ) → length line ≤ position_or_len is_space line → words_of line ≡ line ∷ []
+whole_word [] h = refl
+whole_word (b ∷ bs) h = word_by b bs (is_space b) refl (whole_word bs) h
+
+pub one_word : (line : List ℕ) → position is_space line ≡ None → words_of line ≡ line ∷ []
+one_word line e = whole_word line (missing is_space line e)
+
+-- a line has at least one word
+onto_some : (b : ℕ) (parts : List (List ℕ)) → if_none (onto_first b parts) ≡ None
+onto_some b [] = refl
+onto_some b (part ∷ parts) = refl
+
+some_by : (b : ℕ) (bs : List ℕ) (t : Bool) → is_space b ≡ t → if_none (words_of (b ∷ bs)) ≡ None
+some_by b bs true e = rw e refl
+some_by b bs false e = rw e (onto_some b (words_of bs))
+
+pub some_word : (line : List ℕ) → if_none (words_of line) ≡ None
+some_word [] = refl
+some_word (b ∷ bs) = some_by b bs (is_space b) refl

@@ -18,3 +18,8 @@ pub mod Joined
 pub mod Client
 pub mod Parted
 pub mod Texts
+pub mod EventsDetermined
+pub mod EventProgress
+pub mod EventAnswered
+pub mod Decoding
+pub mod Spelled

@@ -6,3 +6,6 @@ pub mod Shown
 pub mod Read
 pub mod Pieces
 pub mod Text
+pub mod EventLine
+pub mod EventScript
+pub mod EventSpelled

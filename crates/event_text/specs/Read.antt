@@ -1,6 +1,8 @@
 -- what the functions of the code gave
-use Rattle.std.specs.Prelude.{◌≡◌, ⊤, ℕ, ◌<◌, ◌≤◌, Option, Some, None, Result, Ok, Err, List, [], ◌++◌, length, take, Bool, false, nat_le, ◌&&◌, ◌∷◌}
+use Rattle.std.specs.Prelude.{◌≡◌, ⊤, ℕ, ◌<◌, ◌≤◌, Option, Some, None, Result, Ok, Err, List, [], ◌++◌, length, take, Bool, true, false, nat_le, ◌&&◌, ◌∷◌}
+use Rattle.hex.specs.Hex.{decode_of}
 use Rattle.tmc_base.specs.declared.field.Field.{Field}
+use Rattle.tmc_base.specs.declared.memory.Memory as want
 use Rattle.usbip_wire.specs.declared.dirs.Outstanding.{Outstanding}
 use Rattle.usbip_wire.specs.declared.down.Down.{Down}
 use Rattle.usbip_wire.specs.declared.down.Down.TheVariants as got
@@ -22,17 +24,25 @@ use Rattle.event_text.specs.declared.line_fault.LineWhat.{LineWhat}
 use Rattle.event_text.specs.declared.line_fault.LineWhat.TheVariants.{TooLong, TooMany}
 use Rattle.event_text.specs.declared.line_stop.LineStop.{LineStop}
 use Rattle.event_text.specs.declared.line_stop.LineStop.TheVariants.{Wrong, Memory}
+use Rattle.event_text.specs.declared.behind.Behind.{Behind}
+use Rattle.event_text.specs.declared.behind.Behind.TheVariants.{Nothing, Words}
+use Rattle.event_text.specs.declared.event.Script.{Script as event_script}
+use Rattle.event_text.specs.declared.event_line.Place.{Place}
+use Rattle.event_text.specs.declared.event_line.Said.{Said}
+use Rattle.event_text.specs.declared.event_line.Said.TheVariants.{First, Depth, Does}
 use Rattle.event_text.specs.declared.reading.Step.{Step}
 use Rattle.event_text.specs.declared.reading.Step.TheVariants.{Message, More, Bad}
 use Rattle.event_text.specs.declared.reading.Reader.{Reader}
 use Rattle.event_text.specs.declared.reading.Reader.TheVariants.{Client, Device}
 use Rattle.event_text.specs.declared.script.Line.{Line}
 use Rattle.event_text.specs.declared.script.Line.TheVariants.{Adds, Bytes}
+use Rattle.event_text.specs.EventLine.{line_said, place_behind}
 use Rattle.event_text.specs.Message as message
 use Rattle.event_text.specs.Message.{Stream, Requests, Urbs, Parts, Answers, devid}
 use Rattle.event_text.specs.Printed.{message_line, request_line, submit_line, unlink_line, part_line, ret_submit_line, ret_unlink_line, bad_line}
 use Rattle.event_text.specs.Script.{lines_most, line_most, said_fault, later_said}
 use Rattle.event_text.specs.Shown.{Standing, Stops, stopped, taken, Prints}
+use Rattle.event_text.specs.Words.{words_of, bytes_of}
 
 -- a word that begins with a digit, which is a zero only where it is alone
 abbrev pub starts_plain : List ℕ → Bool
@@ -168,3 +178,36 @@ LinePut way number line old before (Ok done) new text =
     × ((said : Line) × (later_said way number line ≡ Ok said) × ((printed : List ℕ) × Prints old said printed new × (text ≡ before ++ printed)))
 LinePut way number line old before (Err (Wrong what)) new text = said_fault old.entries (later_said way number line) ≡ Some what
 LinePut way number line old before (Err Memory) new text = ⊤
+
+-- ---- a script of events
+
+-- the words behind a word
+abbrev pub words_behind : Behind → List (List ℕ)
+words_behind Nothing = []
+words_behind (Words rest) = words_of rest.now
+
+-- a script with what one more line says
+abbrev pub with_said : event_script → Said → event_script
+with_said script (First number) = record script { first = number }
+with_said script (Depth depth) = record script { depth = depth }
+with_said script (Does event) = record script { events = script.events ++ event ∷ [] }
+
+-- a line was added, or it is refused, or memory was wanting
+abbrev pub LineTaken : Place → ℕ → List ℕ → event_script → Result Place LineStop → event_script → Type 0
+LineTaken place number line old (Ok next) new =
+    (number ≤ lines_most)
+    × ((said : Said) × (line_said place number line ≡ Ok said) × (next ≡ place_behind said) × (new ≡ with_said old said))
+LineTaken place number line old (Err (Wrong what)) new = line_said place number line ≡ Err what
+LineTaken place number line old (Err Memory) new = ⊤
+
+-- the bytes of a word were appended, or it is no HEX and nothing was; and nothing was where memory was wanting
+abbrev pub HexRead : List ℕ → List ℕ → Result Bool want.Memory → List ℕ → Type 0
+HexRead word old (Ok true) new = (bytes : List ℕ) × (bytes_of word ≡ Some bytes) × (new ≡ old ++ bytes)
+HexRead word old (Ok false) new = (bytes_of word ≡ None) × (new ≡ old)
+HexRead word old (Err memory) new = new ≡ old
+
+-- digits of either case were decoded, or the word is none such; nothing was appended then, and where memory was wanting
+abbrev pub Decoded : List ℕ → List ℕ → Result Bool want.Memory → List ℕ → Type 0
+Decoded word old (Ok true) new = (bytes : List ℕ) × (decode_of word ≡ Ok bytes) × (new ≡ old ++ bytes)
+Decoded word old (Ok false) new = ((bytes : List ℕ) → decode_of word ≡ Ok bytes → ⊥) × (new ≡ old)
+Decoded word old (Err memory) new = new ≡ old

@@ -1,15 +1,21 @@
 //! What holds of scripts. No function does anything, and its contract is the law.
 
-ghost use Rattle.std.specs.Prelude.{◌≡◌, ◌↔◌, ◌<◌, ◌^◌, ◌++◌, ℕ, List, Some};
+ghost use Rattle.std.specs.Prelude.{◌≡◌, ◌↔◌, ◌<◌, ◌^◌, ◌++◌, ℕ, List, Some, Ok};
 ghost use Rattle.std.specs.Fmt.{decimal};
 ghost use Rattle.hex.specs.Hex.{IsBytes};
-ghost use Rattle.event_text.specs.Words.{number_of, bytes_of, hex_word};
+ghost use Rattle.event_text.specs.Words.{number_of, bytes_of, hex_word, words_of};
+ghost use Rattle.tmc_law.specs.declared.dev_event.DevEvent.{DevEvent};
+ghost use Rattle.event_text.specs.declared.event.Event.{Event};
+ghost use Rattle.event_text.specs.EventLine.{dev_said, event_said};
+ghost use Rattle.event_text.specs.EventSpelled.{dev_line, event_line, DevMayStand, MayStand};
 ghost use Rattle.usbip_wire.specs.declared.urb.Dir.{Dir};
 ghost use Rattle.usbip_wire.specs.declared.urb.Dir.TheVariants.{Out};
 ghost use Rattle.event_text.specs.declared.line_fault.LineWhat.{LineWhat};
 ghost use Rattle.event_text.specs.declared.script.Line.{Line};
 ghost use Rattle.event_text.specs.declared.script.Line.TheVariants.{Bytes};
 ghost use Rattle.event_text.specs.declared.script.Phase.{Phase};
+ghost use Rattle.event_text.specs.declared.event.Script.{Script};
+ghost use Rattle.event_text.specs.EventScript.{IsEventScript, IsRefusedEvent};
 ghost use Rattle.event_text.specs.Message.{stream_of};
 ghost use Rattle.event_text.specs.Pieces.{merged, bytes_in, IsTextOf};
 ghost use Rattle.event_text.specs.Shown.{Standing, Prints, Shown, ShownOf, IsRefused};
@@ -41,6 +47,23 @@ pub fn scripts_are_determined()
     bad_fields_are_alone();
     bad_fields_stay();
 }
+
+/// A line says an event of a device, or an event, exactly where it is the line that is written of the event, and the
+/// numbers of the event may stand in a line.
+pub fn events_have_their_lines()
+    ensures dev { (line : List ℕ) (event : DevEvent) → (dev_said (words_of line) ≡ Ok event) ↔ ((line ≡ dev_line event) × DevMayStand event) }
+    ensures event { (line : List ℕ) (event : Event) → (event_said (words_of line) ≡ Ok event) ↔ ((line ≡ event_line event) × MayStand event) }
+{}
+
+/// No text is both a script of events and refused. It is at most one script, and at most one line of it is refused, for
+/// one fault.
+pub fn event_scripts_are_determined()
+    ensures script { (source : List ℕ) (script other : Script) → IsEventScript source script → IsEventScript source other → script ≡ other }
+    ensures line { (source : List ℕ) (number second : ℕ) (what other : LineWhat)
+        → IsRefusedEvent source number what → IsRefusedEvent source second other → (number ≡ second) × (what ≡ other) }
+    ensures either { (source : List ℕ) (script : Script) (number : ℕ) (what : LineWhat)
+        → IsEventScript source script → IsRefusedEvent source number what → ⊥ }
+{}
 
 /// Pieces are one text: two pieces behind one another print what they print as one. So of lines that differ only in
 /// how the bytes are cut into pieces the same text is shown, and no other. A client's text is that of the bytes of all

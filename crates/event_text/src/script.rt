@@ -9,7 +9,7 @@ ghost use Rattle.event_text.specs.Script.{phase_of, phase_said, first_words, fir
 use crate::limits::{LINE_MOST, LINES_MOST};
 use crate::line_fault::LineWhat;
 use crate::line_stop::LineStop;
-use crate::words::{is, read_hex, read_number, words};
+use crate::words::{is, octets_of, read_number, words};
 use std::alloc::Global;
 use tmc_base::{Octets, SUBMIT_MAX};
 use usbip_wire::{Dir, Outstanding};
@@ -58,7 +58,7 @@ pub(crate) fn read_later(
 }
 
 /// Refuses a line that has too many before it, or is too long.
-fn judge_size(number: u32, line: &[u8]) -> Result<(), LineWhat>
+pub(crate) fn judge_size(number: u32, line: &[u8]) -> Result<(), LineWhat>
     ensures { IsJudged number line.now result }
 {
     if number > LINES_MOST {
@@ -170,6 +170,6 @@ fn bytes_args(alloc: Global, args: &[&[u8]]) -> Result<Line, LineStop>
     let [word] = args else {
         return Err(LineStop::Wrong(LineWhat::Words));
     };
-    let piece = read_hex(alloc, word)?.ok_or(LineWhat::Hex)?;
+    let piece = octets_of(alloc, word)?.ok_or(LineWhat::Hex)?;
     Ok(Line::Bytes(piece))
 }

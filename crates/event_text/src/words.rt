@@ -1,10 +1,11 @@
 //! Lines, words, numbers and HEX.
 
-ghost use Rattle.std.specs.Prelude.{◌≡◌, ◌==◌, ◌<◌, ◌∷◌, length, map, Some, None, IfOk, string_bytes};
-ghost use Rattle.std.specs.List.{position};
+ghost use Rattle.std.specs.Prelude.{◌≡◌, ◌==◌, ◌<◌, ◌∷◌, length, map, Some, None, IfOk};
+ghost use Rattle.std.specs.Char.{is_ascii_uppercase};
+ghost use Rattle.std.specs.List.{list_any, position};
 ghost use Rattle.std.specs.Str.{bytes_eq};
-ghost use Rattle.event_text.specs.Words.{lines_of, words_of, number_of, hex_word, bytes_of};
-ghost use Rattle.event_text.specs.Read.{starts_plain};
+ghost use Rattle.event_text.specs.Words.{lines_of, words_of, number_of, bytes_of};
+ghost use Rattle.event_text.specs.Read.{starts_plain, HexRead, Decoded};
 
 use std::alloc::Global;
 use tmc_base::{Memory, Octets};
@@ -42,8 +43,9 @@ pub(crate) fn is(word: &[u8], name: &str) -> bool
     word == name.as_bytes()
 }
 
-/// The number that a word is. One word spells each number, so it is the one that is written of it.
-pub(crate) fn read_number(word: &[u8]) -> Option<u32>
+/// The number that a word is: decimal without sign or leading zero, at most 4294967295. One word spells each number, so
+/// it is the one that is written of it.
+pub fn read_number(word: &[u8]) -> Option<u32>
     ensures { result ≡ number_of word.now }
 {
     if !is_plain(word) {
@@ -69,30 +71,51 @@ fn is_plain(word: &[u8]) -> bool
     }
 }
 
-/// Bytes as one word: two lower-case digits each, and `-` where there are none.
-pub(crate) fn hex_text(alloc: Global, bytes: &[u8]) -> Result<String, Memory>
-    ensures { IfOk result (λ text. string_bytes text ≡ hex_word bytes.now) }
+/// Appends the bytes that a word is: two lower-case digits each, and `-` for none. `false` says that the word is no such
+/// HEX; then, and where memory is wanting, `out` is as before.
+pub fn read_hex(word: &[u8], out: &mut Vec<u8>) -> Result<bool, Memory>
+    ensures { HexRead word.now out.old.items result out.new.items }
 {
-    if bytes.is_empty() {
-        return Ok(String::from_str(alloc, "-")?);
+    if is(word, "-") {
+        return Ok(true);
     }
-    Ok(hex::encode(alloc, bytes)?)
+    if word.is_empty() {
+        return Ok(false);
+    }
+    if has_upper(word) {
+        return Ok(false);
+    }
+    decode_behind(word, out)
+}
+
+/// Whether a byte is an upper-case letter.
+fn has_upper(word: &[u8]) -> bool
+    ensures { result ≡ list_any is_ascii_uppercase word.now }
+{
+    word.iter().any(|byte| byte.is_ascii_uppercase())
+}
+
+/// Decodes digits of either case straight behind what `out` has.
+fn decode_behind(word: &[u8], out: &mut Vec<u8>) -> Result<bool, Memory>
+    ensures { Decoded word.now out.old.items result out.new.items }
+{
+    let start = out.len();
+    out.resize(start + word.len() / 2, 0)?;
+    match hex::decode_to_slice(word, &mut out[start..]) {
+        Ok(()) => Ok(true),
+        Err(_) => {
+            out.truncate(start);
+            Ok(false)
+        }
+    }
 }
 
 /// The bytes that a word is. One word spells them, so it is the one that is written of them.
-pub(crate) fn read_hex(alloc: Global, word: &[u8]) -> Result<Option<Octets>, Memory>
+pub(crate) fn octets_of(alloc: Global, word: &[u8]) -> Result<Option<Octets>, Memory>
     ensures { IfOk result (λ bytes. bytes ≡ bytes_of word.now) }
 {
-    if is(word, "-") {
-        return Ok(Some(Octets::new(alloc)));
-    }
-    let bytes = match hex::decode(alloc, word) {
-        Ok(bytes) => bytes,
-        Err(hex::FromHexError::OutOfMemory) => return Err(Memory),
-        Err(_) => return Ok(None),
-    };
-    let written = hex_text(alloc, &bytes)?;
-    if written.as_bytes() == word {
+    let mut bytes = Vec::new(alloc);
+    if read_hex(word, &mut bytes)? {
         Ok(Some(Octets::from(bytes)))
     } else {
         Ok(None)

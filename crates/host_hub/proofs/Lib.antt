@@ -4,6 +4,17 @@ pub mod Tickets
 pub mod Grows
 pub mod Orders
 pub mod Seen
+pub mod Booking
+pub mod Knowing
+pub mod Lengths
+pub mod Wrote
+pub mod Putting
+pub mod Begins
+pub mod Asks
+pub mod Nexts
+pub mod Parts
+pub mod Responses
+pub mod Givings
 pub mod Lawful
 pub mod Numbers
 pub mod Pasts

@@ -1,5 +1,5 @@
 -- the book as contracts see it: the tickets in their order, the entries, and the requests for service
-use Rattle.std.specs.Prelude.{◌≡◌, ℕ, ◌-◌, ◌==◌, Option, Some, None, List, [], ◌∷◌, slice_get, if◌then◌else◌}
+use Rattle.std.specs.Prelude.{◌≡◌, ◌≤◌, ℕ, ◌-◌, ◌==◌, Option, Some, None, List, [], ◌∷◌, length, slice_get, if◌then◌else◌}
 use Rattle.host_hub.specs.declared.book.BookEntry.{BookEntry}
 use Rattle.host_hub.specs.declared.kind.Kind.{Kind}
 use Rattle.host_hub.specs.declared.outcome.Outcome.{Outcome}
@@ -29,7 +29,7 @@ seen_of ticket = record {
   limit = ticket.limit;
   last = ticket.last;
   message = ticket.message;
-  bytes = ticket.bytes;
+  bytes = ticket.bytes.items;
   outcome = ticket.outcome;
 }
 
@@ -40,6 +40,11 @@ all_seen (ticket ∷ tickets) = seen_of ticket ∷ all_seen tickets
 -- the ticket of this number, where they are numbered from 1
 abbrev pub ticket_of : ℕ → List Seen → Option Seen
 ticket_of ticket tickets = if ticket == 0 then None else slice_get tickets (ticket - 1)
+
+-- there is a ticket of this number
+pub record IsTicket (book : BookSeen) (ticket : ℕ) : Type 0 where
+  pub first : 1 ≤ ticket
+  pub last : ticket ≤ length book.tickets
 
 -- the view of a ticket
 pub record Shows (ticket : ℕ) (seen : Seen) (view : View) : Type 0 where

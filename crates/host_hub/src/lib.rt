@@ -1,14 +1,19 @@
-//! The hub's record: what happened at a hub, the latest first, from which its messages, its book and its outcomes are read.
+//! The hub's record: what happened at a hub, the latest first, from which its messages, its book and its outcomes are read;
+//! and a hub without its link, as far as it asks, writes and ends.
 //!
 //! The functions of `laws` do nothing: their contracts say what holds of the definitions in `specs/`.
 #![tactic(auto)]
 
 mod answers;
+mod asking;
 mod book;
+mod ending;
 mod facts;
+mod hub_core;
 mod kind;
 mod laws;
 mod limits;
+mod notes;
 mod outcome;
 mod refusals;
 pub mod refused;
@@ -21,6 +26,7 @@ mod ties;
 mod transfers;
 mod view;
 pub mod worked;
+mod writing;
 
 pub use answers::{CancelAnswer, DropAnswer, Turn};
 pub use book::{Book, BookEntry};

@@ -23,6 +23,7 @@ use Rattle.host_joint.specs.Owned.{Owned, NothingRead, PiecesRead, PieceRead}
 use Rattle.host_joint.specs.Hand.{Hand, Free, Says, Said, Reads, Pauses}
 use Rattle.host_joint.specs.Pieces.{header_of, IsPiece, BeginsPiece}
 use Rattle.host_joint.specs.Tie.{asked_of, transfers_of, IsReading, Holds, Tie, ask_with, TakesTransfer, TakesFull, TakesLast, TakesPiece, IsGiven}
+use Rattle.host_joint.proofs.Parts.{ask_of}
 use Rattle.host_joint.proofs.Flows.{all_answered}
 use Rattle.host_joint.proofs.Booking.{submit_answered}
 use Rattle.host_joint.proofs.Owning.{has_read, stage_owns, take_own}
@@ -108,11 +109,11 @@ given_out hand later ask more head a transferred next ups downs s own same tie t
 
 -- ---- a read was answered
 
-pub owned_of : (last : ℕ) (message : List ℕ) (tag size : ℕ) (written : List Job) (answered : ℕ) (sofar read : List ℕ) (ups : List up.Message) (downs : List Put) (s : State)
-    → Asking (ask_with last message tag size written answered sofar read) ups downs s → Owned (ask_with last message tag size written answered sofar read) s
-owned_of last message tag size written answered sofar read ups downs s a =
-    stage_owns last message tag size written answered sofar read false a.past a.todo a.flow s
-    (has_read s.halted.bulk_in false a.flow read (gives (events_of BulkIn downs)) (sent_to BulkIn ups) s.bulk_in a.ins) a.stage
+pub owned_of : (last : ℕ) (message : List ℕ) (tag size : ℕ) (written : List Job) (answered : ℕ) (sofar read : List ℕ) (gone : Bool) (ups : List up.Message) (downs : List Put) (s : State)
+    → Asking (ask_of last message tag size written answered sofar read gone) ups downs s → Owned (ask_of last message tag size written answered sofar read gone) s
+owned_of last message tag size written answered sofar read gone ups downs s a =
+    stage_owns last message tag size written answered sofar read gone a.past a.todo a.flow s
+    (has_read s.halted.bulk_in gone a.flow read (gives (events_of BulkIn downs)) (sent_to BulkIn ups) s.bulk_in a.ins) a.stage
 
 pub piece_text : (laws : WireLaws) (tag size : ℕ) (eom : Bool) (carried bytes : List ℕ) → IsTag tag → 1 ≤ length carried → length carried ≤ size → size < 2 ^ 32
     → bytes ≡ in_header_bytes (header_of tag (length carried) eom) ++ (carried ++ alignment_of (length carried)) → IsPiece tag size eom carried bytes
@@ -123,11 +124,11 @@ piece_text laws tag size eom carried bytes tagged some few small is = record {
   text = subst (λ (l : List ℕ). InText (header_of tag (length carried) eom) carried l) (sym is) (is_text laws tag eom carried tagged some (omega (arith, few, small)));
 }
 
-begins_piece : (laws : WireLaws) (last : ℕ) (message : List ℕ) (tag size : ℕ) (written : List Job) (answered : ℕ) (sofar read : List ℕ) (s : State) → IsTag tag → size < 2 ^ 32 → 12 ≤ length read
-    → Owned (ask_with last message tag size written answered sofar read) s → BeginsPiece tag size read
-begins_piece laws last message tag size written answered sofar read s tagged small long (NothingRead empty none) = absurd (omega (arith, long, ap (λ (l : List ℕ). length l) none))
-begins_piece laws last message tag size written answered sofar read s tagged small long (PiecesRead response ran all none) = absurd (omega (arith, long, ap (λ (l : List ℕ). length l) none))
-begins_piece laws last message tag size written answered sofar read s tagged small long (PieceRead response carried rest ran all some fits text first) = record {
+pub begins_piece : (laws : WireLaws) (last : ℕ) (message : List ℕ) (tag size : ℕ) (written : List Job) (answered : ℕ) (sofar read : List ℕ) (gone : Bool) (s : State) → IsTag tag → size < 2 ^ 32 → 12 ≤ length read
+    → Owned (ask_of last message tag size written answered sofar read gone) s → BeginsPiece tag size read
+begins_piece laws last message tag size written answered sofar read gone s tagged small long (NothingRead empty none) = absurd (omega (arith, long, ap (λ (l : List ℕ). length l) none))
+begins_piece laws last message tag size written answered sofar read gone s tagged small long (PiecesRead response ran all none) = absurd (omega (arith, long, ap (λ (l : List ℕ). length l) none))
+begins_piece laws last message tag size written answered sofar read gone s tagged small long (PieceRead response carried rest ran all some fits text first) = record {
   eom = eqb (length carried) (length (carried ++ unread s));
   carried = carried;
   more = rest;
@@ -136,7 +137,7 @@ begins_piece laws last message tag size written answered sofar read s tagged sma
       (sym text ∙ ap (λ (l : List ℕ). in_header_bytes (header_of tag (length carried) (eqb (length carried) (length (carried ++ unread s)))) ++ (l ++ alignment_of (length carried))) (take_own carried (unread s)));
 }
 
-some_long : (l : List ℕ) → l ≢ [] → 1 ≤ length l
+pub some_long : (l : List ℕ) → l ≢ [] → 1 ≤ length l
 some_long [] some = absurd (some refl)
 some_long (x ∷ l) some = omega arith
 
@@ -152,7 +153,7 @@ given_in laws last tag size message sofar read head a transferred next ups downs
     let all : length transferred ≡ read_size = ap (λ (l : List ℕ). length l) same ∙ full in
     let later = subst (λ (l : List ℕ). Asking (ask_with last message tag size (h.front ++ h.request ∷ []) h.answered sofar (read ++ l)) ups downs s) (sym same) goes in
     let long : 12 ≤ length (read ++ transferred) = omega (arith, all, length-append read transferred) in
-    let piece = begins_piece laws last message tag size (h.front ++ h.request ∷ []) h.answered sofar (read ++ transferred) s h.tagged h.sized.1 long (owned_of last message tag size (h.front ++ h.request ∷ []) h.answered sofar (read ++ transferred) ups downs s later) in
+    let piece = begins_piece laws last message tag size (h.front ++ h.request ∷ []) h.answered sofar (read ++ transferred) false s h.tagged h.sized.1 long (owned_of last message tag size (h.front ++ h.request ∷ []) h.answered sofar (read ++ transferred) false ups downs s later) in
     record {
       answer = a;
       transferred = transferred;
@@ -233,28 +234,32 @@ given_own : (laws : WireLaws) (hand : Hand) (head : SubmitHead) (a : RetSubmitHe
     → IsGiven hand head (Submitted head a transferred) next ups downs s
 given_own laws Free head a transferred next ups downs s tie h = let e : Some head ≡ None = h.0 in absurd (cc)
 given_own laws (Says message said) head a transferred next ups downs s tie h =
-    let taken = was_taken h.last message h.tag h.size h.written h.answered [] [] ups head a transferred downs s h.out tie.out_usable h.asking in
+    let taken = was_taken h.last message h.tag h.size (h.front ++ h.job ∷ []) h.answered [] [] ups head a transferred downs s h.out tie.out_usable h.asking in
     given_out (Says message said) (Says message said) _ _ head a transferred next ups downs s h.out refl tie taken (record {
       last = h.last;
       tag = h.tag;
       size = h.size;
-      written = h.written;
+      front = h.front;
+      job = h.job;
       answered = h.answered + 1;
       asking = taken.asking;
-      counted = counts_it h.written h.answered head h.out h.counted;
+      counted = counts_it (h.front ++ h.job ∷ []) h.answered head h.out h.counted;
+      inner = h.inner;
       goes_on = h.goes_on;
       so_far = h.so_far;
       out = tt;
     })
 given_own laws (Said last message) head a transferred next ups downs s tie h =
-    let taken = was_taken last message h.tag h.size h.written h.answered [] [] ups head a transferred downs s h.out tie.out_usable h.asking in
+    let taken = was_taken last message h.tag h.size (h.front ++ h.job ∷ []) h.answered [] [] ups head a transferred downs s h.out tie.out_usable h.asking in
     given_out (Said last message) (Said last message) _ _ head a transferred next ups downs s h.out refl tie taken (record {
       tag = h.tag;
       size = h.size;
-      written = h.written;
+      front = h.front;
+      job = h.job;
       answered = h.answered + 1;
       asking = taken.asking;
-      counted = counts_it h.written h.answered head h.out h.counted;
+      counted = counts_it (h.front ++ h.job ∷ []) h.answered head h.out h.counted;
+      inner = h.inner;
       ended = h.ended;
       out = tt;
     })
@@ -280,7 +285,7 @@ given_own laws (Reads last message tag size sofar read) head a transferred next 
 given_own laws (Pauses last message sofar) head a transferred next ups downs s tie h = let e : Some head ≡ None = h.none in absurd (cc)
 
 -- it is to the one submit that is not answered
-the_one : (b : Bool) (head asked : SubmitHead) (rest : List SubmitHead) → cond b (head ∷ []) [] ≡ asked ∷ rest → asked ≡ head
+pub the_one : (b : Bool) (head asked : SubmitHead) (rest : List SubmitHead) → cond b (head ∷ []) [] ≡ asked ∷ rest → asked ≡ head
 the_one true head asked rest e = cc
 the_one false head asked rest e = absurd (cc)
 

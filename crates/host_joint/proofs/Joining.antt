@@ -38,17 +38,33 @@ use Rattle.host_joint.specs.Unlinking.{AllHeads, Rising, AreApart, total_of}
 use Rattle.host_joint.specs.Stage.{Ran}
 use Rattle.host_joint.specs.Hand.{Hand}
 use Rattle.host_joint.specs.Tie.{IsUndisturbed, asked_of, IsGood, Tie, IsGiven}
-use Rattle.host_joint.specs.Joint.{TellsCalmly, Joint, entries_for, IsNextAnswer}
+use Rattle.host_joint.specs.Asking.{StaysPlugged}
+use Rattle.host_joint.specs.Bond.{Situation, Bound}
+use Rattle.usbip_wire.specs.declared.unlink.UnlinkHead.{UnlinkHead}
+use Rattle.std.proofs.lemmas.Bool.{ne_eqb}
+use Rattle.usbip_wire.specs.Dirs.{is_unlink}
+use Rattle.host_joint.proofs.Booking.{submit_answered, unlink_answered}
+use Rattle.host_joint.proofs.Given.{the_one}
+use Rattle.host_joint.specs.Joint.{TellsBy, JointBy, Joined, entries_of, IsApart, IsNextOf, Joint, entries_for, IsNextAnswer}
 use Rattle.host_joint.proofs.Flows.{all_answered}
 use Rattle.host_joint.proofs.Tying.{none_unlinked}
 use Rattle.host_joint.proofs.Hosting.{own_event}
 use Rattle.host_joint.proofs.Given.{lines_behind}
 use Rattle.host_joint.proofs.Writing.{other_asked}
 
+-- a kind of runs: those in a row are one, and so are the first of one
+pub record IsKind (Kind : List Entry → Type 0) : Type 0 where
+  pub more : (a b : List Entry) → Kind a → Kind b → Kind (a ++ b)
+  pub front : (a b : List Entry) → Kind (a ++ b) → Kind a
+
+-- what ties the two is kept by runs of this kind, and no submit is refused
+pub record IsKept (Kind : List Entry → Type 0) (Ties : List up.Message → List Put → State → Type 0) : Type 0 where
+  pub kind : IsKind Kind
+  pub goes : (run : List Entry) (ups : List up.Message) (downs : List Put) (s t : State) → Runs s run t → Kind run → Ties (inputs run ++ ups) downs s → Ties ups (downs ++ outputs run) t
+  pub taken : (head : SubmitHead) (transferred : List ℕ) (ups : List up.Message) (downs : List Put) (s : State) (f : Field) → Ties (up.Submit head transferred ∷ ups) downs s → IsOver s head f → ⊥
+
 -- what this asks of the laws
 pub record JointLaws : Type 0 where
-  pub tie : (run : List Entry) (hand : Hand) (waits : Option SubmitHead) (next : ℕ) (ups : List up.Message) (downs : List Put) (s t : State)
-      → Runs s run t → IsUndisturbed run → Tie hand waits next (inputs run ++ ups) downs s → Tie hand waits next ups (downs ++ outputs run) t
   pub together : (a b : List Entry) (s m t : State) → Runs s a m → Runs m b t → Runs s (a ++ b) t
   pub taken_together : (devid : ℕ) (a b : List Entry) (front rest : List ℕ) → TakesAll devid a front → TakesAll devid b rest → TakesAll devid (a ++ b) (front ++ rest)
   pub ins : (a b : List Entry) → inputs (a ++ b) ≡ inputs a ++ inputs b
@@ -57,8 +73,6 @@ pub record JointLaws : Type 0 where
       → TakesAll devid run bytes ↔ SpellAll (up.Spells devid) (inputs run) bytes
   pub over : (devid : ℕ) (run : List Entry) (s t : State) (sent received later : List ℕ) (messages : List up.Message) (f : Field) → s.presence ≡ Plugged
       → Runs s run t → Fits devid run sent received → t.presence ≡ Closed f → SpellAll (up.Spells devid) messages (sent ++ later) → EndsOver devid s run messages f
-  pub never : (asked : Endpoint → List SubmitHead) (unlinks : List _) (head : SubmitHead) (transferred : List ℕ) (ups : List up.Message) (downs : List Put) (s : State) (f : Field)
-      → Fitting head → AreApart asked → total_of asked ≤ pending_most → Lines asked unlinks (up.Submit head transferred ∷ ups) downs s → IsOver s head f → ⊥
   pub free : (devid : ℕ) → ArePrefixFree (up.Spells devid)
 
 -- ---- rows of messages
@@ -94,30 +108,38 @@ rest_of devid free (m ∷ ms) (n ∷ ns) bytes more (head, after, e, s, p) (othe
 
 -- ---- told steps are a run
 
-undisturbed-append : (a b : List Entry) → IsUndisturbed a → IsUndisturbed b → IsUndisturbed (a ++ b)
+pub undisturbed-append : (a b : List Entry) → IsUndisturbed a → IsUndisturbed b → IsUndisturbed (a ++ b)
 undisturbed-append [] b h k = k
 undisturbed-append (x ∷ a) b h k = (h.0, h.1, undisturbed-append a b h.2 k)
 
-undisturbed_front : (a b : List Entry) → IsUndisturbed (a ++ b) → IsUndisturbed a
+pub undisturbed_front : (a b : List Entry) → IsUndisturbed (a ++ b) → IsUndisturbed a
 undisturbed_front [] b h = tt
 undisturbed_front (x ∷ a) b h = (h.0, h.1, undisturbed_front a b h.2)
 
-pub record Told (devid : ℕ) (s : State) (more : List RunStep) (t : State) : Type 0 where
+pub plugged-append : (a b : List Entry) → StaysPlugged a → StaysPlugged b → StaysPlugged (a ++ b)
+plugged-append [] b h k = k
+plugged-append (x ∷ a) b h k = (h.0, plugged-append a b h.1 k)
+
+pub plugged_front : (a b : List Entry) → StaysPlugged (a ++ b) → StaysPlugged a
+plugged_front [] b h = tt
+plugged_front (x ∷ a) b h = (h.0, plugged_front a b h.1)
+
+pub record Told (Kind : List Entry → Type 0) (devid : ℕ) (s : State) (more : List RunStep) (t : State) : Type 0 where
   pub run : List Entry
   pub goes : Runs s run t
-  pub calm : IsUndisturbed run
+  pub calm : Kind run
   pub took : TakesAll devid run (in_bytes more)
   pub put : SpellAll SpellsPut (outputs run) (out_bytes more)
 
-pub told_run : (laws : JointLaws) (devid : ℕ) (s : State) (more : List RunStep) (t : State) → TellsCalmly devid s more t → Told devid s more t
-told_run laws devid s [] t tells = record { run = []; goes = tells; calm = tt; took = refl; put = refl }
-told_run laws devid s (step ∷ more) t tells =
+pub told_run : (laws : JointLaws) (Kind : List Entry → Type 0) → IsKind Kind → Kind [] → (devid : ℕ) (s : State) (more : List RunStep) (t : State) → TellsBy Kind devid s more t → Told Kind devid s more t
+told_run laws Kind kind nothing devid s [] t tells = record { run = []; goes = tells; calm = nothing; took = refl; put = refl }
+told_run laws Kind kind nothing devid s (step ∷ more) t tells =
     let first = tells.1 in
-    let rest = told_run laws devid tells.0 more t tells.2 in
+    let rest = told_run laws Kind kind nothing devid tells.0 more t tells.2 in
     record {
       run = first.means.run ++ rest.run;
       goes = laws.together first.means.run rest.run s tells.0 t first.means.goes rest.goes;
-      calm = undisturbed-append first.means.run rest.run first.calm rest.calm;
+      calm = kind.more first.means.run rest.run first.calm rest.calm;
       took = laws.taken_together devid first.means.run rest.run step.took (in_bytes more) first.means.took rest.took;
       put = subst (λ (l : List Put). SpellAll SpellsPut l (step.put ++ out_bytes more)) (sym (laws.outs first.means.run rest.run))
           (row_together SpellsPut (outputs first.means.run) (outputs rest.run) step.put (out_bytes more) first.means.put rest.put);
@@ -133,7 +155,7 @@ out-append (x ∷ a) b = ap (λ (l : List ℕ). x.put ++ l) (out-append a b) ∙
 
 -- ---- the one submit that is not answered is one that the device can take
 
-rising_asked : (waits : Option SubmitHead) (e : Endpoint) → Rising (asked_of waits e)
+pub rising_asked : (waits : Option SubmitHead) (e : Endpoint) → Rising (asked_of waits e)
 rising_asked None e = tt
 rising_asked (Some head) e = by (eqb head.ep (number_of e))
   where
@@ -163,57 +185,89 @@ few_total waits = omega (arith, few_asked waits Control, few_asked waits BulkOut
 -- ---- they stay joined
 
 -- a run that took in bytes of what was written refused none
-refused_none : (laws : JointLaws) (devid : ℕ) (hand : Hand) (waits : Option SubmitHead) (next : ℕ) (run : List Entry) (s t : State) (took rest : List ℕ) (ups : List up.Message) (downs : List Put)
-    → ((f : Field) → s.presence ≡ Closed f → ⊥) → Runs s run t → IsUndisturbed run → TakesAll devid run took → SpellAll (up.Spells devid) ups (took ++ rest) → (text : List ℕ) → SpellAll SpellsPut (outputs run) text
-    → Tie hand waits next ups downs s → (f : Field) → t.presence ≡ Closed f → ⊥
-refused_none laws devid hand waits next [] s t took rest ups downs unrefused goes calm takes spelled text put tie f closed = unrefused f (sym (ap (λ (x : State). x.presence) goes) ∙ closed)
-refused_none laws devid hand waits next (entry ∷ more) s t took rest ups downs unrefused goes calm takes spelled text put tie f closed =
+refused_none : (laws : JointLaws) (Kind : List Entry → Type 0) (Ties : List up.Message → List Put → State → Type 0) → IsKept Kind Ties → (devid : ℕ) (run : List Entry) (s t : State) (took rest : List ℕ) (ups : List up.Message) (downs : List Put)
+    → ((f : Field) → s.presence ≡ Closed f → ⊥) → Runs s run t → Kind run → TakesAll devid run took → SpellAll (up.Spells devid) ups (took ++ rest) → (text : List ℕ) → SpellAll SpellsPut (outputs run) text
+    → Ties ups downs s → (f : Field) → t.presence ≡ Closed f → ⊥
+refused_none laws Kind Ties kept devid [] s t took rest ups downs unrefused goes calm takes spelled text put tie f closed = unrefused f (sym (ap (λ (x : State). x.presence) goes) ∙ closed)
+refused_none laws Kind Ties kept devid (entry ∷ more) s t took rest ups downs unrefused goes calm takes spelled text put tie f closed =
     let e = laws.over devid (entry ∷ more) s t took [] rest ups f goes.1.plugged goes
     (record { taken_in = took; takes = takes; sent_first = ([], sym (append-nil took)); text = text; spelled = put; put = (text, refl) }) closed spelled in
     let same : inputs (entry ∷ more) ≡ inputs e.before = ap inputs e.last ∙ laws.ins e.before (refusal devid e.refused f ∷ []) ∙ append-nil (inputs e.before) in
     let split : ups ≡ inputs e.before ++ up.Submit e.head e.transferred ∷ e.behind = e.next ∙ ap (λ (l : List up.Message). l ++ up.Submit e.head e.transferred ∷ e.behind) same in
-    let at = laws.tie e.before hand waits next (up.Submit e.head e.transferred ∷ e.behind) downs s e.mid e.goes
-    (undisturbed_front e.before (refusal devid e.refused f ∷ []) (subst (λ (r : List Entry). IsUndisturbed r) e.last calm)) (subst (λ (l : List up.Message). Tie hand waits next l downs s) split tie) in
-    laws.never (asked_of waits) [] e.head e.transferred e.behind (downs ++ outputs e.before) e.mid f at.fitting.0
-    (record { rising = rising_asked waits; apart = apart_asked waits }) (few_total waits) at.lines e.over
+    kept.taken e.head e.transferred e.behind (downs ++ outputs e.before) e.mid f
+    (kept.goes e.before (up.Submit e.head e.transferred ∷ e.behind) downs s e.mid e.goes
+    (kept.kind.front e.before (refusal devid e.refused f ∷ []) (subst (λ (r : List Entry). Kind r) e.last calm)) (subst (λ (l : List up.Message). Ties l downs s) split tie)) e.over
 
-pub joint_goes : (laws : JointLaws) (devid : ℕ) (hand : Hand) (waits : Option SubmitHead) (next : ℕ) (written read : List ℕ) (steps more : List RunStep) (s t : State)
-    → TellsCalmly devid s more t → told.IsFront (in_bytes (steps ++ more)) written → Joint devid hand waits next written read steps s → Joint devid hand waits next written read (steps ++ more) t
-joint_goes laws devid hand waits next written read steps more s t tells front j =
-    let r = told_run laws devid s more t tells in
+-- what the device takes in of what was written
+record Split (laws : JointLaws) (Kind : List Entry → Type 0) (Ties : List up.Message → List Put → State → Type 0) (devid : ℕ) (more : List RunStep) (rest : List ℕ) (downs : List Put) (s t : State) : Type 0 where
+  pub told : Told Kind devid s more t
+  pub left : List up.Message
+  pub spelled : SpellAll (up.Spells devid) left rest
+  pub tie : Ties (inputs told.run ++ left) downs s
+  pub accepted : (f : Field) → t.presence ≡ Closed f → ⊥
+
+splits : (laws : JointLaws) (Kind : List Entry → Type 0) (Ties : List up.Message → List Put → State → Type 0) → IsKept Kind Ties → Kind [] → (devid : ℕ) (written read : List ℕ) (steps more : List RunStep) (s t : State)
+    → TellsBy Kind devid s more t → (front : told.IsFront (in_bytes (steps ++ more)) written) → (j : JointBy Ties devid written read steps s) → Split laws Kind Ties devid more front.0 j.downs s t
+splits laws Kind Ties kept nothing devid written read steps more s t tells front j =
+    let r = told_run laws Kind kept.kind nothing devid s more t tells in
     let split : j.coming ≡ in_bytes more ++ front.0 =
     append_cancel_left (in_bytes steps) j.coming (in_bytes more ++ front.0)
     (sym j.sent ∙ front.1 ∙ ap (λ (l : List ℕ). l ++ front.0) (in-append steps more) ∙ append_assoc (in_bytes steps) (in_bytes more) front.0) in
     let spelled = subst (λ (l : List ℕ). SpellAll (up.Spells devid) j.ups l) split j.spelled in
-    let unrefused = refused_none laws devid hand waits next r.run s t (in_bytes more) front.0 j.ups j.downs j.accepted r.goes r.calm r.took spelled (out_bytes more) r.put j.tie in
+    let unrefused = refused_none laws Kind Ties kept devid r.run s t (in_bytes more) front.0 j.ups j.downs j.accepted r.goes r.calm r.took spelled (out_bytes more) r.put j.tie in
     let rest = rest_of devid (laws.free devid) (inputs r.run) j.ups (in_bytes more) front.0 ((laws.messages devid r.run s t (in_bytes more) r.goes unrefused).0 r.took) spelled in
+    record { told = r; left = rest.0; spelled = rest.2; tie = subst (λ (l : List up.Message). Ties l j.downs s) rest.1 j.tie; accepted = unrefused }
+
+pub joint_goes : (laws : JointLaws) (Kind : List Entry → Type 0) (Ties : List up.Message → List Put → State → Type 0) → IsKept Kind Ties → Kind [] → (devid : ℕ) (written read : List ℕ) (steps more : List RunStep) (s t : State)
+    → TellsBy Kind devid s more t → told.IsFront (in_bytes (steps ++ more)) written → JointBy Ties devid written read steps s → JointBy Ties devid written read (steps ++ more) t
+joint_goes laws Kind Ties kept nothing devid written read steps more s t tells front j =
+    let x = splits laws Kind Ties kept nothing devid written read steps more s t tells front j in
     record {
       coming = front.0;
-      ups = rest.0;
+      ups = x.left;
       sent = front.1;
-      spelled = rest.2;
+      spelled = x.spelled;
       behind = j.behind ++ out_bytes more;
-      downs = j.downs ++ outputs r.run;
+      downs = j.downs ++ outputs x.told.run;
       given = out-append steps more ∙ ap (λ (l : List ℕ). l ++ out_bytes more) j.given ∙ append_assoc read j.behind (out_bytes more);
-      put = row_together SpellsPut j.downs (outputs r.run) j.behind (out_bytes more) j.put r.put;
-      accepted = unrefused;
-      tie = laws.tie r.run hand waits next rest.0 j.downs s t r.goes r.calm (subst (λ (l : List up.Message). Tie hand waits next l j.downs s) rest.1 j.tie);
+      put = row_together SpellsPut j.downs (outputs x.told.run) j.behind (out_bytes more) j.put x.told.put;
+      accepted = x.accepted;
+      tie = kept.goes x.told.run x.left j.downs s t x.told.goes x.told.calm x.tie;
     }
 
-pub joint_ran : (laws : JointLaws)
-    → ((run : List Entry) (hand : Hand) (waits : Option SubmitHead) (next n : ℕ) (message response : List ℕ) (ups : List up.Message) (downs : List Put) (s t : State)
-    → Runs s run t → Tie hand waits next (inputs run ++ ups) downs s → Ran n message response s.log → Ran n message response t.log)
-    → (devid : ℕ) (hand : Hand) (waits : Option SubmitHead) (next n : ℕ) (message response written read : List ℕ) (steps more : List RunStep) (s t : State)
-    → TellsCalmly devid s more t → told.IsFront (in_bytes (steps ++ more)) written → Joint devid hand waits next written read steps s → Ran n message response s.log → Ran n message response t.log
-joint_ran laws keeps devid hand waits next n message response written read steps more s t tells front j ran =
-    let r = told_run laws devid s more t tells in
-    let split : j.coming ≡ in_bytes more ++ front.0 =
-    append_cancel_left (in_bytes steps) j.coming (in_bytes more ++ front.0)
-    (sym j.sent ∙ front.1 ∙ ap (λ (l : List ℕ). l ++ front.0) (in-append steps more) ∙ append_assoc (in_bytes steps) (in_bytes more) front.0) in
-    let spelled = subst (λ (l : List ℕ). SpellAll (up.Spells devid) j.ups l) split j.spelled in
-    let unrefused = refused_none laws devid hand waits next r.run s t (in_bytes more) front.0 j.ups j.downs j.accepted r.goes r.calm r.took spelled (out_bytes more) r.put j.tie in
-    let rest = rest_of devid (laws.free devid) (inputs r.run) j.ups (in_bytes more) front.0 ((laws.messages devid r.run s t (in_bytes more) r.goes unrefused).0 r.took) spelled in
-    keeps r.run hand waits next n message response rest.0 j.downs s t r.goes (subst (λ (l : List up.Message). Tie hand waits next l j.downs s) rest.1 j.tie) ran
+pub joint_ran : (laws : JointLaws) (Kind : List Entry → Type 0) (Ties : List up.Message → List Put → State → Type 0) → IsKept Kind Ties → Kind [] → (n : ℕ) (message response : List ℕ)
+    → ((run : List Entry) (ups : List up.Message) (downs : List Put) (s t : State) → Runs s run t → Ties (inputs run ++ ups) downs s → Ran n message response s.log → Ran n message response t.log)
+    → (devid : ℕ) (written read : List ℕ) (steps more : List RunStep) (s t : State)
+    → TellsBy Kind devid s more t → told.IsFront (in_bytes (steps ++ more)) written → JointBy Ties devid written read steps s → Ran n message response s.log → Ran n message response t.log
+joint_ran laws Kind Ties kept nothing n message response keeps devid written read steps more s t tells front j ran =
+    let x = splits laws Kind Ties kept nothing devid written read steps more s t tells front j in
+    keeps x.told.run x.left j.downs s t x.told.goes x.tie ran
+
+-- the two that are kept
+
+abbrev pub Never : Type 0
+Never =
+    (asked : Endpoint → List SubmitHead) (unlinks : List UnlinkHead) (head : SubmitHead) (transferred : List ℕ) (ups : List up.Message) (downs : List Put) (s : State) (f : Field)
+    → Fitting head → AreApart asked → total_of asked ≤ pending_most → Lines asked unlinks (up.Submit head transferred ∷ ups) downs s → IsOver s head f → ⊥
+
+pub tie_kept : ((run : List Entry) (hand : Hand) (waits : Option SubmitHead) (next : ℕ) (ups : List up.Message) (downs : List Put) (s t : State)
+    → Runs s run t → IsUndisturbed run → Tie hand waits next (inputs run ++ ups) downs s → Tie hand waits next ups (downs ++ outputs run) t)
+    → Never → (hand : Hand) (waits : Option SubmitHead) (next : ℕ) → IsKept IsUndisturbed (λ ups downs t. Tie hand waits next ups downs t)
+tie_kept stays never hand waits next = record {
+  kind = record { more = undisturbed-append; front = undisturbed_front };
+  goes = λ run ups downs s t goes calm tie. stays run hand waits next ups downs s t goes calm tie;
+  taken = λ head transferred ups downs s f tie over. never (asked_of waits) [] head transferred ups downs s f tie.fitting.0 (record { rising = rising_asked waits; apart = apart_asked waits }) (few_total waits) tie.lines over;
+}
+
+pub bound_kept : ((situation : Situation) (run : List Entry) (waits : Option SubmitHead) (unlinks : List UnlinkHead) (next : ℕ) (ups : List up.Message) (downs : List Put) (s t : State)
+    → Runs s run t → StaysPlugged run → Bound situation waits unlinks next (inputs run ++ ups) downs s → Bound situation waits unlinks next ups (downs ++ outputs run) t)
+    → Never → (situation : Situation) (waits : Option SubmitHead) (unlinks : List UnlinkHead) (next : ℕ) → IsKept StaysPlugged (λ ups downs t. Bound situation waits unlinks next ups downs t)
+bound_kept stays never situation waits unlinks next = record {
+  kind = record { more = plugged-append; front = plugged_front };
+  goes = λ run ups downs s t goes calm bound. stays situation run waits unlinks next ups downs s t goes calm bound;
+  taken = λ head transferred ups downs s f bound over.
+      never (asked_of waits) unlinks head transferred ups downs s f bound.bond.fitting.0 (record { rising = rising_asked waits; apart = apart_asked waits }) (few_total waits) bound.bond.lines over;
+}
 
 -- ---- what comes next
 
@@ -364,3 +418,108 @@ never_bad reads laws devid hand (Some head) next written read rest more steps s 
         let worse = ((laws.stay (entries_for (Some head)) rest more f).0 bad).0 in
         (laws.alone (entries_for (Some head)) (rest ++ more) f worse).0 (message_of put) front after
         (spelled_put head put front given.answer given.transferred given.is given.number one) (sym comes ∙ e)
+
+-- ---- behind a cancel
+
+-- one more message was written, or none
+pub writes_on : (Before After : List up.Message → List Put → State → Type 0) (devid : ℕ) (message : up.Message) (text written read : List ℕ) (steps : List RunStep) (s : State) → up.Spells devid message text
+    → ((ups : List up.Message) (downs : List Put) → Before ups downs s → After (ups ++ message ∷ []) downs s) → JointBy Before devid written read steps s → JointBy After devid (written ++ text) read steps s
+writes_on Before After devid message text written read steps s spelled goes j = record {
+  coming = j.coming ++ text;
+  ups = j.ups ++ message ∷ [];
+  sent = ap (λ (l : List ℕ). l ++ text) j.sent ∙ append_assoc (in_bytes steps) j.coming text;
+  spelled = row_together (up.Spells devid) j.ups (message ∷ []) j.coming text j.spelled (text, [], sym (append-nil text), spelled, refl);
+  behind = j.behind;
+  downs = j.downs;
+  given = j.given;
+  put = j.put;
+  accepted = j.accepted;
+  tie = goes j.ups j.downs j.tie;
+}
+
+pub goes_on : (Before After : List up.Message → List Put → State → Type 0) (devid : ℕ) (written read : List ℕ) (steps : List RunStep) (s : State)
+    → ((ups : List up.Message) (downs : List Put) → Before ups downs s → After ups downs s) → JointBy Before devid written read steps s → JointBy After devid written read steps s
+goes_on Before After devid written read steps s goes j = record {
+  coming = j.coming;
+  ups = j.ups;
+  sent = j.sent;
+  spelled = j.spelled;
+  behind = j.behind;
+  downs = j.downs;
+  given = j.given;
+  put = j.put;
+  accepted = j.accepted;
+  tie = goes j.ups j.downs j.tie;
+}
+
+-- the first answer is to one of those that are not answered
+first_asked : {B : Type 0} (asked : SubmitHead) (rest : List SubmitHead) → [] ≡ asked ∷ rest → B
+first_asked asked rest e = absurd (cc)
+
+unlink_found : (waits : Option SubmitHead) (unlink : UnlinkHead) (rest : List UnlinkHead) → IsApart waits (unlink ∷ rest) → is_unlink (find unlink.seqnum (entries_of waits (unlink ∷ rest))) ≡ true
+unlink_found None unlink rest apart = rw (eq-eqb unlink.seqnum unlink.seqnum refl) refl
+unlink_found (Some head) unlink rest apart = rw (ne_eqb head.seqnum unlink.seqnum apart.0) (rw (eq-eqb unlink.seqnum unlink.seqnum refl) refl)
+
+submit_found : (head : SubmitHead) (unlinks : List UnlinkHead) (a : RetSubmitHead) (transferred bytes : List ℕ) → a.seqnum ≡ head.seqnum → SpellsRetSubmit (record { dir = head.dir; size = head.length }) a transferred bytes
+    → SpellsAnswer (entries_of (Some head) unlinks) (down.RetSubmit a transferred) bytes
+submit_found head unlinks a transferred bytes same spelled = (record { dir = head.dir; size = head.length }, found, spelled)
+  where
+    found : submit_of (find a.seqnum (entries_of (Some head) unlinks)) ≡ Some (head.dir, head.length)
+    found = rw (eq-eqb head.seqnum a.seqnum (sym same)) refl
+
+first_spelled : (situation : Situation) (waits : Option SubmitHead) (unlinks : List UnlinkHead) (next : ℕ) (put : Put) (ups : List up.Message) (downs : List Put) (s : State) (bytes : List ℕ) → IsApart waits unlinks
+    → Bound situation waits unlinks next ups (put ∷ downs) s → SpellsPut put bytes → SpellsAnswer (entries_of waits unlinks) (message_of put) bytes
+first_spelled situation None unlinks next (Submitted asked a transferred) ups downs s bytes apart bound spelled =
+    first_asked asked _ (submit_answered (asked_of None) unlinks ups asked a transferred downs s bound.bond.fits.0.0.endpoint bound.bond.fits.0.0.number bound.bond.lines).1
+first_spelled situation (Some head) unlinks next (Submitted asked a transferred) ups downs s bytes apart bound spelled =
+    let fits = bound.bond.fits.0.0 in
+    let same = the_one (eqb head.ep (number_of fits.endpoint)) head asked _ (submit_answered (asked_of (Some head)) unlinks ups asked a transferred downs s fits.endpoint fits.number bound.bond.lines).1 in
+    submit_found head unlinks a transferred bytes (bound.bond.fits.0.1.number ∙ ap (λ (x : SubmitHead). x.seqnum) same)
+    (subst (λ (x : SubmitHead). SpellsRetSubmit (record { dir = x.dir; size = x.length }) a transferred bytes) same spelled)
+first_spelled situation waits unlinks next (Unlinked asked a) ups downs s bytes apart bound spelled =
+    let taken = unlink_answered (asked_of waits) unlinks ups asked a downs s bound.bond.lines in
+    let found = unlink_found waits asked taken.0 (subst (λ (l : List UnlinkHead). IsApart waits l) taken.1 apart) in (
+      subst (λ (n : ℕ). is_unlink (find n (entries_of waits unlinks)) ≡ true) (sym bound.bond.fits.0.number) (subst (λ (l : List UnlinkHead). is_unlink (find asked.seqnum (entries_of waits l)) ≡ true) (sym taken.1) found),
+      spelled,
+    )
+
+pub next_of : ((entries : List Outstanding) → ArePrefixFree (SpellsAnswer entries)) → (devid : ℕ) (situation : Situation) (waits : Option SubmitHead) (unlinks : List UnlinkHead) (next : ℕ) (written read this more : List ℕ) (message : down.Message) (steps : List RunStep) (s : State)
+    → IsApart waits unlinks → Joined devid situation waits unlinks next written read steps s → out_bytes steps ≡ read ++ (this ++ more) → SpellsAnswer (entries_of waits unlinks) message this
+    → IsNextOf devid situation waits unlinks message next written read this steps s
+next_of free devid situation waits unlinks next written read this more message steps s apart j split spelled =
+    by j.downs (append_cancel_left read j.behind (this ++ more) (sym j.given ∙ split)) j.put j.tie
+  where
+    by : (downs : List Put) → j.behind ≡ this ++ more → SpellAll SpellsPut downs j.behind → Bound situation waits unlinks next j.ups downs s → IsNextOf devid situation waits unlinks message next written read this steps s
+    by [] comes put bound = absurd (answer_not_empty (entries_of waits unlinks) message (subst (λ (l : List ℕ). SpellsAnswer (entries_of waits unlinks) message l) (none_front this more (sym comes ∙ put)) spelled))
+    by (put ∷ downs) comes (front, after, e, one, rest) bound =
+        let same = free (entries_of waits unlinks) message (message_of put) this front more after spelled (first_spelled situation waits unlinks next put j.ups downs s front apart bound one) (sym comes ∙ e) in
+        record {
+          put = put;
+          ups = j.ups;
+          downs = downs;
+          is = sym same.0;
+          bound = bound;
+          later = λ then_at left others then_bound. record {
+            coming = j.coming;
+            ups = j.ups;
+            sent = j.sent;
+            spelled = j.spelled;
+            behind = after;
+            downs = downs;
+            given = j.given ∙ ap (λ (l : List ℕ). read ++ l) (e ∙ ap (λ (l : List ℕ). l ++ after) (sym same.1)) ∙ sym (append_assoc read this after);
+            put = rest;
+            accepted = j.accepted;
+            tie = then_bound;
+          };
+        }
+
+pub never_bad_bound : (laws : FieldLaws) (devid : ℕ) (situation : Situation) (waits : Option SubmitHead) (unlinks : List UnlinkHead) (next : ℕ) (written read rest more : List ℕ) (steps : List RunStep) (s : State) (f : Field)
+    → IsApart waits unlinks → Joined devid situation waits unlinks next written read steps s → out_bytes steps ≡ read ++ (rest ++ more) → BadAt Urbs (entries_of waits unlinks) rest f → ⊥
+never_bad_bound laws devid situation waits unlinks next written read rest more steps s f apart j split bad =
+    by j.downs (append_cancel_left read j.behind (rest ++ more) (sym j.given ∙ split)) j.put j.tie
+  where
+    by : (downs : List Put) → j.behind ≡ rest ++ more → SpellAll SpellsPut downs j.behind → Bound situation waits unlinks next j.ups downs s → ⊥
+    by [] comes put bound = none_bad laws (entries_of waits unlinks) rest f (none_front rest more (sym comes ∙ put)) bad
+    by (put ∷ downs) comes (front, after, e, one, others) bound =
+        let worse = ((laws.stay (entries_of waits unlinks) rest more f).0 bad).0 in
+        (laws.alone (entries_of waits unlinks) (rest ++ more) f worse).0 (message_of put) front after (first_spelled situation waits unlinks next put j.ups downs s front apart bound one) (sym comes ∙ e)

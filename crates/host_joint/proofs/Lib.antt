@@ -32,3 +32,6 @@ mod Ending
 mod Joining
 mod Tied
 mod Ahead
+mod Bonding
+mod Cancelling
+mod Recovering

@@ -95,11 +95,11 @@ below_more : (n : ℕ) (l : List ℕ) → AllBelow n l → AllBelow (n + 1) (l +
 below_more n [] h = (omega arith, tt)
 below_more n (x ∷ l) h = (omega (arith, h.0), below_more n l h.1)
 
-below_next : (n : ℕ) (l : List ℕ) → AllBelow n l → AllBelow (n + 1) l
+pub below_next : (n : ℕ) (l : List ℕ) → AllBelow n l → AllBelow (n + 1) l
 below_next n [] h = tt
 below_next n (x ∷ l) h = (omega (arith, h.0), below_next n l h.1)
 
-coming_more : (head : SubmitHead) (transferred : List ℕ) (messages : List up.Message)
+pub coming_more : (head : SubmitHead) (transferred : List ℕ) (messages : List up.Message)
     → coming_out (messages ++ up.Submit head transferred ∷ []) ≡ coming_out messages ++ cond (eqb head.ep 1) (head.seqnum ∷ []) []
 coming_more head transferred [] = refl
 coming_more head transferred (up.Unlink x ∷ messages) = coming_more head transferred messages

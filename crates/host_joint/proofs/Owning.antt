@@ -156,7 +156,7 @@ read_of flow read (ReadOver bytes rest over whole) = (rest, ap bytes_of over ∙
 read_of flow read (ReadTorn bytes rest torn whole) = (rest, ap bytes_of torn ∙ whole)
 
 -- where nothing of a piece was given, nothing of it was read
-none_of : (flow : Flow) (read : List ℕ) → flow ≡ Still → HasRead flow read → read ≡ []
+pub none_of : (flow : Flow) (read : List ℕ) → flow ≡ Still → HasRead flow read → read ≡ []
 none_of flow read still has = let own = read_of flow read has in nothing read own.0 (sym (ap bytes_of still) ∙ own.1)
   where
     nothing : (a b : List ℕ) → [] ≡ a ++ b → a ≡ []

@@ -1,5 +1,5 @@
 -- what a host settles while nothing of its ask is on its way
-use Rattle.std.proofs.Common.{◌≡◌, ◌≢◌, ◌∙◌, ℕ, ◌+◌, Bool, false, List, [], ◌∷◌, ◌++◌, length, Option, Some, refl, ap, sym, subst}
+use Rattle.std.proofs.Common.{◌≡◌, ◌≢◌, ◌∙◌, ℕ, ◌+◌, Bool, false, true, List, [], ◌∷◌, ◌++◌, length, length-append, arith, Option, Some, refl, ap, sym, subst}
 use Rattle.usbip_wire.specs.Up as up
 use Rattle.tmc_wire.specs.declared.header.OutHeader.TheVariants.{Request}
 use Rattle.tmc_law.specs.Endpoint.{BulkOut, BulkIn}
@@ -11,6 +11,11 @@ use Rattle.host_joint.specs.Reads as reads
 use Rattle.host_joint.specs.Reads.{Flow, Still, Giving, Over, InLine, gives}
 use Rattle.host_joint.specs.Stage.{NoExec, IsAnother, NoneComes, Stage, Follows, Gathers, Waits, Rests, Owes, Sends, Sent, Tears, Barred, Dropped, IsInner}
 use Rattle.host_joint.specs.Asking.{Ask, Asking}
+use Rattle.usbip_wire.specs.declared.submit.SubmitHead.{SubmitHead}
+use Rattle.usbip_wire.specs.declared.ret_submit.RetSubmitHead.{RetSubmitHead}
+use Rattle.tmc_law.specs.Put.{stalled}
+use Rattle.host_joint.specs.Lines.{Gives}
+use Rattle.host_joint.proofs.Owning.{NextRead, FullCame, ShortCame, HaltCame, next_read, HasRead, has_read, none_of as still_none}
 use Rattle.host_joint.proofs.Counting.{all_past}
 use Rattle.host_joint.proofs.Hosting.{inner_final, inner_request, unasked}
 use Rattle.host_joint.proofs.Handing.{none_front, no_last}
@@ -88,7 +93,7 @@ last_set ask last ups downs s inner nothing all new other a =
 
 -- ---- behind the unlinks of reads that were left over
 
-still_flow : (last : ℕ) (message : List ℕ) (tag size : ℕ) (past todo : List Job) (sofar : List ℕ) (flow : Flow) (s : State) → past ≡ [] → sofar ≢ [] → Stage last message tag size past todo sofar flow s → flow ≡ Still
+pub still_flow : (last : ℕ) (message : List ℕ) (tag size : ℕ) (past todo : List Job) (sofar : List ℕ) (flow : Flow) (s : State) → past ≡ [] → sofar ≢ [] → Stage last message tag size past todo sofar flow s → flow ≡ Still
 still_flow last message tag size past todo sofar flow s none some (Follows seq earlier waits other part idle log empty still carries at) = still
 still_flow last message tag size past todo sofar flow s none some (Gathers done rest whole waits part idle log empty still carries at own) = still
 still_flow last message tag size past todo sofar flow s none some (Waits waits part idle log empty still asks at) = still
@@ -144,3 +149,19 @@ unlinks_over ask ups downs s none some over a =
       reads = a.reads;
       calm = record { control = a.calm.control; none_comes = a.calm.none_comes; running = a.calm.running; unlinks = λ e. over };
     }
+
+-- where no piece has begun, a read is answered by a halt alone
+pub still_read : (shut gone : Bool) (flow : Flow) (read : List ℕ) (head : SubmitHead) (a : RetSubmitHead) (transferred : List ℕ) (events : List Event) (coming : List OnWay) (queue : List Pending) → flow ≡ Still
+    → InLine shut gone flow read (Gives head a transferred ∷ events) coming queue → (shut ≡ true) × (a.status ≡ stalled)
+still_read shut gone flow read head a transferred events coming queue still line = by (next_read shut gone flow read (Gives head a transferred) events coming queue line) (has_read shut gone flow read (Gives head a transferred ∷ events) coming queue line)
+  where
+    by : NextRead shut gone flow read (Gives head a transferred) events coming queue → HasRead flow read → (shut ≡ true) × (a.status ≡ stalled)
+    by (HaltCame shuts halted later) has = (shuts, halted.0)
+    by (ShortCame x bytes is small over whole later) has = let e : Still ≡ Over bytes = sym still ∙ over in absurd (cc)
+    by (FullCame x is full later) has = absurd (not_full later)
+      where
+        not_full : InLine shut gone flow (read ++ x.bytes) events coming queue → ⊥
+        not_full l = full_none (still_none flow (read ++ x.bytes) still (has_read shut gone flow (read ++ x.bytes) events coming queue l))
+          where
+            full_none : read ++ x.bytes ≡ [] → ⊥
+            full_none e = omega (arith, full, ap (λ (k : List ℕ). length k) e, length-append read x.bytes)

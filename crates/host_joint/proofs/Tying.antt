@@ -65,11 +65,11 @@ unlinks_taken _ ups none = refl
 
 -- ---- the answers of a step
 
-stands_at : (e : Endpoint) (before : List Pending) (submit : Pending) (behind : List Pending) → AllFit e (before ++ submit ∷ behind) → FitsAt e submit
+pub stands_at : (e : Endpoint) (before : List Pending) (submit : Pending) (behind : List Pending) → AllFit e (before ++ submit ∷ behind) → FitsAt e submit
 stands_at e [] submit behind h = h.0
 stands_at e (x ∷ before) submit behind h = stands_at e before submit behind h.1
 
-arriving_fits : (head : SubmitHead) (transferred : List ℕ) (move : Move) (ups : List up.Message) → move ≡ Comes (up.Submit head transferred) → AllFitting (taken move ++ ups) → Fitting head
+pub arriving_fits : (head : SubmitHead) (transferred : List ℕ) (move : Move) (ups : List up.Message) → move ≡ Comes (up.Submit head transferred) → AllFitting (taken move ++ ups) → Fitting head
 arriving_fits head transferred move ups is h = (subst (λ (m : Move). AllFitting (taken m ++ ups)) is h).0
 
 no_unlink : {B : Type 0} (head : UnlinkHead) (move : Move) (ups : List up.Message) → move ≡ Comes (up.Unlink head) → unlinks_in (taken move ++ ups) ≡ [] → B
@@ -215,10 +215,12 @@ held_step laws (Says message said) waits next ups downs puts s t move calm none 
     last = h.last;
     tag = h.tag;
     size = h.size;
-    written = h.written;
+    front = h.front;
+    job = h.job;
     answered = h.answered;
     asking = asking_held laws _ tie.run s t move ups downs puts tie.reached calm tie.fitting none h.asking;
     counted = h.counted;
+    inner = h.inner;
     goes_on = h.goes_on;
     so_far = h.so_far;
     out = h.out;
@@ -230,10 +232,12 @@ held_step laws (Said last message) waits next ups downs puts s t move calm none 
   held = record {
     tag = h.tag;
     size = h.size;
-    written = h.written;
+    front = h.front;
+    job = h.job;
     answered = h.answered;
     asking = asking_held laws _ tie.run s t move ups downs puts tie.reached calm tie.fitting none h.asking;
     counted = h.counted;
+    inner = h.inner;
     ended = h.ended;
     out = h.out;
   };

@@ -17,6 +17,9 @@ pub mod Drains
 pub mod Hand
 pub mod Pieces
 pub mod Tie
+-- a host that cancels, and recovers
+pub mod Bond
+-- both over a link
 pub mod Joint
 -- examples
 pub mod WorkedAsks

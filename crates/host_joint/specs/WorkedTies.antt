@@ -1,5 +1,5 @@
 -- example hosts: one that tells a message of two transfers, and what has in hand one that reads the response to `*IDN?`, or that of another
-use Rattle.std.specs.Prelude.{codes, replicate, []}
+use Rattle.std.specs.Prelude.{ℕ, List, [], ◌∷◌, codes, replicate}
 use Rattle.instr_plain.specs.Standing.{at_power_on}
 use Rattle.tmc_law.specs.State.{State, start}
 use Rattle.tmc_law.specs.WorkedQuery.{identity, query_log, response_text}
@@ -29,3 +29,7 @@ queried = record start { log = query_log }
 -- a host that takes the bytes of that response for those of the response to its own message, which no device executed
 abbrev pub foreign : Hand
 foreign = Reads 4 (codes "*IDN?") 2 4000 [] response_text
+
+-- the request of the response to that message, tag 3, of at most 4,000 bytes
+abbrev pub last_request : List ℕ
+last_request = 0x02 ∷ 0x03 ∷ 0xfc ∷ 0x00 ∷ 0xa0 ∷ 0x0f ∷ 0x00 ∷ 0x00 ∷ 0x00 ∷ 0x00 ∷ 0x00 ∷ 0x00 ∷ []

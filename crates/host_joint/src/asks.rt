@@ -1,13 +1,15 @@
 //! An ask in hand: its message, its execution and its response, wherever they are. Each function does nothing, and its
 //! contract is the law.
 
-ghost use Rattle.std.specs.Prelude.{◌≡◌, ◌≢◌, ◌≤◌, ℕ, false, List, [], ◌∷◌, ◌++◌, length};
+ghost use Rattle.std.specs.Prelude.{◌≡◌, ◌≢◌, ◌≤◌, ℕ, true, false, Some, None, List, [], ◌∷◌, ◌++◌, length};
+ghost use Rattle.usbip_wire.specs.declared.ret_submit.RetSubmitHead.{RetSubmitHead};
 ghost use Rattle.usbip_wire.specs.declared.submit.SubmitHead.{SubmitHead};
 ghost use Rattle.usbip_wire.specs.declared.unlink.UnlinkHead.{UnlinkHead};
 ghost use Rattle.usbip_wire.specs.Up as up;
-ghost use Rattle.tmc_law.specs.Endpoint.{Endpoint};
-ghost use Rattle.tmc_law.specs.State.{State, start};
-ghost use Rattle.tmc_law.specs.Put.{Put};
+ghost use Rattle.tmc_law.specs.Endpoint.{Endpoint, BulkIn, number_of};
+ghost use Rattle.tmc_law.specs.State.{State, Pending, Waiting, start};
+ghost use Rattle.tmc_law.specs.Put.{Put, Submitted, stalled};
+ghost use Rattle.tmc_law.specs.Halts.{unplug_answers};
 ghost use Rattle.tmc_law.specs.Step.{Move, Unplug, Steps};
 ghost use Rattle.tmc_law.specs.Run.{Entry, Runs, taken, inputs, outputs};
 ghost use Rattle.tmc_law.specs.BulkOut.{message_most};
@@ -16,7 +18,9 @@ ghost use Rattle.host_joint.specs.Stage.{Carries};
 ghost use Rattle.host_joint.specs.Lines.{unlinks_in, AllFitting, InOrder};
 ghost use Rattle.host_joint.specs.Asking.{Ask, Asking, AtRest, IsQuiet, IsSafe, StaysPlugged, Cancelled, WasAsking};
 
-use tmc_law::{pending_submits_are_sound, runs_join, steps_act, the_log_grows};
+use tmc_law::{
+    pending_submits_are_sound, runs_join, steps_act, the_log_grows, transfers_are_in_order,
+};
 use tmc_wire::headers_are_read_again;
 
 /// An ask begins when its first transfer is written, at a device where nothing is in progress and with nothing of another
@@ -68,3 +72,22 @@ pub fn unplugged_asks_were_in_hand()
     ensures { (ask : Ask) (s t : State) (ups : List up.Message) (downs puts : List Put) → Steps s Unplug puts t
         → Asking ask ups downs s → WasAsking ask ups (downs ++ puts) t }
 {}
+
+/// Whatever a host is at, unplugging is the end: what was pending is answered, nothing else changes at the instrument, and no step follows. So
+/// what was true before stays true of the log.
+pub fn unplugging_is_the_end()
+    ensures answered { (s t : State) (puts : List Put) → Steps s Unplug puts t → (puts ≡ unplug_answers s) × (t.log ≡ s.log) × (t.standing ≡ s.standing) }
+    ensures last { (s t later : State) (puts more : List Put) (move : Move) → Steps s Unplug puts t → Steps t move more later → ⊥ }
+{}
+
+/// While no piece is requested, no read is answered but by a halt of Bulk-IN; and while a message waits for execution, no packet of another
+/// was taken.
+pub fn nothing_comes_unasked()
+    ensures reads { (ask : Ask) (ups : List up.Message) (head : SubmitHead) (answer : RetSubmitHead) (transferred : List ℕ) (downs : List Put) (s : State)
+        → head.ep ≡ number_of BulkIn → ask.written ≡ [] → ask.sofar ≢ [] → Asking ask ups (Submitted head answer transferred ∷ downs) s
+        → (s.halted.bulk_in ≡ true) × (answer.status ≡ stalled) }
+    ensures packets { (run : List Entry) (s : State) (message : Waiting) (first : Pending) (behind : List Pending) → Runs start run s → s.waiting ≡ Some message
+        → s.bulk_out ≡ first ∷ behind → (s.transfer ≡ None) × (first.moved ≡ []) }
+{
+    transfers_are_in_order();
+}

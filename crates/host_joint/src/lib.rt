@@ -7,6 +7,7 @@
 
 mod accepted;
 mod asks;
+mod bonds;
 mod host_moves;
 mod joints;
 mod lines;
@@ -17,7 +18,14 @@ mod ties;
 mod worked;
 
 pub use accepted::{asks_halt_nothing, no_submit_is_refused};
-pub use asks::{asking_stays, asks_begin, cancelled_asks_stay, unplugged_asks_were_in_hand};
+pub use asks::{
+    asking_stays, asks_begin, cancelled_asks_stay, nothing_comes_unasked,
+    unplugged_asks_were_in_hand, unplugging_is_the_end,
+};
+pub use bonds::{
+    bonds_stay, cancelled_answers_are_taken, cancelled_asks_own, cancels_begin, recoveries_end,
+    recoveries_go_on,
+};
 pub use host_moves::{answers_are_taken, asks_are_settled_late, messages_are_written};
 pub use joints::{
     joints_begin, joints_stay, no_answer_is_refused, the_next_answer_is_read, writes_keep_joints,
@@ -30,4 +38,4 @@ pub use ties::{
     answers_are_the_expected, pieces_have_no_fault, tickets_end, ties_begin, ties_own, ties_stay,
     writes_keep_ties,
 };
-pub use worked::{worked_asks_are_in_hand, worked_hosts_are_tied};
+pub use worked::{worked_asks_are_in_hand, worked_cancels_are_bound, worked_hosts_are_tied};

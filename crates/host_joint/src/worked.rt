@@ -1,7 +1,8 @@
 //! Example asks. The function does nothing.
 
-ghost use Rattle.std.specs.Prelude.{List, ℕ, [], ◌∷◌, ◌++◌, Option, Some, None, take, codes};
+ghost use Rattle.std.specs.Prelude.{List, ℕ, true, false, [], ◌∷◌, ◌++◌, Option, Some, None, take, codes};
 ghost use Rattle.usbip_wire.specs.declared.submit.SubmitHead.{SubmitHead};
+ghost use Rattle.usbip_wire.specs.declared.unlink.UnlinkHead.{UnlinkHead};
 ghost use Rattle.usbip_wire.specs.Up as up;
 ghost use Rattle.tmc_law.specs.Endpoint.{BulkIn};
 ghost use Rattle.tmc_law.specs.State.{State, start};
@@ -11,7 +12,7 @@ ghost use Rattle.tmc_law.specs.Step.{Steps, Halt};
 ghost use Rattle.tmc_law.specs.Run.{Runs, inputs, outputs};
 ghost use Rattle.tmc_law.specs.WorkedQuery.{response_submit, response_text, identity, asking, answering, query_log};
 ghost use Rattle.tmc_law.specs.WorkedParts.{spaces_text, spaced, sending_parts, parts_log};
-ghost use Rattle.tmc_law.specs.WorkedSession.{out_submit, answered};
+ghost use Rattle.tmc_law.specs.WorkedSession.{out_submit, unlink, answered};
 ghost use Rattle.tmc_law.specs.WorkedRead.{reading};
 ghost use Rattle.host_joint.specs.Lines.{Lines};
 ghost use Rattle.host_joint.specs.Asking.{Asking};
@@ -19,13 +20,15 @@ ghost use Rattle.host_joint.specs.Hosted.{PieceEnd};
 ghost use Rattle.host_joint.specs.Owned.{Owned};
 ghost use Rattle.host_joint.specs.Stage.{Ran};
 ghost use Rattle.host_joint.specs.Hand.{Free};
-ghost use Rattle.host_joint.specs.Tie.{Tie};
-ghost use Rattle.host_joint.specs.WorkedTies.{telling, told, told_to, querying, queried, foreign};
+ghost use Rattle.host_joint.specs.Tie.{Tie, IsOwned};
+ghost use Rattle.host_joint.specs.Bond.{Reading, Read, Bound};
+ghost use Rattle.host_joint.specs.WorkedTies.{telling, told, told_to, querying, queried, foreign, last_request};
 ghost use Rattle.host_joint.specs.WorkedAsks.{query_ask, read_ask, query_asked, foreign_ask};
 
 use crate::{
-    answers_are_the_expected, asking_stays, pieces_have_no_fault, tickets_end, ties_begin,
-    ties_own, ties_stay, writes_keep_ties,
+    answers_are_the_expected, asking_stays, cancelled_answers_are_taken, cancelled_asks_own,
+    cancels_begin, pieces_have_no_fault, tickets_end, ties_begin, ties_own, ties_stay,
+    writes_keep_ties,
 };
 use tmc_law::worked::{a_message_comes_in_parts, a_query_is_answered};
 use tmc_law::{
@@ -78,4 +81,25 @@ pub fn worked_hosts_are_tied()
     pieces_have_no_fault();
     tickets_end();
     ties_own();
+}
+
+/// A query is cancelled while its response is on the way: the host is bound before it comes, and when it came it has all of it, so the
+/// completion wins the race. A query is cancelled behind its request, which is not answered yet. A host that takes the bytes of an earlier response for
+/// its own is bound to no device that gave them.
+pub fn worked_cancels_are_bound()
+    ensures raced { Bound (Reading 1 (codes "*IDN?") 2 4000 [] [] true) (Some response_submit) (unlink 4 3 ∷ []) 5 (up.Unlink (unlink 4 3) ∷ [])
+        (answered response_submit success 32 response_text ∷ []) queried }
+    ensures complete { Bound (Read 1 (codes "*IDN?") identity) None (unlink 4 3 ∷ []) 5 (up.Unlink (unlink 4 3) ∷ []) [] queried
+        × IsOwned 1 (codes "*IDN?") identity queried }
+    ensures fresh { Bound (Reading 2 spaced 3 4000 [] [] false) (Some (out_submit 3 12)) (unlink 4 3 ∷ []) 5
+        (up.Submit (out_submit 3 12) last_request ∷ up.Unlink (unlink 4 3) ∷ []) [] told_to }
+    ensures foreign { (waits : Option SubmitHead) (unlinks : List UnlinkHead) (next : ℕ) (ups : List up.Message) (downs : List Put)
+        → Bound (Reading 4 (codes "*IDN?") 2 4000 [] response_text true) waits unlinks next ups downs queried → ⊥ }
+{
+    worked_hosts_are_tied();
+    writes_keep_ties();
+    cancels_begin();
+    cancelled_answers_are_taken();
+    cancelled_asks_own();
+    pieces_have_no_fault();
 }

@@ -1,22 +1,27 @@
-use Rattle.std.proofs.Common.{◌≡◌, ◌∙◌, ◌++◌, ◌∷◌, [], List, ℕ, refl, ap, sym, append_assoc, append-nil}
-use Rattle.tmc_base.specs.Told.{in_bytes}
+use Rattle.std.proofs.Common.{Some, None, ◌+◌}
 use Rattle.usbip_wire.specs.Up as up
-use Rattle.host_joint.proofs.Joining.{row_together}
+use Rattle.host_joint.specs.Tie.{Tie}
+use Rattle.host_joint.specs.Bond.{Bound}
+use Rattle.host_joint.proofs.Joining.{writes_on, goes_on}
 use Rattle.host_joint.proofs.joints.writes_keep_joints.Goals as goal
 
-pub returns : goal.returns
-returns c devid before after head bytes text next written read steps s writes number spelled j = record {
-  coming = j.coming ++ text;
-  ups = j.ups ++ up.Submit head bytes ∷ [];
-  sent = ap (λ (l : List ℕ). l ++ text) j.sent ∙ append_assoc (in_bytes steps) j.coming text;
-  spelled = row_together (up.Spells devid) j.ups (up.Submit head bytes ∷ []) j.coming text j.spelled (text, [], one, spelled, refl);
-  behind = j.behind;
-  downs = j.downs;
-  given = j.given;
-  put = j.put;
-  accepted = j.accepted;
-  tie = c.writes_keep_ties.ensures before after head bytes next j.ups j.downs s writes number j.tie;
-}
-  where
-    one : text ≡ text ++ []
-    one = sym (append-nil text)
+pub returns-clause-tie : goal.returns-clause-tie
+returns-clause-tie c devid before after head bytes text next written read steps s writes number spelled =
+    writes_on (λ ups downs t. Tie before None next ups downs t) (λ ups downs t. Tie after (Some head) (next + 1) ups downs t) devid (up.Submit head bytes) text written read steps s spelled
+    (λ ups downs tie. c.writes_keep_ties.ensures before after head bytes next ups downs s writes number tie)
+
+pub returns-clause-cancel : goal.returns-clause-cancel
+returns-clause-cancel c devid before waits next after left unlinks later message text written read steps s spelled goes =
+    writes_on (λ ups downs t. Tie before waits next ups downs t) (λ ups downs t. Bound after left unlinks later ups downs t) devid message text written read steps s spelled goes
+
+pub returns-clause-bound : goal.returns-clause-bound
+returns-clause-bound c devid before waits unlinks next after left others later message text written read steps s spelled goes =
+    writes_on (λ ups downs t. Bound before waits unlinks next ups downs t) (λ ups downs t. Bound after left others later ups downs t) devid message text written read steps s spelled goes
+
+pub returns-clause-goes_on : goal.returns-clause-goes_on
+returns-clause-goes_on c devid before waits unlinks next after left others written read steps s goes =
+    goes_on (λ ups downs t. Bound before waits unlinks next ups downs t) (λ ups downs t. Bound after left others next ups downs t) devid written read steps s goes
+
+pub returns-clause-ends : goal.returns-clause-ends
+returns-clause-ends c devid before waits unlinks next after left written read steps s goes =
+    goes_on (λ ups downs t. Bound before waits unlinks next ups downs t) (λ ups downs t. Tie after left next ups downs t) devid written read steps s goes

@@ -1,0 +1,26 @@
+use Rattle.std.proofs.Common.{arith, ap, ◌≡◌, ◌∙◌, ℕ}
+use Rattle.host_hub.specs.declared.hub_core.HubCore.{HubCore}
+use Rattle.host_hub.specs.Noted.{with_start}
+use Rattle.host_hub.proofs.Lawful.{lawful_book}
+use Rattle.host_hub.proofs.Begins.{begins_can, begins_exhausted, begins_goes}
+use Rattle.host_hub.proofs.hub_core.HubCore.begin.Goals as goal
+
+pub stop-requires-clause-known : goal.stop-requires-clause-known
+stop-requires-clause-known c =
+    let k = c.requires in
+    record { setting = k.setting; past = k.past; sent = k.sent; knows = k.ready.knows; keeps = lawful_book k.setting k.past k.ready.working.lawful }
+
+pub returns-then-next-gt-LAST_SUBMIT : goal.returns-then-next-gt-LAST_SUBMIT
+returns-then-next-gt-LAST_SUBMIT c = λ s past sent r.
+    begins_exhausted s past sent c.args.self.now c.stop.new.self r (omega arith) c.stop.ensures.ended
+    (c.stop.ensures.goes s past sent (lawful_book s past r.working.lawful) r.knows)
+
+pub write_part-requires : goal.write_part-requires
+write_part-requires c = begins_can c.requires.setting c.requires.past c.requires.sent c.args.self.now c.requires.ready (omega arith)
+
+pub returns : goal.returns
+returns c = λ s past sent r.
+    begins_goes s past sent c.args.self.now c.write_part.new.self c.start.new.self r (omega arith) c.write_part.ensures.urbs c.write_part.ensures.book c.write_part.ensures.asked
+    c.write_part.ensures.rest
+    (c.start.ensures ∙ (ap (λ (h : HubCore). with_start h.active c.next-number.result h.notes) c.write_part.ensures.rest
+    ∙ ap (λ (k : ℕ). with_start c.args.self.now.active k c.args.self.now.notes) c.next-number.ensures))

@@ -1,0 +1,122 @@
+ghost use Rattle.std.specs.Prelude.{◌≡◌, ◌≤◌, ℕ, ◌+◌, ◌∷◌, [], List, Some, false, IfOk};
+ghost use Rattle.host_hub.specs.declared.limits.TheConstants.{TICKETS_MAX};
+ghost use Rattle.host_hub.specs.Order.{Setting};
+ghost use Rattle.host_hub.specs.Record.{Past, Settled};
+ghost use Rattle.host_hub.specs.Book.{active};
+ghost use Rattle.host_hub.specs.BookRoom.{is_open};
+ghost use Rattle.host_hub.specs.Knows.{HasActive, HasRecord, Knows, mark_of};
+ghost use Rattle.host_hub.specs.Stands.{Rests};
+
+use crate::book::Book;
+use crate::notes::{Mark, Notes};
+use crate::{End, Outcome};
+use host_transfers::{Assembly, Tags};
+use host_urbs::Urbs;
+use std::alloc::Global;
+use tmc_base::Memory;
+use usb_setup::Ends;
+use usbip_wire::DownReader;
+
+/// Which submit of the active ticket is out.
+#[derive(Clone, Copy, Debug)]
+pub(crate) enum Phase {
+    /// None: no ticket is live.
+    Idle,
+    /// A part of its message.
+    Message,
+    /// A request of a piece of its response.
+    Request,
+    /// A read of this piece.
+    Response,
+}
+
+/// A hub without its link.
+#[derive(Drop)]
+pub(crate) struct HubCore {
+    pub(crate) alloc: Global,
+    pub(crate) first: u32,
+    pub(crate) ends: Ends,
+    pub(crate) urbs: Urbs,
+    pub(crate) reader: DownReader,
+    pub(crate) tags: Tags,
+    pub(crate) book: Book,
+    pub(crate) notes: Notes,
+    /// The sum of the limits of all asks.
+    pub(crate) limits: u32,
+    /// The first ticket that is not settled: the active one, where there is such a ticket.
+    pub(crate) active: u32,
+    pub(crate) phase: Phase,
+    /// How many parts of the active ticket's message were written.
+    pub(crate) parts: u32,
+    /// The length of the submit that is out.
+    pub(crate) asked: u32,
+    /// The piece of the active ticket's response that was requested last.
+    pub(crate) assembly: Assembly,
+    /// How many whole messages were taken.
+    pub(crate) taken: u32,
+    pub(crate) turned: u64,
+    pub(crate) end: Option<End>,
+}
+
+impl HubCore {
+    /// A hub of the device `devid` with this interface, whose first message will have the number `first`.
+    pub(crate) fn new(alloc: Global, devid: u32, ends: Ends, first: u32) -> Result<HubCore, Memory>
+        requires { 1 ≤ first }
+        ensures rests { IfOk result (λ core. Rests (record { first = first; devid = devid; ends = ends; depth = 1 }) [] [] core) }
+        ensures turned { IfOk result (λ core. core.turned ≡ 0) }
+    {
+        Ok(HubCore {
+            alloc,
+            first,
+            ends,
+            urbs: Urbs::new(alloc, devid, first)?,
+            reader: DownReader::urbs(alloc)?,
+            tags: Tags::new(),
+            book: Book::new(alloc)?,
+            notes: Notes::new(alloc)?,
+            limits: 0,
+            active: 1,
+            phase: Phase::Idle,
+            parts: 0,
+            asked: 0,
+            assembly: Assembly::new(1, 1),
+            taken: 0,
+            turned: 0,
+            end: None,
+        })
+    }
+
+    /// How many whole messages were written and taken.
+    pub(crate) fn mark(&self) -> Mark
+        requires { HasRecord self.now }
+        ensures { result ≡ mark_of self.now }
+    {
+        Mark {
+            written: self.urbs.next() - self.first,
+            taken: self.taken,
+        }
+    }
+
+    /// How many tickets are not settled.
+    pub(crate) fn live(&self) -> u32
+        requires { HasRecord self.now }
+        ensures waiting { (s : Setting) (past : Past) (sent : List ℕ) (knows : Knows s past sent self.now) → result ≡ knows.waiting }
+        ensures few { result ≤ TICKETS_MAX }
+    {
+        self.book.tickets() + 1 - self.active
+    }
+
+    /// Settles the active ticket.
+    pub(crate) fn settle(&mut self, outcome: Outcome)
+        requires known { HasActive self.old }
+        requires settled { is_open outcome ≡ false }
+        ensures goes { (s : Setting) (past : Past) (sent : List ℕ) → active past ≡ Some self.old.active → Knows s past sent self.old
+            → Knows s (Settled self.old.active outcome ∷ past) sent self.new }
+        ensures rest { self.new ≡ record self.old { book = self.new.book; notes = self.new.notes; active = self.old.active + 1 } }
+    {
+        let mark = self.mark();
+        self.book.settle(self.active, outcome);
+        self.notes.mark(mark);
+        self.active += 1;
+    }
+}
