@@ -10,19 +10,24 @@ use Rattle.usbip_export.specs.declared.serving.ServeEnd.{ServeEnd}
 use Rattle.usbip_export.specs.declared.serving.ServeEnd.TheVariants.{Closed, Refused, LinkFault, Spent, Memory}
 use Rattle.usbip_export.specs.Events.{IsCalm}
 use Rattle.usbip_export.specs.Seen.{Seen, begun}
-use Rattle.usbip_export.specs.Serving.{Calls, Crosses, IsUnplugged, IsSentOff}
+use Rattle.usbip_export.specs.Serving.{Crosses, IsUnplugged, IsSentOff}
+use Rattle.usbip_export.specs.Ending.{Calls, Ends}
 
 -- A node that nothing was fed served the link in at most 1,000,000 calls on it, and this is the node behind them: what it
--- was fed, took in and answered is `crosses`, each end has its cause, and behind `Closed` and `Spent` the node is calm.
+-- was fed, took in and answered is `crosses`, what ended it, behind which calls on the link, is `ends`, each end has its
+-- cause, and behind `Closed` and `Spent` the node is calm.
 pub record ByNode {A : Type 0} (tells : A → Told) (counts : A → Counts)
     (sends : A → List ℕ → SendStep → A → Type 0) (polls : A → ℕ → PollStep → List ℕ → A → Type 0)
     (link : A) (end : ServeEnd) (after : A) : Type 0 where
   pub node : Seen
   pub crosses : Crosses tells (end ≢ Memory) (begun false) link node after
+  pub ends : Ends counts sends polls 1000000 end link node after
   pub closed : end ≡ Closed → Rose (counts link).closings (counts after).closings ⊎ IsUnplugged node
+  pub unclosed : end ≢ Closed → (counts after).closings ≡ (counts link).closings
   pub refused : (f : Field) → end ≡ Refused f ↔ node.refused ≡ Some f
   pub fault : end ≡ LinkFault → Rose (counts link).faults (counts after).faults
-  pub spent : end ≡ Spent → Calls sends polls link 1000000 after
+  pub faultless : end ≢ LinkFault → (counts after).faults ≡ (counts link).faults
+  pub spent : end ≡ Spent → Calls counts sends polls link 1000000 after
   pub calm : (end ≡ Closed) ⊎ (end ≡ Spent) → IsCalm node
   pub sent : end ≡ Closed → IsSentOff node
 

@@ -3,8 +3,7 @@
 ghost use Rattle.std.specs.Prelude.{◌≡◌, ◌++◌, IfOk, codes, string_bytes};
 ghost use Rattle.std.specs.Fmt.{decimal};
 ghost use Rattle.usbip_export.specs.declared.serving.ServeEnd.TheVariants as end;
-ghost use Rattle.event_text.specs.Printed.{layer_word, name_word};
-ghost use Rattle.tmc_live.specs.Line.{connection_line};
+ghost use Rattle.tmc_live.specs.Line.{connection_line, layer_word, name_word};
 
 use std::alloc::Global;
 use tmc_base::{Field, Layer, Memory, Name};
