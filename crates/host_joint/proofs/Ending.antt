@@ -21,6 +21,8 @@ use Rattle.host_joint.specs.Bond.{WasReading, WasRead}
 use Rattle.host_joint.specs.Tie.{IsOwned, asked_of, Holds, Tie, ask_with, data_in_read, Owns, WasAccepted}
 use Rattle.tmc_wire.specs.Header.{IsTag}
 use Rattle.host_joint.proofs.Parts.{ask_of}
+use Rattle.tmc_wire.specs.declared.header.OutHeader.{OutHeader}
+use Rattle.host_joint.proofs.Listing.{last_more}
 use Rattle.host_joint.proofs.Counting.{all_past}
 use Rattle.host_joint.proofs.Flows.{all_answered}
 use Rattle.host_joint.proofs.Hosting.{inner_final, no_mix}
@@ -51,8 +53,8 @@ tell_over last message next ups downs s tie =
     let h = tie.held in
     over (Said last message) Free next ups downs s tie (
       refl,
-      hands_message last message h.tag h.size h.written [] [] false ups downs s
-          (subst (λ (n : ℕ). Asking (ask_with last message h.tag h.size h.written n [] []) ups downs s) (omega (arith, h.counted)) h.asking) h.ended
+      hands_message last message h.tag h.size (h.front ++ h.job ∷ []) [] [] false ups downs s
+          (subst (λ (n : ℕ). Asking (ask_with last message h.tag h.size (h.front ++ h.job ∷ []) n [] []) ups downs s) (omega (arith, h.counted)) h.asking) (subst (λ (o : Option OutHeader). IsFinal o) (sym (last_more h.front h.job)) h.ended)
           (all_answered (asked_of None) BulkOut ups downs s tie.lines refl).queue (all_answered (asked_of None) BulkIn ups downs s tie.lines refl).queue,
     )
 
@@ -82,8 +84,8 @@ pub accepted : (last : ℕ) (message : List ℕ) (next : ℕ) (ups : List up.Mes
 accepted last message next ups downs s tie =
     let h = tie.held in
     let a = h.asking in
-    let past = all_past h.written a.past a.todo a.hit a.came a.whole (omega (arith, a.counted, h.counted)) in
-    accepted_at last message h.tag h.size a.past a.todo [] a.flow s (subst (λ (l : List Job). IsFinal (last_header l)) (sym past.past_all) h.ended) a.stage
+    let past = all_past (h.front ++ h.job ∷ []) a.past a.todo a.hit a.came a.whole (omega (arith, a.counted, h.counted)) in
+    accepted_at last message h.tag h.size a.past a.todo [] a.flow s (subst (λ (l : List Job). IsFinal (last_header l)) (sym past.past_all) (subst (λ (o : Option OutHeader). IsFinal o) (sym (last_more h.front h.job)) h.ended)) a.stage
 
 -- ---- whose bytes it has
 

@@ -234,28 +234,32 @@ given_own : (laws : WireLaws) (hand : Hand) (head : SubmitHead) (a : RetSubmitHe
     → IsGiven hand head (Submitted head a transferred) next ups downs s
 given_own laws Free head a transferred next ups downs s tie h = let e : Some head ≡ None = h.0 in absurd (cc)
 given_own laws (Says message said) head a transferred next ups downs s tie h =
-    let taken = was_taken h.last message h.tag h.size h.written h.answered [] [] ups head a transferred downs s h.out tie.out_usable h.asking in
+    let taken = was_taken h.last message h.tag h.size (h.front ++ h.job ∷ []) h.answered [] [] ups head a transferred downs s h.out tie.out_usable h.asking in
     given_out (Says message said) (Says message said) _ _ head a transferred next ups downs s h.out refl tie taken (record {
       last = h.last;
       tag = h.tag;
       size = h.size;
-      written = h.written;
+      front = h.front;
+      job = h.job;
       answered = h.answered + 1;
       asking = taken.asking;
-      counted = counts_it h.written h.answered head h.out h.counted;
+      counted = counts_it (h.front ++ h.job ∷ []) h.answered head h.out h.counted;
+      inner = h.inner;
       goes_on = h.goes_on;
       so_far = h.so_far;
       out = tt;
     })
 given_own laws (Said last message) head a transferred next ups downs s tie h =
-    let taken = was_taken last message h.tag h.size h.written h.answered [] [] ups head a transferred downs s h.out tie.out_usable h.asking in
+    let taken = was_taken last message h.tag h.size (h.front ++ h.job ∷ []) h.answered [] [] ups head a transferred downs s h.out tie.out_usable h.asking in
     given_out (Said last message) (Said last message) _ _ head a transferred next ups downs s h.out refl tie taken (record {
       tag = h.tag;
       size = h.size;
-      written = h.written;
+      front = h.front;
+      job = h.job;
       answered = h.answered + 1;
       asking = taken.asking;
-      counted = counts_it h.written h.answered head h.out h.counted;
+      counted = counts_it (h.front ++ h.job ∷ []) h.answered head h.out h.counted;
+      inner = h.inner;
       ended = h.ended;
       out = tt;
     })

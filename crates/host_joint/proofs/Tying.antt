@@ -53,12 +53,12 @@ pub none_unlinked : (a b : List UnlinkHead) → [] ≡ a ++ b → (a ≡ []) × 
 none_unlinked [] b e = (refl, sym e)
 none_unlinked (x ∷ a) b e = absurd (cc)
 
-in_order : (ups : List up.Message) → unlinks_in ups ≡ [] → InOrder ups
+pub in_order : (ups : List up.Message) → unlinks_in ups ≡ [] → InOrder ups
 in_order [] none = tt
 in_order (up.Submit head transferred ∷ ups) none = in_order ups none
 in_order (up.Unlink head ∷ ups) none = absurd (cc)
 
-unlinks_taken : (move : Move) (ups : List up.Message) → unlinks_in (taken move ++ ups) ≡ [] → unlinks_in (taken move) ≡ []
+pub unlinks_taken : (move : Move) (ups : List up.Message) → unlinks_in (taken move ++ ups) ≡ [] → unlinks_in (taken move) ≡ []
 unlinks_taken (Comes (up.Submit head transferred)) ups none = refl
 unlinks_taken (Comes (up.Unlink head)) ups none = absurd (cc)
 unlinks_taken _ ups none = refl
@@ -215,10 +215,12 @@ held_step laws (Says message said) waits next ups downs puts s t move calm none 
     last = h.last;
     tag = h.tag;
     size = h.size;
-    written = h.written;
+    front = h.front;
+    job = h.job;
     answered = h.answered;
     asking = asking_held laws _ tie.run s t move ups downs puts tie.reached calm tie.fitting none h.asking;
     counted = h.counted;
+    inner = h.inner;
     goes_on = h.goes_on;
     so_far = h.so_far;
     out = h.out;
@@ -230,10 +232,12 @@ held_step laws (Said last message) waits next ups downs puts s t move calm none 
   held = record {
     tag = h.tag;
     size = h.size;
-    written = h.written;
+    front = h.front;
+    job = h.job;
     answered = h.answered;
     asking = asking_held laws _ tie.run s t move ups downs puts tie.reached calm tie.fitting none h.asking;
     counted = h.counted;
+    inner = h.inner;
     ended = h.ended;
     out = h.out;
   };

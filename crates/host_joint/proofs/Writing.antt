@@ -81,7 +81,7 @@ out_fits head header text bytes is = record { endpoint = BulkOut; number = is.nu
 empty_line : (ups : List up.Message) (downs : List Put) (s : State) (next : ℕ) (hand : Hand) → Tie hand None next ups downs s → (e : Endpoint) → EmptyLine e ups downs s
 empty_line ups downs s next hand tie e = all_answered (asked_of None) e ups downs s tie.lines refl
 
-at_rest : (ups : List up.Message) (downs : List Put) (s : State) (next : ℕ) → (tie : Tie Free None next ups downs s) → AtRest next s
+pub at_rest : (ups : List up.Message) (downs : List Put) (s : State) (next : ℕ) → (tie : Tie Free None next ups downs s) → AtRest next s
 at_rest ups downs s next tie =
     let at = tie.held.1 in
     let fresh = begins_new next next ups s (omega arith) tie.below in
@@ -97,7 +97,7 @@ at_rest ups downs s next tie =
       log = fresh.0;
     }
 
-quiet : (ups : List up.Message) (downs : List Put) (s : State) (next : ℕ) (hand : Hand) → Tie hand None next ups downs s → IsQuiet ups downs
+pub quiet : (ups : List up.Message) (downs : List Put) (s : State) (next : ℕ) (hand : Hand) → Tie hand None next ups downs s → IsQuiet ups downs
 quiet ups downs s next hand tie = record {
   control = (empty_line ups downs s next hand tie Control).sent;
   bulk_out = (empty_line ups downs s next hand tie BulkOut).sent;
@@ -109,15 +109,15 @@ quiet ups downs s next hand tie = record {
 
 -- ---- a part of a message
 
-saying : (message said : List ℕ) (ups : List up.Message) (downs : List Put) (s : State) (h : IsSaying message said None ups downs s)
-    → Asking (ask_with h.last message h.tag h.size h.written (length h.written) [] []) ups downs s
+pub saying : (message said : List ℕ) (ups : List up.Message) (downs : List Put) (s : State) (h : IsSaying message said None ups downs s)
+    → Asking (ask_with h.last message h.tag h.size (h.front ++ h.job ∷ []) (length (h.front ++ h.job ∷ [])) [] []) ups downs s
 saying message said ups downs s h =
-    subst (λ (n : ℕ). Asking (ask_with h.last message h.tag h.size h.written n [] []) ups downs s) (omega (arith, h.counted)) h.asking
+    subst (λ (n : ℕ). Asking (ask_with h.last message h.tag h.size (h.front ++ h.job ∷ []) n [] []) ups downs s) (omega (arith, h.counted)) h.asking
 
-counts_one : (written : List Job) (job : Job) (answered : ℕ) (head : SubmitHead) → head.ep ≡ 1 → length written ≡ answered → length (written ++ job ∷ []) ≡ answered + transfers_of (Some head)
+pub counts_one : (written : List Job) (job : Job) (answered : ℕ) (head : SubmitHead) → head.ep ≡ 1 → length written ≡ answered → length (written ++ job ∷ []) ≡ answered + transfers_of (Some head)
 counts_one written job answered head is all = omega (arith, length-append written (job ∷ []), one_transfer head is, all)
 
-goes_on_part : (laws : WireLaws) (before : Hand) (head : SubmitHead) (bytes : List ℕ) (tag : ℕ) (message said text more : List ℕ) (ups : List up.Message) (downs : List Put) (s : State)
+unfoldable pub goes_on_part : (laws : WireLaws) (before : Hand) (head : SubmitHead) (bytes : List ℕ) (tag : ℕ) (message said text more : List ℕ) (ups : List up.Message) (downs : List Put) (s : State)
     → Tie before None head.seqnum ups downs s → Holds before None ups downs s → Speaks before message said → message ≡ said ++ (text ++ more)
     → IsTransfer head (Message tag (length text) false) text bytes → IsSaying message (said ++ text) (Some head) (ups ++ up.Submit head bytes ∷ []) downs s
 goes_on_part laws Free head bytes tag message said text more ups downs s tie h speaks whole is =
@@ -126,36 +126,40 @@ goes_on_part laws Free head bytes tag message said text more ups downs s tie h s
       last = head.seqnum;
       tag = 0;
       size = 0;
-      written = job ∷ [];
+      front = [];
+      job = job;
       answered = 0;
       asking = starts head.seqnum message 0 0 job ups downs s (at_rest ups downs s head.seqnum tie) (quiet ups downs s head.seqnum Free tie) (is_job laws head (Message tag (length text) false) text bytes is) speaks.1
           (Inner tag (length text) more refl (whole ∙ ap (λ (l : List ℕ). l ++ (text ++ more)) speaks.0) tt);
       counted = counts_one [] job 0 head is.number refl;
+      inner = tt;
       goes_on = tt;
       so_far = append-nil text ∙ ap (λ (l : List ℕ). l ++ text) (sym speaks.0);
       out = is.number;
     }
 goes_on_part laws (Says other first) head bytes tag message said text more ups downs s tie h speaks whole is =
     let job : Job = record { head = head; header = Message tag (length text) false; message = text; bytes = bytes } in
-    let left : other ≡ data_in h.written ++ (text ++ more) = sym speaks.0 ∙ whole ∙ ap (λ (l : List ℕ). l ++ (text ++ more)) (speaks.1 ∙ sym h.so_far) in
+    let left : other ≡ data_in (h.front ++ h.job ∷ []) ++ (text ++ more) = sym speaks.0 ∙ whole ∙ ap (λ (l : List ℕ). l ++ (text ++ more)) (speaks.1 ∙ sym h.so_far) in
     subst (λ (l : List ℕ). IsSaying l (said ++ text) (Some head) (ups ++ up.Submit head bytes ∷ []) downs s) (sym speaks.0) (record {
       last = h.last;
       tag = h.tag;
       size = h.size;
-      written = h.written ++ job ∷ [];
-      answered = length h.written;
-      asking = part_written h.last other h.tag h.size h.written [] [] false ups downs s job (is_job laws head (Message tag (length text) false) text bytes is)
-          (record { rest = text ++ more; inner = h.goes_on; left = left; carries = Inner tag (length text) more refl refl tt; unread = refl }) (saying other first ups downs s h);
-      counted = counts_one h.written job (length h.written) head is.number refl;
-      goes_on = subst (λ (o : Option OutHeader). IsInner o) (sym (last_more h.written job)) tt;
-      so_far = data-more h.written job ∙ ap (λ (l : List ℕ). l ++ text) (h.so_far ∙ sym speaks.1);
+      front = h.front ++ h.job ∷ [];
+      job = job;
+      answered = length (h.front ++ h.job ∷ []);
+      asking = part_written h.last other h.tag h.size (h.front ++ h.job ∷ []) [] [] false ups downs s job (is_job laws head (Message tag (length text) false) text bytes is)
+          (record { rest = text ++ more; inner = subst (λ (o : Option OutHeader). IsInner o) (sym (last_more h.front h.job)) h.goes_on; left = left; carries = Inner tag (length text) more refl refl tt; unread = refl }) (saying other first ups downs s h);
+      counted = counts_one (h.front ++ h.job ∷ []) job (length (h.front ++ h.job ∷ [])) head is.number refl;
+      inner = subst (λ (o : Option OutHeader). IsInner o) (sym (last_more h.front h.job)) h.goes_on;
+      goes_on = tt;
+      so_far = data-more (h.front ++ h.job ∷ []) job ∙ ap (λ (l : List ℕ). l ++ text) (h.so_far ∙ sym speaks.1);
       out = is.number;
     })
 goes_on_part laws (Said last other) head bytes tag message said text more ups downs s tie h speaks whole is = absurd speaks
 goes_on_part laws (Reads last other t n sofar read) head bytes tag message said text more ups downs s tie h speaks whole is = absurd speaks
 goes_on_part laws (Pauses last other sofar) head bytes tag message said text more ups downs s tie h speaks whole is = absurd speaks
 
-ends_part : (laws : WireLaws) (before : Hand) (head : SubmitHead) (bytes : List ℕ) (tag : ℕ) (message said text : List ℕ) (ups : List up.Message) (downs : List Put) (s : State)
+unfoldable pub ends_part : (laws : WireLaws) (before : Hand) (head : SubmitHead) (bytes : List ℕ) (tag : ℕ) (message said text : List ℕ) (ups : List up.Message) (downs : List Put) (s : State)
     → Tie before None head.seqnum ups downs s → Holds before None ups downs s → Speaks before message said → message ≡ said ++ text
     → IsTransfer head (Message tag (length text) true) text bytes → HasSaid head.seqnum message (Some head) (ups ++ up.Submit head bytes ∷ []) downs s
 ends_part laws Free head bytes tag message said text ups downs s tie h speaks whole is =
@@ -163,28 +167,32 @@ ends_part laws Free head bytes tag message said text ups downs s tie h speaks wh
     record {
       tag = 0;
       size = 0;
-      written = job ∷ [];
+      front = [];
+      job = job;
       answered = 0;
       asking = starts head.seqnum message 0 0 job ups downs s (at_rest ups downs s head.seqnum tie) (quiet ups downs s head.seqnum Free tie) (is_job laws head (Message tag (length text) true) text bytes is) speaks.1
           (Final tag (length text) refl (whole ∙ ap (λ (l : List ℕ). l ++ text) speaks.0) refl (NoneComes refl));
       counted = counts_one [] job 0 head is.number refl;
+      inner = tt;
       ended = tt;
       out = is.number;
     }
 ends_part laws (Says other first) head bytes tag message said text ups downs s tie h speaks whole is =
     let job : Job = record { head = head; header = Message tag (length text) true; message = text; bytes = bytes } in
-    let left : other ≡ data_in h.written ++ text = sym speaks.0 ∙ whole ∙ ap (λ (l : List ℕ). l ++ text) (speaks.1 ∙ sym h.so_far) in
+    let left : other ≡ data_in (h.front ++ h.job ∷ []) ++ text = sym speaks.0 ∙ whole ∙ ap (λ (l : List ℕ). l ++ text) (speaks.1 ∙ sym h.so_far) in
     let fresh = begins_new head.seqnum head.seqnum ups s (omega arith) tie.below in
-    let settled = last_set (ask_with h.last other h.tag h.size h.written (length h.written) [] []) head.seqnum ups downs s h.goes_on refl refl fresh.0 fresh.1 (saying other first ups downs s h) in
+    let settled = last_set (ask_with h.last other h.tag h.size (h.front ++ h.job ∷ []) (length (h.front ++ h.job ∷ [])) [] []) head.seqnum ups downs s (subst (λ (o : Option OutHeader). IsInner o) (sym (last_more h.front h.job)) h.goes_on) refl refl fresh.0 fresh.1 (saying other first ups downs s h) in
     subst (λ (l : List ℕ). HasSaid head.seqnum l (Some head) (ups ++ up.Submit head bytes ∷ []) downs s) (sym speaks.0) (record {
       tag = h.tag;
       size = h.size;
-      written = h.written ++ job ∷ [];
-      answered = length h.written;
-      asking = part_written head.seqnum other h.tag h.size h.written [] [] false ups downs s job (is_job laws head (Message tag (length text) true) text bytes is)
-          (record { rest = text; inner = h.goes_on; left = left; carries = Final tag (length text) refl refl refl (NoneComes refl); unread = refl }) settled;
-      counted = counts_one h.written job (length h.written) head is.number refl;
-      ended = subst (λ (o : Option OutHeader). IsFinal o) (sym (last_more h.written job)) tt;
+      front = h.front ++ h.job ∷ [];
+      job = job;
+      answered = length (h.front ++ h.job ∷ []);
+      asking = part_written head.seqnum other h.tag h.size (h.front ++ h.job ∷ []) [] [] false ups downs s job (is_job laws head (Message tag (length text) true) text bytes is)
+          (record { rest = text; inner = subst (λ (o : Option OutHeader). IsInner o) (sym (last_more h.front h.job)) h.goes_on; left = left; carries = Final tag (length text) refl refl refl (NoneComes refl); unread = refl }) settled;
+      counted = counts_one (h.front ++ h.job ∷ []) job (length (h.front ++ h.job ∷ [])) head is.number refl;
+      inner = subst (λ (o : Option OutHeader). IsInner o) (sym (last_more h.front h.job)) h.goes_on;
+      ended = tt;
       out = is.number;
     })
 ends_part laws (Said last other) head bytes tag message said text ups downs s tie h speaks whole is = absurd speaks
@@ -197,16 +205,17 @@ asks_first : (laws : WireLaws) (head : SubmitHead) (bytes : List ℕ) (last tag 
     → HasSaid last message None ups downs s → IsTransfer head (Request tag size) [] bytes → IsReading last message tag size [] [] (Some head) (ups ++ up.Submit head bytes ∷ []) downs s
 asks_first laws head bytes last tag size message ups downs s h is =
     let job : Job = record { head = head; header = Request tag size; message = []; bytes = bytes } in
-    let all : Asking (ask_with last message h.tag h.size h.written (length h.written) [] []) ups downs s =
-    subst (λ (n : ℕ). Asking (ask_with last message h.tag h.size h.written n [] []) ups downs s) (omega (arith, h.counted)) h.asking in
-    let settled = request_set (ask_with last message h.tag h.size h.written (length h.written) [] []) tag size ups downs s (λ t n e. not_final t n (last_header h.written) e h.ended) refl all in
+    let all : Asking (ask_with last message h.tag h.size (h.front ++ h.job ∷ []) (length (h.front ++ h.job ∷ [])) [] []) ups downs s =
+    subst (λ (n : ℕ). Asking (ask_with last message h.tag h.size (h.front ++ h.job ∷ []) n [] []) ups downs s) (omega (arith, h.counted)) h.asking in
+    let ended = subst (λ (o : Option OutHeader). IsFinal o) (sym (last_more h.front h.job)) h.ended in
+    let settled = request_set (ask_with last message h.tag h.size (h.front ++ h.job ∷ []) (length (h.front ++ h.job ∷ [])) [] []) tag size ups downs s (λ t n e. not_final t n (last_header (h.front ++ h.job ∷ [])) e ended) refl all in
     record {
-      front = h.written;
+      front = h.front ++ h.job ∷ [];
       request = job;
-      answered = length h.written;
-      asking = request_written last message tag size h.written [] [] false ups downs s job (is_job laws head (Request tag size) [] bytes is) refl (inl h.ended) (λ some. absurd (some refl)) settled;
-      counted = counts_one h.written job (length h.written) head is.number refl;
-      behind = inl h.ended;
+      answered = length (h.front ++ h.job ∷ []);
+      asking = request_written last message tag size (h.front ++ h.job ∷ []) [] [] false ups downs s job (is_job laws head (Request tag size) [] bytes is) refl (inl ended) (λ some. absurd (some refl)) settled;
+      counted = counts_one (h.front ++ h.job ∷ []) job (length (h.front ++ h.job ∷ [])) head is.number refl;
+      behind = inl ended;
       header = refl;
       tagged = (is.proper.0, is.fits.0);
       sized = (is.proper.1, is.fits.1);

@@ -68,28 +68,32 @@ ask_with last message tag size written answered sofar read = record {
   gone = false;
 }
 
--- a message is in hand, and goes on; the number that will end it and the request are open yet
+-- a message is in hand whose last transfer so far goes on; the number that will end it and the request are open yet
 pub record IsSaying (message said : List ℕ) (waits : Option SubmitHead) (ups : List up.Message) (downs : List Put) (s : State) : Type 0 where
   pub last : ℕ
   pub tag : ℕ
   pub size : ℕ
-  pub written : List Job
+  pub front : List Job
+  pub job : Job
   pub answered : ℕ
-  pub asking : Asking (ask_with last message tag size written answered [] []) ups downs s
-  pub counted : length written ≡ answered + transfers_of waits
-  pub goes_on : IsInner (last_header written)
-  pub so_far : data_in written ≡ said
+  pub asking : Asking (ask_with last message tag size (front ++ job ∷ []) answered [] []) ups downs s
+  pub counted : length (front ++ job ∷ []) ≡ answered + transfers_of waits
+  pub inner : IsInner (last_header front)
+  pub goes_on : IsInner (Some job.header)
+  pub so_far : data_in (front ++ job ∷ []) ≡ said
   pub out : IsOut waits
 
--- a message is in hand that was written whole; its request is open yet
+-- a message is in hand that was written whole, with its last transfer; its request is open yet
 pub record HasSaid (last : ℕ) (message : List ℕ) (waits : Option SubmitHead) (ups : List up.Message) (downs : List Put) (s : State) : Type 0 where
   pub tag : ℕ
   pub size : ℕ
-  pub written : List Job
+  pub front : List Job
+  pub job : Job
   pub answered : ℕ
-  pub asking : Asking (ask_with last message tag size written answered [] []) ups downs s
-  pub counted : length written ≡ answered + transfers_of waits
-  pub ended : IsFinal (last_header written)
+  pub asking : Asking (ask_with last message tag size (front ++ job ∷ []) answered [] []) ups downs s
+  pub counted : length (front ++ job ∷ []) ≡ answered + transfers_of waits
+  pub inner : IsInner (last_header front)
+  pub ended : IsFinal (Some job.header)
   pub out : IsOut waits
 
 -- a piece is in hand: its request was written behind the whole message, or behind the end of a piece; once bytes of it were read, its

@@ -1,14 +1,8 @@
 -- what a node and a link do together, call by call
-use Rattle.std.proofs.Common.{◌≡◌, ◌≢◌, ◌⊎◌, inl, inr, ◌∙◌, ◌↔◌, ℕ, Bool, true, false, List, [], ◌++◌, take, drop, Option, Some, None, refl, sym, ap, subst, append_assoc, append-nil}
-use Rattle.tmc_base.specs.declared.field.Field.{Field}
+use Rattle.std.proofs.Common.{◌≡◌, ◌∙◌, ℕ, Bool, true, false, List, [], ◌++◌, take, drop, None, refl, sym, ap, subst, append_assoc, append-nil}
 use Rattle.tmc_base.specs.Told.{Told, WentOut, CameIn, Exchanged, IsFront}
 use Rattle.tmc_device.specs.Seen.{is_closed}
-use Rattle.usbip_export.specs.declared.fed.Fed.{Fed}
-use Rattle.usbip_export.specs.declared.fed.Fed.TheVariants as fed
-use Rattle.usbip_export.specs.declared.serving.ServeEnd.{ServeEnd}
-use Rattle.usbip_export.specs.declared.serving.ServeEnd.TheVariants as end
 use Rattle.usbip_export.specs.Seen.{Seen, standing}
-use Rattle.usbip_export.specs.Events.{IsCalm}
 use Rattle.usbip_export.specs.Serving.{Works, Crosses}
 use Rattle.usbip_export.proofs.Worked.{sent_works, no_works, works_more, stays_closed}
 use Rattle.usbip_export.proofs.Exchanged.{exchanged_none, exchanged_out, exchanged_in, exchanged_more}
@@ -115,32 +109,6 @@ crosses_lost tells ample node later link after bytes came same wanting = record 
   all = λ ample _. absurd (wanting ample);
 }
 
--- the end of the serving tells what the node refused
-
-abbrev field_of : Option ServeEnd → Field → Field
-field_of (Some (end.Refused f)) otherwise = f
-field_of _ otherwise = otherwise
-
-abbrev fed_field : Fed → Field → Field
-fed_field (fed.Refused f) otherwise = f
-fed_field _ otherwise = otherwise
-
-pub refused_none : (bad : Option Field) → ((f : Field) → (fed.Ok ≡ fed.Refused f) ↔ (bad ≡ Some f)) → (f : Field)
-    → (None ≡ Some (end.Refused f)) ↔ (bad ≡ Some f)
-refused_none bad told f = (λ e. absurd (none e), λ is. absurd (good ((told f).1 is))) where
-  none : None ≡ Some (end.Refused f) → ⊥
-  none e = cc
-
-  good : fed.Ok ≡ fed.Refused f → ⊥
-  good e = cc
-
-pub refused_at : (g : Field) (bad : Option Field) → ((f : Field) → (fed.Refused g ≡ fed.Refused f) ↔ (bad ≡ Some f)) → (f : Field)
-    → (Some (end.Refused g) ≡ Some (end.Refused f)) ↔ (bad ≡ Some f)
-refused_at g bad told f = (
-  λ e. (told f).0 (ap fed.Refused (ap (λ o. field_of o g) e)),
-  λ is. ap (λ (x : Field). Some (end.Refused x)) (ap (λ o. fed_field o g) ((told f).1 is)),
-)
-
 -- a front of bytes that all were fed, and a front of those behind them
 front_more : (a b c d : List ℕ) → a ≡ c → IsFront b d → IsFront (a ++ b) (c ++ d)
 front_more a b c d same front = (front.0, ap (λ (l : List ℕ). c ++ l) front.1 ∙ (sym (append_assoc c b front.0) ∙ ap (λ (l : List ℕ). (l ++ b) ++ front.0) (sym same)))
@@ -199,34 +167,3 @@ crosses_for tells ample enough node later link after weaker crosses = record {
   shut = crosses.shut;
   all = λ e. crosses.all (weaker e);
 }
-
-abbrev end_in : Option ServeEnd → ServeEnd → ServeEnd
-end_in (Some e) otherwise = e
-end_in None otherwise = otherwise
-
-pub ends_refused : (e : ServeEnd) (bad : Option Field) → ((f : Field) → (Some e ≡ Some (end.Refused f)) ↔ (bad ≡ Some f)) → (f : Field)
-    → (e ≡ end.Refused f) ↔ (bad ≡ Some f)
-ends_refused e bad told f = (λ is. (told f).0 (ap Some is), λ is. ap (λ o. end_in o e) ((told f).1 is))
-
-pub goes_unrefused : (bad : Option Field) → ((f : Field) → (None ≡ Some (end.Refused f)) ↔ (bad ≡ Some f)) → bad ≡ None
-goes_unrefused None told = refl
-goes_unrefused (Some f) told = absurd (none ((told f).1 refl)) where
-  none : None ≡ Some (end.Refused f) → ⊥
-  none e = cc
-
-pub other_end : (e : ServeEnd) → e ≢ end.Memory → Some e ≢ Some end.Memory
-other_end e other same = other (ap (λ o. end_in o end.Closed) same)
-
-pub spent_unrefused : (bad : Option Field) → bad ≡ None → (f : Field) → (end.Spent ≡ end.Refused f) ↔ (bad ≡ Some f)
-spent_unrefused bad none f = (λ e. absurd (clash e), λ is. absurd (other (sym none ∙ is))) where
-  clash : end.Spent ≡ end.Refused f → ⊥
-  clash e = cc
-
-  other : None ≡ Some f → ⊥
-  other e = cc
-
--- the last call ended the serving, behind the calm moves
-pub call_calm : (e : ServeEnd) (settled later : Seen) → IsCalm settled → (e ≡ end.Closed → later ≡ settled) → (e ≡ end.Spent → ⊥)
-    → (e ≡ end.Closed) ⊎ (e ≡ end.Spent) → IsCalm later
-call_calm e settled later calm same unspent (inl closed) = subst IsCalm (sym (same closed)) calm
-call_calm e settled later calm same unspent (inr spent) = absurd (unspent spent)

@@ -7,5 +7,6 @@ pub mod Work
 pub mod Body
 pub mod Taking
 pub mod Serving
+pub mod Ending
 pub mod Failing
 pub mod Laws

@@ -16,6 +16,8 @@ mod operations;
 mod serving;
 mod spelling;
 mod taking;
+#[cfg(test)]
+mod tests;
 
 pub use fed::Fed;
 pub use laws::calls_join;

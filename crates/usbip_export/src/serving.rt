@@ -1,10 +1,11 @@
 //! The serving of one client over a link.
 
-ghost use Rattle.std.specs.Prelude.{◌≡◌, ◌≢◌, ◌↔◌, ◌⊎◌, ◌<◌, [], length, Some, None};
+ghost use Rattle.std.specs.Prelude.{◌≡◌, ◌≢◌, ◌↔◌, ◌⊎◌, ◌<◌, [], length, Some, None, MatchOption};
 ghost use Rattle.tmc_base.specs.declared.field.Field as field;
 ghost use Rattle.tmc_base.specs.Faults.{Rose};
 ghost use Rattle.usbip_export.specs.Events.{IsCalm};
-ghost use Rattle.usbip_export.specs.Serving.{Works, IsCall, Calls, Crosses, IsUnplugged, IsSentOff, IsFaultless};
+ghost use Rattle.usbip_export.specs.Serving.{Works, Crosses, IsUnplugged, IsSentOff};
+ghost use Rattle.usbip_export.specs.Ending.{Calls, IsGoing, Stops, Ends, Called};
 
 use crate::{Fed, Node};
 use tmc_base::{Field, Link, PollStep, SendStep};
@@ -33,13 +34,24 @@ const PIECE: usize = 4_096;
 /// where the node refuses a field, where the link closes or fails, and where the instrument is unplugged and all was sent.
 pub fn serve_link<L: Link>(node: &mut Node, link: &mut L, turns: u64) -> ServeEnd
     ensures crosses { Crosses L.told (result ≢ ServeEnd.Memory) node.old link.old node.new link.new }
+    ensures ends { Ends L.counts L.sends L.polls turns result link.old node.new link.new }
+    ensures refused { (f : field.Field) → result ≡ ServeEnd.Refused f ↔ node.new.refused ≡ Some f }
     ensures closed { result ≡ ServeEnd.Closed
         → Rose (L.counts link.old).closings (L.counts link.new).closings ⊎ IsUnplugged node.new }
-    ensures refused { (f : field.Field) → result ≡ ServeEnd.Refused f ↔ node.new.refused ≡ Some f }
+    ensures unclosed { result ≢ ServeEnd.Closed → (L.counts link.new).closings ≡ (L.counts link.old).closings }
     ensures fault { result ≡ ServeEnd.LinkFault → Rose (L.counts link.old).faults (L.counts link.new).faults }
-    ensures spent { result ≡ ServeEnd.Spent → Calls L.sends L.polls link.old turns link.new }
+    ensures faultless { result ≢ ServeEnd.LinkFault → (L.counts link.new).faults ≡ (L.counts link.old).faults }
+    ensures spent { result ≡ ServeEnd.Spent → Calls L.counts L.sends L.polls link.old turns link.new }
     ensures calm { (result ≡ ServeEnd.Closed) ⊎ (result ≡ ServeEnd.Spent) → IsCalm node.new }
     ensures sent { result ≡ ServeEnd.Closed → IsSentOff node.new }
+{
+    serve(node, link, turns)
+}
+
+/// Serves a client until the node or a call on the link ends it.
+fn serve<L: Link>(node: &mut Node, link: &mut L, turns: u64) -> ServeEnd
+    ensures crosses { Crosses L.told (result ≢ ServeEnd.Memory) node.old link.old node.new link.new }
+    ensures ends { Ends L.counts L.sends L.polls turns result link.old node.new link.new }
 {
     if let Some(field) = node.refused() {
         return ServeEnd::Refused(field);
@@ -63,12 +75,8 @@ pub fn serve_link<L: Link>(node: &mut Node, link: &mut L, turns: u64) -> ServeEn
 /// Lets the node make its calm moves, and tells what ends the serving before a further call.
 fn settle(node: &mut Node) -> Option<ServeEnd>
     ensures works { Works [] [] node.old node.new }
-    ensures refused { (f : field.Field) → result ≡ Some (ServeEnd.Refused f) ↔ node.new.refused ≡ Some f }
-    ensures calm { result ≢ Some ServeEnd.Memory → node.new.refused ≡ None → IsCalm node.new }
-    ensures closed { result ≡ Some ServeEnd.Closed → IsUnplugged node.new × IsSentOff node.new }
+    ensures settled { MatchOption result (IsGoing node.new) (λ ended. Stops ended node.new) }
     ensures unspent { result ≢ Some ServeEnd.Spent }
-    ensures fault { result ≢ Some ServeEnd.LinkFault }
-    ensures on { result ≡ None → node.new.puts ≡ [] }
 {
     let calmed = node.calm();
     if let Some(field) = node.refused() {
@@ -87,14 +95,7 @@ fn settle(node: &mut Node) -> Option<ServeEnd>
 fn call<L: Link>(node: &mut Node, link: &mut L, piece: &mut [u8]) -> Option<ServeEnd>
     requires unrefused { node.old.refused ≡ None }
     requires room { 0 < length piece.old }
-    ensures crosses { Crosses L.told (result ≢ Some ServeEnd.Memory) node.old link.old node.new link.new }
-    ensures goes { result ≡ None → IsCall L.sends L.polls link.old link.new }
-    ensures counts { result ≡ None → IsFaultless (L.counts link.old) (L.counts link.new) }
-    ensures refused { (f : field.Field) → result ≡ Some (ServeEnd.Refused f) ↔ node.new.refused ≡ Some f }
-    ensures fault { result ≡ Some ServeEnd.LinkFault → Rose (L.counts link.old).faults (L.counts link.new).faults }
-    ensures closed { result ≡ Some ServeEnd.Closed
-        → Rose (L.counts link.old).closings (L.counts link.new).closings × (node.new ≡ node.old) × (node.old.out ≡ []) }
-    ensures unspent { result ≢ Some ServeEnd.Spent }
+    ensures called { Called L.counts L.sends L.polls L.told result node.old link.old node.new link.new }
     ensures piece { length piece.new ≡ length piece.old }
 {
     if node.pending_out().is_empty() {
@@ -108,14 +109,7 @@ fn call<L: Link>(node: &mut Node, link: &mut L, piece: &mut [u8]) -> Option<Serv
 fn send<L: Link>(node: &mut Node, link: &mut L) -> Option<ServeEnd>
     requires unrefused { node.old.refused ≡ None }
     requires some { 0 < length node.old.out }
-    ensures crosses { Crosses L.told (result ≢ Some ServeEnd.Memory) node.old link.old node.new link.new }
-    ensures goes { result ≡ None → IsCall L.sends L.polls link.old link.new }
-    ensures counts { result ≡ None → IsFaultless (L.counts link.old) (L.counts link.new) }
-    ensures refused { (f : field.Field) → result ≡ Some (ServeEnd.Refused f) ↔ node.new.refused ≡ Some f }
-    ensures fault { result ≡ Some ServeEnd.LinkFault → Rose (L.counts link.old).faults (L.counts link.new).faults }
-    ensures closed { result ≡ Some ServeEnd.Closed
-        → Rose (L.counts link.old).closings (L.counts link.new).closings × (node.new ≡ node.old) × (node.old.out ≡ []) }
-    ensures unspent { result ≢ Some ServeEnd.Spent }
+    ensures { Called L.counts L.sends L.polls L.told result node.old link.old node.new link.new }
 {
     match link.send(node.pending_out()) {
         SendStep::Took(n) => {
@@ -133,14 +127,7 @@ fn receive<L: Link>(node: &mut Node, link: &mut L, piece: &mut [u8]) -> Option<S
     requires unrefused { node.old.refused ≡ None }
     requires room { 0 < length piece.old }
     requires none { node.old.out ≡ [] }
-    ensures crosses { Crosses L.told (result ≢ Some ServeEnd.Memory) node.old link.old node.new link.new }
-    ensures goes { result ≡ None → IsCall L.sends L.polls link.old link.new }
-    ensures counts { result ≡ None → IsFaultless (L.counts link.old) (L.counts link.new) }
-    ensures refused { (f : field.Field) → result ≡ Some (ServeEnd.Refused f) ↔ node.new.refused ≡ Some f }
-    ensures fault { result ≡ Some ServeEnd.LinkFault → Rose (L.counts link.old).faults (L.counts link.new).faults }
-    ensures closed { result ≡ Some ServeEnd.Closed
-        → Rose (L.counts link.old).closings (L.counts link.new).closings × (node.new ≡ node.old) × (node.old.out ≡ []) }
-    ensures unspent { result ≢ Some ServeEnd.Spent }
+    ensures called { Called L.counts L.sends L.polls L.told result node.old link.old node.new link.new }
     ensures piece { length piece.new ≡ length piece.old }
 {
     match link.poll(piece) {

@@ -1,12 +1,12 @@
 use Rattle.std.proofs.Common.{◌≡◌, ◌-◌, ◌≤◌, length, None}
-use Rattle.usbip_export.specs.Serving.{Calls, Crosses, IsFaultless}
-use Rattle.usbip_export.proofs.serving.serve_link.Given as goal
+use Rattle.usbip_export.specs.Serving.{Crosses}
+use Rattle.usbip_export.specs.Ending.{Calls}
+use Rattle.usbip_export.proofs.serving.serve.Given as goal
 
 abbrev pub invariant-turns : goal.invariant-turns
 invariant-turns g l = record {
   crosses : Crosses g.L.Link.told (Unit {0}) l.fn.node l.fn.link l.node l.link;
-  calls : Calls g.L.Link.sends g.L.Link.polls l.fn.link l.made l.link;
-  counts : IsFaultless (g.L.Link.counts l.fn.link) (g.L.Link.counts l.link);
+  calls : Calls g.L.Link.counts g.L.Link.sends g.L.Link.polls l.fn.link l.made l.link;
   unrefused : l.node.refused ≡ None;
   piece : length l.piece ≡ 4096;
   within : l.made ≤ l.turns;
