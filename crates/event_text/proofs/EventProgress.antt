@@ -9,7 +9,7 @@ use Rattle.event_text.specs.declared.event_line.Said.TheVariants.{First, Depth, 
 use Rattle.event_text.specs.declared.line_stop.LineStop.{LineStop}
 use Rattle.event_text.specs.declared.line_stop.LineStop.TheVariants.{Wrong, Memory}
 use Rattle.event_text.specs.EventLine.{line_said, place_behind}
-use Rattle.event_text.specs.EventScript.{SayInTurn, place_after, named_first, named_depth, events_in, script_of, IsEventScript, IsRefusedEvent, IsEventFault}
+use Rattle.event_text.specs.EventScript.{SayInTurn, place_after, named_first, named_depth, events_in, script_of, IsEventScript, IsEventFault}
 use Rattle.event_text.specs.Read.{LineTaken, with_said, fault_at}
 use Rattle.event_text.specs.Words.{lines_of}
 

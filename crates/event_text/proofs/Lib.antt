@@ -23,3 +23,6 @@ pub mod EventProgress
 pub mod EventAnswered
 pub mod Decoding
 pub mod Spelled
+pub mod Numbered
+pub mod StreamLines
+pub mod Reported

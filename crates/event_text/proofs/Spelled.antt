@@ -1,5 +1,5 @@
 -- a line says an event exactly where it is the event's line
-use Rattle.std.proofs.Common.{◌≡◌, ℕ, zero, suc, ◌+◌, ◌-◌, ◌<◌, ◌≤◌, ◌^◌, ◌/◌, ◌%◌, Bool, true, false, cond, eqb, leb, ltb, not, ◌&&◌, Option, Some, None, Result, Ok, Err, List, [], ◌∷◌, ◌++◌, length, codes, slice_index, refl, sym, ap, subst, ◌∙◌, arith}
+use Rattle.std.proofs.Common.{◌≡◌, ℕ, zero, suc, ◌-◌, ◌<◌, ◌≤◌, ◌^◌, ◌/◌, ◌%◌, Bool, true, false, cond, eqb, leb, ltb, not, ◌&&◌, Option, Some, None, Result, Ok, Err, List, [], ◌∷◌, ◌++◌, codes, slice_index, refl, sym, ap, subst, ◌∙◌, arith}
 use Rattle.std.proofs.lemmas.Bool.{and_parts, ne_eqb, le-leb, leb-true, ltb-true}
 use Rattle.std.proofs.lemmas.Fmt.{decimal_is_IsNumeral}
 use Rattle.std.proofs.lemmas.List.Splits.{join_with_byte-slice_split}
@@ -18,7 +18,7 @@ use Rattle.event_text.specs.declared.event.Event.{Event}
 use Rattle.event_text.specs.declared.event.Event.TheVariants.{Ask, Tell, GiveUp, Up, Down, Dev, FailSend, FailPoll, Rest}
 use Rattle.event_text.specs.declared.line_fault.LineWhat.{LineWhat}
 use Rattle.event_text.specs.declared.line_fault.LineWhat.TheVariants.{Unknown, Words, Number, Hex}
-use Rattle.event_text.specs.EventLine.{if_none, if_one, if_two, if_three, and_one, and_two, if_within, number_within, count_of, session_of, endpoint_of, count_said, endpoint_said, made, alone, plain_dev, dev_said, ask_said, tell_said, failing, fail_said, short_said, event_said}
+use Rattle.event_text.specs.EventLine.{if_none, if_one, if_two, if_three, and_one, and_two, if_within, number_within, session_of, count_said, endpoint_said, made, alone, plain_dev, dev_said, ask_said, tell_said, failing, fail_said, short_said, event_said}
 use Rattle.event_text.specs.EventSpelled.{dev_line, event_line, IsCount, DevMayStand, MayStand}
 use Rattle.event_text.specs.Script.{need}
 use Rattle.event_text.specs.Words.{words_of, number_of, bytes_of, if_written, hex_word}

@@ -2,7 +2,6 @@
 use Rattle.std.specs.Prelude.{ℕ, ◌<◌, ◌≤◌, ◌^◌, ⊤, List, ◌++◌, codes}
 use Rattle.std.specs.Fmt.{decimal}
 use Rattle.hex.specs.Hex.{IsBytes}
-use Rattle.host_hub.specs.declared.limits.TheConstants.{MAX_DEPTH}
 use Rattle.tmc_law.specs.declared.dev_event.DevEvent.{DevEvent}
 use Rattle.tmc_law.specs.declared.dev_event.DevEvent.TheVariants.{Take, Exec, Begin, Fill, Answer, Pending, Poll, Notify, Halt, Unplug}
 use Rattle.event_text.specs.declared.event.Event.{Event}

@@ -9,3 +9,5 @@ pub mod Text
 pub mod EventLine
 pub mod EventScript
 pub mod EventSpelled
+pub mod Outcome
+pub mod Report

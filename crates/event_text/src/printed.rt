@@ -3,13 +3,13 @@
 ghost use Rattle.std.specs.Prelude.{◌≡◌, ◌++◌, ◌==◌, OnOk, List, ℕ, codes};
 ghost use Rattle.std.specs.Fmt.{decimal, signed_decimal};
 ghost use Rattle.std.specs.List.{before_first};
-ghost use Rattle.event_text.specs.Printed.{device_word, dir_word, request_line, submit_line, unlink_line, count_line, interface_line, device_line, reply_line, ret_submit_line, ret_unlink_line, layer_word, name_word, bad_line, more_line};
+ghost use Rattle.event_text.specs.Printed.{device_word, dir_word, request_line, submit_line, unlink_line, count_line, interface_line, device_line, reply_line, ret_submit_line, ret_unlink_line, bad_line, more_line};
 ghost use Rattle.event_text.specs.Read.{client_text, device_text};
 ghost use Rattle.event_text.specs.Words.{hex_word};
 
 use crate::text::{Part, put_parts};
 use crate::words::place_of;
-use tmc_base::{Field, Layer, Memory, Name};
+use tmc_base::{Field, Memory};
 use usbip_wire::{
     DeviceRecord, Dir, Down, OpRequest, RetSubmitHead, RetUnlinkHead, SubmitHead, UnlinkHead, Up,
 };
@@ -65,15 +65,7 @@ fn put_bad(field: Field, text: &mut Vec<u8>) -> Result<(), Memory>
     ensures { OnOk result (text.new.items ≡ text.old.items ++ bad_line field) }
 {
     put_parts(
-        &[
-            Part::Word("bad "),
-            Part::Word(layer_word(field.layer)),
-            Part::Word(" "),
-            Part::Word(name_word(field.name)),
-            Part::Word(" "),
-            Part::Number(u64::from(field.offset)),
-            Part::Word("\n"),
-        ],
+        &[Part::Word("bad "), Part::Field(field), Part::Word("\n")],
         text,
     )
 }
@@ -265,40 +257,5 @@ fn dir_word(dir: Dir) -> &'static str
     match dir {
         Dir::Out => "out",
         Dir::In => "in",
-    }
-}
-
-fn layer_word(layer: Layer) -> &'static str
-    ensures { result.now ≡ layer_word layer }
-{
-    match layer {
-        Layer::Op => "op",
-        Layer::Urb => "urb",
-        Layer::Bulk => "bulk",
-        Layer::Control => "control",
-        Layer::Notify => "notify",
-    }
-}
-
-fn name_word(name: Name) -> &'static str
-    ensures { result.now ≡ name_word name }
-{
-    match name {
-        Name::Version => "version",
-        Name::Code => "code",
-        Name::Command => "command",
-        Name::Seqnum => "seqnum",
-        Name::Devid => "devid",
-        Name::Direction => "direction",
-        Name::Endpoint => "endpoint",
-        Name::BufferLength => "buffer_length",
-        Name::Packets => "packets",
-        Name::ActualLength => "actual_length",
-        Name::Pending => "pending",
-        Name::MsgId => "msg_id",
-        Name::Tag => "tag",
-        Name::Inverse => "inverse",
-        Name::Size => "size",
-        Name::Length => "length",
     }
 }

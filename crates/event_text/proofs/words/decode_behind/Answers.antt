@@ -1,4 +1,4 @@
-use Rattle.std.proofs.Common.{rules, ◌≡◌, sym, ap, refl, ◌∙◌, List, ℕ, [], ◌+◌, ◌-◌, ◌/◌, ◌++◌, length, length-take, length-drop, take, drop, replicate, Ok, arith}
+use Rattle.std.proofs.Common.{rules, ◌≡◌, sym, ◌∙◌, ℕ, ◌+◌, ◌-◌, ◌/◌, ◌++◌, length, length-take, length-drop, take, drop, replicate, Ok, arith}
 use Rattle.std.specs.Vec.{vec_len}
 use Rattle.hex.specs.Hex.{decode_of}
 use Rattle.event_text.proofs.Decoding.{sized, filled, decoded_as, room_front, room_length, none_behind}
