@@ -105,7 +105,7 @@ read_keeps laws last message sofar asked unlinks unlinking run s t move ups down
 empty_at : (asked : Endpoint → List SubmitHead) (ups : List up.Message) (downs : List Put) (s : State) (e : Endpoint) → Lines asked [] ups downs s → asked e ≡ [] → EmptyLine e ups downs s
 empty_at asked ups downs s e lines none = all_answered asked e ups downs s lines none
 
-none_linked : (asked : Endpoint → List SubmitHead) (ups : List up.Message) (downs : List Put) (s : State) → Lines asked [] ups downs s → unlinks_in ups ≡ []
+pub none_linked : (asked : Endpoint → List SubmitHead) (ups : List up.Message) (downs : List Put) (s : State) → Lines asked [] ups downs s → unlinks_in ups ≡ []
 none_linked asked ups downs s lines = (none_unlinked (unlinked_by downs) (unlinks_in ups) lines.unlinked).1
 
 pub stands_keeps : (position : Position) → IsClosed position → Keeps (λ ups downs s. IsAt position s) (asked_of None) []

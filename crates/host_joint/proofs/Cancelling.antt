@@ -40,12 +40,12 @@ use Rattle.host_joint.proofs.Given.{the_one, owned_of, begins_piece, piece_text,
 
 -- ---- the unlink is written
 
-fitting_more : (ups : List up.Message) (unlink : UnlinkHead) → AllFitting ups → AllFitting (ups ++ up.Unlink unlink ∷ [])
+pub fitting_more : (ups : List up.Message) (unlink : UnlinkHead) → AllFitting ups → AllFitting (ups ++ up.Unlink unlink ∷ [])
 fitting_more [] unlink h = tt
 fitting_more (up.Submit x transferred ∷ ups) unlink h = (h.0, fitting_more ups unlink h.1)
 fitting_more (up.Unlink x ∷ ups) unlink h = fitting_more ups unlink h
 
-order_more : (ups : List up.Message) (unlink : UnlinkHead) → unlinks_in ups ≡ [] → InOrder (ups ++ up.Unlink unlink ∷ [])
+pub order_more : (ups : List up.Message) (unlink : UnlinkHead) → unlinks_in ups ≡ [] → InOrder (ups ++ up.Unlink unlink ∷ [])
 order_more [] unlink none = ((λ e. tt), tt)
 order_more (up.Submit x transferred ∷ ups) unlink none = order_more ups unlink none
 order_more (up.Unlink x ∷ ups) unlink none = absurd (cc)
@@ -60,10 +60,10 @@ coming_same (up.Submit x transferred ∷ ups) unlink = by (eqb x.ep 1) (coming_s
     by true h = ap (λ (l : List ℕ). x.seqnum ∷ l) h
     by false h = h
 
-numbers_same : (ups : List up.Message) (unlink : UnlinkHead) (s : State) → numbers s (ups ++ up.Unlink unlink ∷ []) ≡ numbers s ups
+pub numbers_same : (ups : List up.Message) (unlink : UnlinkHead) (s : State) → numbers s (ups ++ up.Unlink unlink ∷ []) ≡ numbers s ups
 numbers_same ups unlink s = ap (λ (l : List ℕ). effects s.log ++ (waits s.waiting ++ (numbers_of s.bulk_out ++ l))) (coming_same ups unlink)
 
-good_fits : (downs : List Put) → AllAnswers IsGood downs → AllAnswers IsFit downs
+pub good_fits : (downs : List Put) → AllAnswers IsGood downs → AllAnswers IsFit downs
 good_fits [] h = tt
 good_fits (Submitted asked a transferred ∷ downs) h = (h.0, good_fits downs h.1)
 good_fits (Unlinked asked a ∷ downs) h = absurd h.0
@@ -142,7 +142,7 @@ to_in last message tag size sofar read next ups downs s bond =
     (counted_at (cancelled_with last message tag size (h.front ++ h.request ∷ []) h.answered sofar read) (length (h.front ++ h.request ∷ [])) ups downs s h.counted h.asking)
     out.queue ins.queue (ap gives ins.events)
 
-none_came : (ask : Ask) (ups : List up.Message) (downs : List Put) (s : State) (a : Asking ask ups downs s) → events_of BulkOut downs ≡ [] → a.came ≡ 0
+pub none_came : (ask : Ask) (ups : List up.Message) (downs : List Put) (s : State) (a : Asking ask ups downs s) → events_of BulkOut downs ≡ [] → a.came ≡ 0
 none_came ask ups downs s a none = subst (λ (l : List Event). AllTaken s.halted.bulk_out a.came l) none a.taken
 
 pub to_out : (last : ℕ) (message : List ℕ) (tag size : ℕ) (sofar read : List ℕ) (next : ℕ) (ups : List up.Message) (downs : List Put) (s : State)
@@ -216,7 +216,7 @@ out_not_taken head own = rw (eq-eqb head.ep 1 own) refl
 in_is_taken : (head : SubmitHead) → head.ep ≡ 2 → taken_of head ≡ true
 in_is_taken head own = let e : eqb head.ep 1 ≡ false = ap (λ (n : ℕ). eqb n 1) own in rw e refl
 
-bound_after : (situation : Situation) → {Before : List up.Message → List Put → State → Type 0} (head : SubmitHead) (a : RetSubmitHead) (transferred : List ℕ) (unlinks : List UnlinkHead) (next : ℕ) (ups : List up.Message) (downs : List Put) (s : State)
+pub bound_after : (situation : Situation) → {Before : List up.Message → List Put → State → Type 0} (head : SubmitHead) (a : RetSubmitHead) (transferred : List ℕ) (unlinks : List UnlinkHead) (next : ℕ) (ups : List up.Message) (downs : List Put) (s : State)
     → Waits situation None unlinks → Bond Before (asked_of (Some head)) unlinks next ups (Submitted head a transferred ∷ downs) s → Holds situation ups downs s → Bound situation None unlinks next ups downs s
 bound_after situation {Before} head a transferred unlinks next ups downs s awaited bond held = record { bond = after Before (Holds situation) head a transferred unlinks next ups downs s bond held; awaited = awaited }
 
@@ -355,7 +355,7 @@ unlinked_lines waits_for unlink asked a ups downs s target lines =
       },
     )
 
-unlinked_bond : (Holds More : List up.Message → List Put → State → Type 0) (waits_for : Option SubmitHead) (unlink asked : UnlinkHead) (a : RetUnlinkHead) (next : ℕ) (ups : List up.Message) (downs : List Put) (s : State) → IsUnlinkOf waits_for unlink
+pub unlinked_bond : (Holds More : List up.Message → List Put → State → Type 0) (waits_for : Option SubmitHead) (unlink asked : UnlinkHead) (a : RetUnlinkHead) (next : ℕ) (ups : List up.Message) (downs : List Put) (s : State) → IsUnlinkOf waits_for unlink
     → Bond Holds (asked_of waits_for) (unlink ∷ []) next ups (Unlinked asked a ∷ downs) s → More ups downs s → (a.seqnum ≡ unlink.seqnum) × Bond More (asked_of None) [] next ups downs s
 unlinked_bond Holds More waits_for unlink asked a next ups downs s target bond held =
     let lines = unlinked_lines waits_for unlink asked a ups downs s target bond.lines in (

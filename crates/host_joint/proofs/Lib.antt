@@ -34,4 +34,5 @@ mod Tied
 mod Ahead
 mod Bonding
 mod Cancelling
+mod Saying
 mod Recovering

@@ -19,7 +19,7 @@ use Rattle.host_joint.specs.Requests.{RequestAt, Comes, Pends, Answered, Says, S
 use Rattle.host_joint.specs.Drains.{DrainAt, ReadComes, ReadPends, ReadShort, ReadHalted}
 use Rattle.host_joint.specs.Hand as hand
 use Rattle.host_joint.specs.Tie.{asked_of, IsGood, Tie}
-use Rattle.host_joint.specs.Bond.{IsFit, Bond, Place, Resting, ToAbortIn, WantsPacket, GavePacket, ToAbortOut, ToAbortFirst, Unfinished, AbortedOut, Anywhere, Clearing, BehindClear, position_of, Letter, AbortsIn, ChecksIn, AbortsOut, AbortsFirst, ChecksOut, BeginsClear, ChecksClear, Frees, FreesBehind, IsOf, finds, one_of, other_of, leaves, leaves_else, Situation, Reading, Read, Stands, Requests, Drains, Holds, Bound, Said, SaidOne, SaidOther, Drained, DrainedShort, DrainedHalted}
+use Rattle.host_joint.specs.Bond.{IsFit, Bond, Place, Resting, ToAbortIn, WantsPacket, GavePacket, ToAbortOut, ToAbortFirst, Unfinished, AbortedOut, Anywhere, Clearing, BehindClear, position_of, Letter, AbortsIn, ChecksIn, AbortsOut, AbortsFirst, ChecksOut, BeginsClear, ChecksClear, Frees, FreesBehind, IsOf, finds, one_of, other_of, leaves, leaves_else, Situation, Reading, Saying, Read, Stands, Requests, Drains, Holds, Bound, Said, SaidOne, SaidOther, Drained, DrainedShort, DrainedHalted}
 use Rattle.host_joint.proofs.Flows.{all_answered}
 use Rattle.host_joint.proofs.Booking.{submit_written}
 use Rattle.host_joint.proofs.Numbered.{rises_written}
@@ -28,6 +28,7 @@ use Rattle.host_joint.proofs.Resting.{rests_closed, in_begun_closed, in_wants_cl
 use Rattle.host_joint.proofs.Tying.{TieLaws, none_unlinked}
 use Rattle.host_joint.proofs.Writing.{own_asked, other_asked, fitting_more}
 use Rattle.host_joint.proofs.Bonding.{Keeps, DrainLaw, bond_run, reading_keeps, read_keeps, stands_keeps, drain_keeps}
+use Rattle.host_joint.proofs.Saying.{saying_keeps}
 use Rattle.host_joint.proofs.Cancelling.{empty, after, same_head}
 
 -- ---- each place is kept by what a device does by itself
@@ -54,6 +55,10 @@ pub bound_run : (laws : TieLaws) → LetterLaws → (situation : Situation) (run
     → Runs s run t → StaysPlugged run → Bound situation waits unlinks next (inputs run ++ ups) downs s → Bound situation waits unlinks next ups (downs ++ outputs run) t
 bound_run laws letters (Reading last message tag size sofar read taken) run waits unlinks next ups downs s t goes plugged bound = record {
   bond = bond_run laws _ (asked_of waits) unlinks (reading_keeps laws.ask last message tag size sofar read taken (asked_of waits) unlinks bound.awaited) run next ups downs s t goes plugged bound.bond;
+  awaited = bound.awaited;
+}
+bound_run laws letters (Saying tag first ended taken gone) run waits unlinks next ups downs s t goes plugged bound = record {
+  bond = bond_run laws _ (asked_of waits) unlinks (saying_keeps laws.ask tag first ended taken gone waits unlinks bound.awaited) run next ups downs s t goes plugged bound.bond;
   awaited = bound.awaited;
 }
 bound_run laws letters (Read last message sofar) run waits unlinks next ups downs s t goes plugged bound = record {

@@ -1,5 +1,5 @@
 -- example hosts that are tied
-use Rattle.std.proofs.Common.{◌≡◌, ◌∙◌, inl, inr, ℕ, ◌<◌, Bool, true, false, List, [], ◌∷◌, ◌++◌, take, drop, replicate, codes, slice_index, ◌^◌, zero, suc, Some, None, refl, ap, sym, subst, arith, lit<, lit≤}
+use Rattle.std.proofs.Common.{◌≡◌, ◌∙◌, inl, inr, ℕ, ◌+◌, ◌<◌, Bool, true, false, List, [], ◌∷◌, ◌++◌, take, drop, replicate, codes, slice_index, ◌^◌, zero, suc, Some, None, refl, ap, sym, subst, arith, lit<, lit≤}
 use Rattle.usbip_wire.specs.declared.submit.SubmitHead.{SubmitHead}
 use Rattle.usbip_wire.specs.Up as up
 use Rattle.tmc_wire.specs.declared.header.OutHeader.TheVariants.{Message}
@@ -21,6 +21,11 @@ use Rattle.host_joint.specs.Pieces.{IsPiece, IsWhole, IsFaultless}
 use Rattle.host_joint.specs.Tie.{IsUndisturbed, asked_of, Tie, IsGiven, Goes, TakesTransfer, TakesFull, TakesLast, TakesPiece, Owns}
 use Rattle.host_joint.specs.WorkedAsks.{query_ask, query_job, request_job}
 use Rattle.host_joint.specs.WorkedTies.{querying, queried, foreign}
+use Rattle.host_joint.specs.Bond.{WasSaying}
+use Rattle.host_joint.specs.Lines.{Sent}
+use Rattle.host_joint.specs.Jobs.{Job, sent, OutLine, Unbegun, Partly, Cut, Shut}
+use Rattle.tmc_law.specs.WorkedSession.{unlink}
+use Rattle.host_joint.proofs.Counting.{all_past}
 use Rattle.host_joint.proofs.Examples.{none_ran}
 
 pub spaces_are : IsTransfer (out_submit 1 112) (Message 1 100 false) (replicate 100 32) spaces_text
@@ -140,3 +145,22 @@ query_ends fields (TakesPiece last tag size message sofar read carried response 
 pub not_foreign : Owns foreign queried → ⊥
 not_foreign (inl none) = let e : identity ≡ [] = none in absurd (cc)
 not_foreign (inr owned) = none_ran owned.0 owned.1
+
+-- ---- a transfer that is on its way was not taken
+
+no_job : {B : Type 0} (x : Sent) (todo here later : List Job) → todo ≡ [] → todo ≡ here ++ later → x ∷ [] ≡ sent later → B
+no_job x todo [] [] none whole come = absurd (cc)
+no_job x todo [] (y ∷ later) none whole come = absurd (cc)
+no_job x todo (y ∷ here) later none whole come = absurd (cc)
+
+still_coming : (x : Sent) (todo : List Job) → todo ≡ [] → OutLine false true todo (x ∷ []) [] None → ⊥
+still_coming x todo none (Unbegun here later unshut whole come line free) = no_job x todo here later none whole come
+still_coming x todo none (Partly job here later moved left unshut whole come bytes begun more line runs) = cc
+still_coming x todo none (Cut job moved left was unshut whole come bytes begun more line runs) = cc
+still_coming x todo none (Shut shuts whole line free) = cc
+
+pub not_taken : WasSaying 1 true false true true (up.Submit (out_submit 1 112) spaces_text ∷ up.Unlink (unlink 2 1) ∷ []) [] start → ⊥
+not_taken h =
+    let a = h.asking in
+    let past = all_past (h.front ++ h.job ∷ []) a.past a.todo a.hit a.came a.whole (a.counted ∙ ap (λ (n : ℕ). n + a.came) h.counted) in
+    still_coming (record { head = out_submit 1 112; transferred = spaces_text }) a.todo past.todo_none a.out

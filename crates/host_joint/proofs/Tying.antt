@@ -53,12 +53,12 @@ pub none_unlinked : (a b : List UnlinkHead) → [] ≡ a ++ b → (a ≡ []) × 
 none_unlinked [] b e = (refl, sym e)
 none_unlinked (x ∷ a) b e = absurd (cc)
 
-in_order : (ups : List up.Message) → unlinks_in ups ≡ [] → InOrder ups
+pub in_order : (ups : List up.Message) → unlinks_in ups ≡ [] → InOrder ups
 in_order [] none = tt
 in_order (up.Submit head transferred ∷ ups) none = in_order ups none
 in_order (up.Unlink head ∷ ups) none = absurd (cc)
 
-unlinks_taken : (move : Move) (ups : List up.Message) → unlinks_in (taken move ++ ups) ≡ [] → unlinks_in (taken move) ≡ []
+pub unlinks_taken : (move : Move) (ups : List up.Message) → unlinks_in (taken move ++ ups) ≡ [] → unlinks_in (taken move) ≡ []
 unlinks_taken (Comes (up.Submit head transferred)) ups none = refl
 unlinks_taken (Comes (up.Unlink head)) ups none = absurd (cc)
 unlinks_taken _ ups none = refl

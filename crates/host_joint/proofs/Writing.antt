@@ -81,7 +81,7 @@ out_fits head header text bytes is = record { endpoint = BulkOut; number = is.nu
 empty_line : (ups : List up.Message) (downs : List Put) (s : State) (next : ℕ) (hand : Hand) → Tie hand None next ups downs s → (e : Endpoint) → EmptyLine e ups downs s
 empty_line ups downs s next hand tie e = all_answered (asked_of None) e ups downs s tie.lines refl
 
-at_rest : (ups : List up.Message) (downs : List Put) (s : State) (next : ℕ) → (tie : Tie Free None next ups downs s) → AtRest next s
+pub at_rest : (ups : List up.Message) (downs : List Put) (s : State) (next : ℕ) → (tie : Tie Free None next ups downs s) → AtRest next s
 at_rest ups downs s next tie =
     let at = tie.held.1 in
     let fresh = begins_new next next ups s (omega arith) tie.below in
@@ -97,7 +97,7 @@ at_rest ups downs s next tie =
       log = fresh.0;
     }
 
-quiet : (ups : List up.Message) (downs : List Put) (s : State) (next : ℕ) (hand : Hand) → Tie hand None next ups downs s → IsQuiet ups downs
+pub quiet : (ups : List up.Message) (downs : List Put) (s : State) (next : ℕ) (hand : Hand) → Tie hand None next ups downs s → IsQuiet ups downs
 quiet ups downs s next hand tie = record {
   control = (empty_line ups downs s next hand tie Control).sent;
   bulk_out = (empty_line ups downs s next hand tie BulkOut).sent;
@@ -109,15 +109,15 @@ quiet ups downs s next hand tie = record {
 
 -- ---- a part of a message
 
-saying : (message said : List ℕ) (ups : List up.Message) (downs : List Put) (s : State) (h : IsSaying message said None ups downs s)
+pub saying : (message said : List ℕ) (ups : List up.Message) (downs : List Put) (s : State) (h : IsSaying message said None ups downs s)
     → Asking (ask_with h.last message h.tag h.size (h.front ++ h.job ∷ []) (length (h.front ++ h.job ∷ [])) [] []) ups downs s
 saying message said ups downs s h =
     subst (λ (n : ℕ). Asking (ask_with h.last message h.tag h.size (h.front ++ h.job ∷ []) n [] []) ups downs s) (omega (arith, h.counted)) h.asking
 
-counts_one : (written : List Job) (job : Job) (answered : ℕ) (head : SubmitHead) → head.ep ≡ 1 → length written ≡ answered → length (written ++ job ∷ []) ≡ answered + transfers_of (Some head)
+pub counts_one : (written : List Job) (job : Job) (answered : ℕ) (head : SubmitHead) → head.ep ≡ 1 → length written ≡ answered → length (written ++ job ∷ []) ≡ answered + transfers_of (Some head)
 counts_one written job answered head is all = omega (arith, length-append written (job ∷ []), one_transfer head is, all)
 
-goes_on_part : (laws : WireLaws) (before : Hand) (head : SubmitHead) (bytes : List ℕ) (tag : ℕ) (message said text more : List ℕ) (ups : List up.Message) (downs : List Put) (s : State)
+unfoldable pub goes_on_part : (laws : WireLaws) (before : Hand) (head : SubmitHead) (bytes : List ℕ) (tag : ℕ) (message said text more : List ℕ) (ups : List up.Message) (downs : List Put) (s : State)
     → Tie before None head.seqnum ups downs s → Holds before None ups downs s → Speaks before message said → message ≡ said ++ (text ++ more)
     → IsTransfer head (Message tag (length text) false) text bytes → IsSaying message (said ++ text) (Some head) (ups ++ up.Submit head bytes ∷ []) downs s
 goes_on_part laws Free head bytes tag message said text more ups downs s tie h speaks whole is =
@@ -159,7 +159,7 @@ goes_on_part laws (Said last other) head bytes tag message said text more ups do
 goes_on_part laws (Reads last other t n sofar read) head bytes tag message said text more ups downs s tie h speaks whole is = absurd speaks
 goes_on_part laws (Pauses last other sofar) head bytes tag message said text more ups downs s tie h speaks whole is = absurd speaks
 
-ends_part : (laws : WireLaws) (before : Hand) (head : SubmitHead) (bytes : List ℕ) (tag : ℕ) (message said text : List ℕ) (ups : List up.Message) (downs : List Put) (s : State)
+unfoldable pub ends_part : (laws : WireLaws) (before : Hand) (head : SubmitHead) (bytes : List ℕ) (tag : ℕ) (message said text : List ℕ) (ups : List up.Message) (downs : List Put) (s : State)
     → Tie before None head.seqnum ups downs s → Holds before None ups downs s → Speaks before message said → message ≡ said ++ text
     → IsTransfer head (Message tag (length text) true) text bytes → HasSaid head.seqnum message (Some head) (ups ++ up.Submit head bytes ∷ []) downs s
 ends_part laws Free head bytes tag message said text ups downs s tie h speaks whole is =

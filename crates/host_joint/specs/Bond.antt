@@ -11,19 +11,21 @@ use Rattle.tmc_wire.specs.Standard.{header_size}
 use Rattle.tmc_wire.specs.Header.{IsTag, IsSize}
 use Rattle.tmc_law.specs.Endpoint.{Endpoint, Control, BulkOut, BulkIn, number_of}
 use Rattle.tmc_law.specs.State.{State, start, is_halted}
+use Rattle.tmc_law.specs.Aborts.{tag_of}
 use Rattle.tmc_law.specs.Put.{Put, Submitted, Unlinked, success, stalled}
 use Rattle.tmc_law.specs.AnswerFits.{AllAnswers, FitsSubmit, FitsUnlink}
 use Rattle.tmc_law.specs.Numbers.{AllBelow, Rises, numbers}
 use Rattle.tmc_law.specs.Run.{Entry, Runs, IsFront}
 use Rattle.host_joint.specs.Lines.{Lines, Fitting, AllFitting, InOrder, sent_to, events_of}
-use Rattle.host_joint.specs.Jobs.{Job}
+use Rattle.host_joint.specs.Jobs.{Job, last_header}
 use Rattle.host_joint.specs.Reads.{read_size, IsRead}
 use Rattle.host_joint.specs.Unlinking.{Unlinking}
-use Rattle.host_joint.specs.Stage.{Ran, IsUnasked}
+use Rattle.host_joint.specs.Stage.{Ran, IsInner, IsFinal, IsUnasked}
 use Rattle.host_joint.specs.Asking.{Ask, Asking}
 use Rattle.host_joint.specs.Positions.{Position, IsAt, rests, in_begun, in_wants, in_ended, out_begun, out_first, out_unfinished, out_aborted, anything, clears, cleared}
 use Rattle.host_joint.specs.Requests.{Choice, RequestAt, IsClass, IsClearHalt, in_aborts, in_fails, in_checked, in_pending, out_rests, out_aborts, out_fails, out_checked, out_pending, begins_clear, never, clear_checked, clear_pending, usable_again, usable_cleared}
 use Rattle.host_joint.specs.Drains.{DrainAt}
+use Rattle.host_joint.specs.Hand.{Hand, Free}
 use Rattle.host_joint.specs.Pieces.{IsPiece, BeginsPiece}
 use Rattle.host_joint.specs.Tie.{asked_of, ask_with}
 
@@ -83,6 +85,38 @@ pub record WasRead (last : ℕ) (message sofar : List ℕ) (ups : List up.Messag
   pub size : ℕ
   pub asking : Asking (cancelled_with last message tag size [] 0 sofar []) ups downs s
   pub some : sofar ≢ []
+
+-- what a host knows of an ask of which no piece was requested, or of a tell
+abbrev pub said_with : (gone : Bool) (last : ℕ) (message : List ℕ) (tag size : ℕ) (written : List Job) (answered : ℕ) → Ask
+said_with gone last message tag size written answered = record (ask_with last message tag size written answered [] []) { gone = gone }
+
+-- the transfer that a host writes next is the first one of its message
+abbrev pub begins : Hand → Bool
+begins Free = true
+begins _ = false
+
+-- A message whose last transfer so far has this tag: whether it is the first one, whether it ends the message, whether it was answered
+-- as taken, and whether it was unlinked.
+pub record WasSaying (tag : ℕ) (first ended taken gone : Bool) (ups : List up.Message) (downs : List Put) (s : State) : Type 0 where
+  pub last : ℕ
+  pub message : List ℕ
+  pub mark : ℕ
+  pub size : ℕ
+  pub front : List Job
+  pub job : Job
+  pub answered : ℕ
+  pub asking : Asking (said_with gone last message mark size (front ++ job ∷ []) answered) ups downs s
+  pub counted : answered ≡ (if taken then length (front ++ job ∷ []) else length front)
+  pub inner : IsInner (last_header front)
+  pub header : tag_of job.header ≡ tag
+  pub alone : first ≡ true → front ≡ []
+  pub goes_on : ended ≡ false → IsInner (Some job.header)
+  pub final : ended ≡ true → IsFinal (Some job.header)
+
+-- the unlinks that are not answered, where it was unlinked, and where it was not
+abbrev pub IsCancelled : (gone : Bool) → Option SubmitHead → List UnlinkHead → Type 0
+IsCancelled true waits unlinks = Unlinking (asked_of waits) unlinks
+IsCancelled false waits unlinks = unlinks ≡ []
 
 -- a device between two requests of a recovery
 pub data Place : Type 0 where
@@ -204,6 +238,8 @@ leaves_else (FreesBehind endpoint) = Anywhere
 pub data Situation : Type 0 where
   -- the cancelled ask is read yet, or its request is yet to be answered
   Reading : (last : ℕ) (message : List ℕ) (tag size : ℕ) (sofar read : List ℕ) (taken : Bool) → Situation
+  -- the last transfer so far of a message is cancelled, or may be
+  Saying : (tag : ℕ) (first ended taken gone : Bool) → Situation
   -- its piece was read to the end
   Read : (last : ℕ) (message sofar : List ℕ) → Situation
   -- between two requests of the recovery
@@ -214,6 +250,7 @@ pub data Situation : Type 0 where
 
 abbrev pub Holds : Situation → List up.Message → List Put → State → Type 0
 Holds (Reading last message tag size sofar read taken) ups downs s = WasReading last message tag size sofar read taken ups downs s
+Holds (Saying tag first ended taken gone) ups downs s = WasSaying tag first ended taken gone ups downs s
 Holds (Read last message sofar) ups downs s = WasRead last message sofar ups downs s
 Holds (Stands place) ups downs s = IsAt (position_of place) s
 Holds (Requests head letter) ups downs s = RequestAt head (position_of (finds letter)) (one_of letter) (other_of letter) (sent_to Control ups) (events_of Control downs) s
@@ -222,6 +259,7 @@ Holds (Drains head) ups downs s = DrainAt head (sent_to BulkIn ups) (events_of B
 -- which submit and which unlinks are not answered then
 abbrev pub Waits : Situation → Option SubmitHead → List UnlinkHead → Type 0
 Waits (Reading last message tag size sofar read taken) waits unlinks = Unlinking (asked_of waits) unlinks
+Waits (Saying tag first ended taken gone) waits unlinks = IsCancelled gone waits unlinks
 Waits (Read last message sofar) waits unlinks = Unlinking (asked_of waits) unlinks
 Waits (Stands place) waits unlinks = (waits ≡ None) × (unlinks ≡ [])
 Waits (Requests head letter) waits unlinks = (waits ≡ Some head) × (unlinks ≡ []) × IsOf head letter
@@ -256,6 +294,12 @@ pub data StillGoes (last : ℕ) (message : List ℕ) (tag size : ℕ) (sofar rea
   StillHalted : (endpoint : Endpoint) → head.ep ≡ number_of endpoint → is_halted endpoint s ≡ true → answer.status ≡ stalled
       → Bound (Reading last message tag size sofar read (taken_of head)) None unlinks next ups downs s
       → StillGoes last message tag size sofar read head answer transferred unlinks next ups downs s
+
+-- the answer to a transfer of a message: it was taken whole, or Bulk-OUT is halted
+abbrev pub TakesPart : (tag : ℕ) (first ended gone : Bool) (head : SubmitHead) (answer : RetSubmitHead) (unlinks : List UnlinkHead) (next : ℕ) (ups : List up.Message) (downs : List Put) → State → Type 0
+TakesPart tag first ended gone head answer unlinks next ups downs s =
+    ((answer.status ≡ success) × (answer.actual ≡ head.length) × Bound (Saying tag first ended true gone) None unlinks next ups downs s)
+    ⊎ ((answer.status ≡ stalled) × (is_halted BulkOut s ≡ true) × Bound (Saying tag first ended false gone) None unlinks next ups downs s)
 
 -- an answer to a request of the recovery has one of two layouts, and leaves the device where that one says
 pub data Said (letter : Letter) (layout : List ℕ) (next : ℕ) (ups : List up.Message) (downs : List Put) (s : State) : Type 0 where

@@ -7,6 +7,7 @@ ghost use Rattle.usbip_wire.specs.declared.unlink.UnlinkHead.{UnlinkHead};
 ghost use Rattle.usbip_wire.specs.declared.ret_submit.RetSubmitHead.{RetSubmitHead};
 ghost use Rattle.usbip_wire.specs.declared.ret_unlink.RetUnlinkHead.{RetUnlinkHead};
 ghost use Rattle.usbip_wire.specs.Up as up;
+ghost use Rattle.tmc_wire.specs.declared.header.OutHeader.TheVariants.{Message};
 ghost use Rattle.tmc_law.specs.Endpoint.{BulkOut, BulkIn, number_of};
 ghost use Rattle.tmc_law.specs.State.{State};
 ghost use Rattle.tmc_law.specs.Put.{Put, Submitted, Unlinked, success};
@@ -17,7 +18,7 @@ ghost use Rattle.host_joint.specs.Stage.{Ran};
 ghost use Rattle.host_joint.specs.Asking.{StaysPlugged};
 ghost use Rattle.host_joint.specs.Hand as hand;
 ghost use Rattle.host_joint.specs.Tie.{Tie, Owns, IsOwned};
-ghost use Rattle.host_joint.specs.Bond.{Situation, Reading, Read, Stands, Requests, Drains, Letter, IsOf, finds, Resting, ToAbortIn, ToAbortFirst, WantsPacket, Anywhere, BehindClear, Bound, StillGoes, Said, Drained, taken_of, IsUnlinkOf};
+ghost use Rattle.host_joint.specs.Bond.{Situation, Reading, Saying, begins, TakesPart, Read, Stands, Requests, Drains, Letter, IsOf, finds, Resting, ToAbortIn, ToAbortOut, ToAbortFirst, WantsPacket, Anywhere, BehindClear, Bound, StillGoes, Said, Drained, taken_of, IsUnlinkOf};
 
 use crate::{drains_stay, requests_stay};
 use instr_plain::one_response;
@@ -43,6 +44,38 @@ pub fn cancels_begin()
     ensures to_clear { (situation : Situation) (next : ℕ) (ups : List up.Message) (downs : List Put) (s : State)
         → Bound situation None [] next ups downs s → Bound (Stands Anywhere) None [] next ups downs s }
 {}
+
+/// A message may be cancelled while its last transfer so far is not answered. What binds a host and a device then holds from where that
+/// transfer is written, beside the tie; with the cancel, its unlink comes behind. The answer says that the transfer was taken whole, or that
+/// Bulk-OUT is halted. Where all was answered, the recovery begins: with this Bulk-OUT transfer to abort, which is in progress at most where it was
+/// not taken, and with nothing where it was taken and ends the message.
+pub fn messages_are_cancelled()
+    ensures part { (before : hand.Hand) (head : SubmitHead) (bytes : List ℕ) (tag : ℕ) (message said text more : List ℕ) (next : ℕ) (ups : List up.Message) (downs : List Put) (s : State)
+        → hand.Speaks before message said → message ≡ said ++ (text ++ more) → hand.IsTransfer head (Message tag (length text) false) text bytes → head.seqnum ≡ next → Tie before None next ups downs s
+        → Bound (Saying tag (begins before) false false false) (Some head) [] (next + 1) (ups ++ up.Submit head bytes ∷ []) downs s }
+    ensures last_part { (before : hand.Hand) (head : SubmitHead) (bytes : List ℕ) (tag : ℕ) (message said text : List ℕ) (next : ℕ) (ups : List up.Message) (downs : List Put) (s : State)
+        → hand.Speaks before message said → message ≡ said ++ text → hand.IsTransfer head (Message tag (length text) true) text bytes → head.seqnum ≡ next → Tie before None next ups downs s
+        → Bound (Saying tag (begins before) true false false) (Some head) [] (next + 1) (ups ++ up.Submit head bytes ∷ []) downs s }
+    ensures unlink { (tag : ℕ) (first ended : Bool) (head : SubmitHead) (unlink : UnlinkHead) (next : ℕ) (ups : List up.Message) (downs : List Put) (s : State)
+        → unlink.seqnum ≡ next → unlink.target ≡ head.seqnum → Bound (Saying tag first ended false false) (Some head) [] next ups downs s
+        → Bound (Saying tag first ended false true) (Some head) (unlink ∷ []) (next + 1) (ups ++ up.Unlink unlink ∷ []) downs s }
+    ensures answer { (tag : ℕ) (first ended gone : Bool) (head : SubmitHead) (unlinks : List UnlinkHead) (next : ℕ) (asked : SubmitHead) (answer : RetSubmitHead) (transferred : List ℕ) (ups : List up.Message) (downs : List Put) (s : State)
+        → head.ep ≡ number_of BulkOut → Bound (Saying tag first ended false gone) (Some head) unlinks next ups (Submitted asked answer transferred ∷ downs) s
+        → (asked ≡ head) × (answer.seqnum ≡ head.seqnum) × TakesPart tag first ended gone head answer unlinks next ups downs s }
+    ensures unlinked { (tag : ℕ) (first ended taken : Bool) (waits : Option SubmitHead) (unlink : UnlinkHead) (next : ℕ) (asked : UnlinkHead) (answer : RetUnlinkHead) (ups : List up.Message) (downs : List Put) (s : State)
+        → IsUnlinkOf waits unlink → Bound (Saying tag first ended taken true) waits (unlink ∷ []) next ups (Unlinked asked answer ∷ downs) s
+        → (answer.seqnum ≡ unlink.seqnum) × Bound (Saying tag first ended taken true) None [] next ups downs s }
+    ensures to_first { (tag : ℕ) (ended gone : Bool) (next : ℕ) (ups : List up.Message) (downs : List Put) (s : State)
+        → Bound (Saying tag true ended false gone) None [] next ups downs s → Bound (Stands (ToAbortFirst tag)) None [] next ups downs s }
+    ensures to_out { (tag : ℕ) (first ended taken gone : Bool) (next : ℕ) (ups : List up.Message) (downs : List Put) (s : State)
+        → Bound (Saying tag first ended taken gone) None [] next ups downs s → Bound (Stands (ToAbortOut tag)) None [] next ups downs s }
+    ensures to_rest { (tag : ℕ) (first gone : Bool) (next : ℕ) (ups : List up.Message) (downs : List Put) (s : State)
+        → Bound (Saying tag first true true gone) None [] next ups downs s → Bound (Stands Resting) None [] next ups downs s }
+{
+    headers_are_read_again();
+    header_offsets_are_laid_out();
+    transfers_are_read_again();
+}
 
 /// Each run of a lawful device that is not unplugged keeps the situation, with halts of any endpoint. A message that was executed keeps its
 /// response.

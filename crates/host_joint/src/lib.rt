@@ -23,8 +23,8 @@ pub use asks::{
     unplugged_asks_were_in_hand, unplugging_is_the_end,
 };
 pub use bonds::{
-    bonds_stay, cancelled_answers_are_taken, cancelled_asks_own, cancels_begin, recoveries_end,
-    recoveries_go_on,
+    bonds_stay, cancelled_answers_are_taken, cancelled_asks_own, cancels_begin,
+    messages_are_cancelled, recoveries_end, recoveries_go_on,
 };
 pub use host_moves::{answers_are_taken, asks_are_settled_late, messages_are_written};
 pub use joints::{

@@ -21,14 +21,14 @@ ghost use Rattle.host_joint.specs.Owned.{Owned};
 ghost use Rattle.host_joint.specs.Stage.{Ran};
 ghost use Rattle.host_joint.specs.Hand.{Free};
 ghost use Rattle.host_joint.specs.Tie.{Tie, IsOwned};
-ghost use Rattle.host_joint.specs.Bond.{Reading, Read, Bound};
+ghost use Rattle.host_joint.specs.Bond.{Reading, Saying, Read, Bound};
 ghost use Rattle.host_joint.specs.WorkedTies.{telling, told, told_to, querying, queried, foreign, last_request};
 ghost use Rattle.host_joint.specs.WorkedAsks.{query_ask, read_ask, query_asked, foreign_ask};
 
 use crate::{
     answers_are_the_expected, asking_stays, cancelled_answers_are_taken, cancelled_asks_own,
-    cancels_begin, pieces_have_no_fault, tickets_end, ties_begin, ties_own, ties_stay,
-    writes_keep_ties,
+    cancels_begin, messages_are_cancelled, pieces_have_no_fault, tickets_end, ties_begin, ties_own,
+    ties_stay, writes_keep_ties,
 };
 use tmc_law::worked::{a_message_comes_in_parts, a_query_is_answered};
 use tmc_law::{
@@ -84,7 +84,8 @@ pub fn worked_hosts_are_tied()
 }
 
 /// A query is cancelled while its response is on the way: the host is bound before it comes, and when it came it has all of it, so the
-/// completion wins the race. A query is cancelled behind its request, which is not answered yet. A host that takes the bytes of an earlier response for
+/// completion wins the race. A query is cancelled behind its request, and a message behind its first transfer, which are not answered yet; a host that counts that
+/// transfer as taken is bound to no such device. A host that takes the bytes of an earlier response for
 /// its own is bound to no device that gave them.
 pub fn worked_cancels_are_bound()
     ensures raced { Bound (Reading 1 (codes "*IDN?") 2 4000 [] [] true) (Some response_submit) (unlink 4 3 ∷ []) 5 (up.Unlink (unlink 4 3) ∷ [])
@@ -93,12 +94,18 @@ pub fn worked_cancels_are_bound()
         × IsOwned 1 (codes "*IDN?") identity queried }
     ensures fresh { Bound (Reading 2 spaced 3 4000 [] [] false) (Some (out_submit 3 12)) (unlink 4 3 ∷ []) 5
         (up.Submit (out_submit 3 12) last_request ∷ up.Unlink (unlink 4 3) ∷ []) [] told_to }
+    ensures stopped { Bound (Saying 1 true false false true) (Some (out_submit 1 112)) (unlink 2 1 ∷ []) 3
+        (up.Submit (out_submit 1 112) spaces_text ∷ up.Unlink (unlink 2 1) ∷ []) [] start }
+    ensures untaken { Bound (Saying 1 true false true true) (Some (out_submit 1 112)) (unlink 2 1 ∷ []) 3
+        (up.Submit (out_submit 1 112) spaces_text ∷ up.Unlink (unlink 2 1) ∷ []) [] start → ⊥ }
     ensures foreign { (waits : Option SubmitHead) (unlinks : List UnlinkHead) (next : ℕ) (ups : List up.Message) (downs : List Put)
         → Bound (Reading 4 (codes "*IDN?") 2 4000 [] response_text true) waits unlinks next ups downs queried → ⊥ }
 {
     worked_hosts_are_tied();
     writes_keep_ties();
+    ties_begin();
     cancels_begin();
+    messages_are_cancelled();
     cancelled_answers_are_taken();
     cancelled_asks_own();
     pieces_have_no_fault();

@@ -1,17 +1,18 @@
-use Rattle.std.proofs.Common.{◌≡◌, inr, List, ℕ, Bool, true, [], ◌∷◌, codes, None, refl, sym, subst, arith, lit<}
+use Rattle.std.proofs.Common.{◌≡◌, inr, List, ℕ, Bool, true, false, [], ◌∷◌, codes, replicate, None, refl, sym, subst, arith, lit<, lit≤}
 use Rattle.usbip_wire.specs.Up as up
 use Rattle.tmc_wire.specs.declared.header.OutHeader.TheVariants.{Request}
 use Rattle.tmc_wire.specs.Header.{out_header_bytes}
 use Rattle.tmc_law.specs.Put.{success}
 use Rattle.tmc_law.specs.WorkedSession.{out_submit, unlink, answered}
-use Rattle.tmc_law.specs.WorkedParts.{spaced}
+use Rattle.tmc_law.specs.State.{start}
+use Rattle.tmc_law.specs.WorkedParts.{spaced, spaces_text}
 use Rattle.tmc_law.specs.WorkedQuery.{response_submit, response_text, identity}
 use Rattle.host_joint.specs.Hand.{IsTransfer, WritesRequest}
 use Rattle.host_joint.specs.Hand as hand
 use Rattle.host_joint.specs.Pieces.{IsPiece, IsFaultless, IsWhole}
 use Rattle.host_joint.specs.Bond.{Read, Bound, StillGoes, StillTaken, StillFull, StillEnds, StillHalted}
 use Rattle.host_joint.specs.WorkedTies.{told, told_to, queried, last_request}
-use Rattle.host_joint.proofs.Tied.{not_foreign}
+use Rattle.host_joint.proofs.Tied.{not_foreign, spaces_are, not_taken}
 use Rattle.host_joint.proofs.worked.worked_cancels_are_bound.Goals as goal
 
 request_is : IsTransfer (out_submit 3 12) (Request 3 4000) [] last_request
@@ -47,3 +48,11 @@ returns-clause-fresh c =
 
 pub returns-clause-foreign : goal.returns-clause-foreign
 returns-clause-foreign c waits unlinks next ups downs bound = not_foreign (c.cancelled_asks_own.ensures.reading 4 (codes "*IDN?") 2 4000 [] response_text true waits unlinks next ups downs queried bound)
+
+pub returns-clause-stopped : goal.returns-clause-stopped
+returns-clause-stopped c =
+    c.messages_are_cancelled.ensures.unlink 1 true false (out_submit 1 112) (unlink 2 1) 2 (up.Submit (out_submit 1 112) spaces_text ∷ []) [] start refl refl
+    (c.messages_are_cancelled.ensures.part hand.Free (out_submit 1 112) spaces_text 1 spaced [] (replicate 100 32) (codes "*IDN?") 1 [] [] start (refl, lit≤ tt) refl spaces_are refl (c.ties_begin.ensures.power_on 1))
+
+pub returns-clause-untaken : goal.returns-clause-untaken
+returns-clause-untaken c bound = not_taken bound.bond.held
