@@ -71,7 +71,7 @@ pub same_tag : (s : Setting) (past : Past) (sent : List ℕ) (core : HubCore) �
 same_tag s past sent core k = ap (λ (n : ℕ). n % 255 + 1) k.tag
 
 -- one is out
-cons_same : (x e : Entry) → x ∷ [] ≡ e ∷ [] → x ≡ e
+pub cons_same : (x e : Entry) → x ∷ [] ≡ e ∷ [] → x ≡ e
 cons_same x e h = cc
 
 pub cons_none : {P : Type 0} (x : Entry) → x ∷ [] ≡ [] → P

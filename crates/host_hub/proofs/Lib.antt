@@ -14,6 +14,10 @@ pub mod Asks
 pub mod Nexts
 pub mod Parts
 pub mod Responses
+pub mod Dones
+pub mod Taken
+pub mod Heard
+pub mod Falls
 pub mod Givings
 pub mod Lawful
 pub mod Numbers

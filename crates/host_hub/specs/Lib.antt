@@ -32,6 +32,7 @@ pub mod OneOut
 pub mod Stands
 pub mod Writes
 pub mod Asks
+pub mod Hears
 pub mod Owned
 pub mod Worked
 pub mod WorkedStops

@@ -12,7 +12,8 @@ use Rattle.host_hub.specs.Book.{active, asking_of}
 use Rattle.host_hub.specs.BookSeen.{BookSeen, Seen, ticket_of}
 use Rattle.host_hub.specs.BookChanges.{with_seen}
 use Rattle.host_hub.specs.Plan.{ended_at, follows, last, next_tag, parts, request_of}
-use Rattle.host_hub.specs.Hand.{is_begun}
+use Rattle.host_hub.specs.Hand.{in_hand, is_begun}
+use Rattle.host_hub.specs.Law.{IsHandOver}
 use Rattle.host_hub.specs.Outstanding.{outstanding}
 use Rattle.host_hub.specs.Recovery.{AreRecovered}
 use Rattle.host_hub.specs.Steps.{IsClean, Working}
@@ -142,3 +143,19 @@ pub record IsReadNext (core : HubCore) : Type 0 where
   pub past : Past
   pub sent : List ℕ
   pub is : ReadIsNext setting past sent core
+
+-- the ticket in hand is settled, nothing is out, and the recoveries are over
+pub record Done (s : Setting) (past : Past) (sent : List ℕ) (core : HubCore) : Type 0 where
+  pub knows : Knows s past sent core
+  pub working : Working s past
+  pub running : core.end ≡ None
+  pub hand : IsHandOver (in_hand past) past
+  pub none_out : outstanding past ≡ []
+  pub recovered : AreRecovered past
+  pub queue : OneOut core.urbs
+
+pub record IsDone (core : HubCore) : Type 0 where
+  pub setting : Setting
+  pub past : Past
+  pub sent : List ℕ
+  pub is : Done setting past sent core

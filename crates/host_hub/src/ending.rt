@@ -32,7 +32,7 @@ fn outcome_of(end: End) -> Outcome
 
 impl HubCore {
     /// Settles every live ticket by this end, in their order.
-    fn settle_all(&mut self, end: End)
+    pub(crate) fn settle_all(&mut self, end: End)
         requires { HasBook self.old }
         ensures goes { (s : Setting) (past : Past) (sent : List ℕ) → KeepsBook past → Knows s past sent self.old
             → Knows s (settle_all end (live past) past) sent self.new }

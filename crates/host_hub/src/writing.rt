@@ -16,7 +16,7 @@ ghost use Rattle.host_hub.specs.BookSeen.{Seen, ticket_of};
 ghost use Rattle.host_hub.specs.Plan.{part_of};
 ghost use Rattle.host_hub.specs.Record.{Asking, Past};
 ghost use Rattle.host_hub.specs.Stands.{GoesTo};
-ghost use Rattle.host_hub.specs.Writes.{CanPart, Ends, CanRequest, CanWrite, IsPartNext, IsReadNext, IsReady, IsRequestNext, PartIsNext, Puts, ReadIsNext, Ready, RequestIsNext};
+ghost use Rattle.host_hub.specs.Writes.{CanPart, Ends, CanRequest, CanWrite, Done, IsDone, IsPartNext, IsReadNext, IsReady, IsRequestNext, PartIsNext, Puts, ReadIsNext, Ready, RequestIsNext};
 
 use crate::End;
 use crate::hub_core::{HubCore, Phase};
@@ -74,6 +74,18 @@ fn put_part(urbs: &mut Urbs, tags: &mut Tags, ep: u32, message: &[u8], count: us
 }
 
 impl HubCore {
+    /// Goes on to the next ticket, where there is one, and idles else.
+    pub(crate) fn go_on(&mut self)
+        requires { IsDone self.old }
+        ensures { (s : Setting) (past : Past) (sent : List ℕ) → Done s past sent self.old → GoesTo s past sent self.new }
+    {
+        if self.active > self.book.tickets() {
+            self.phase = Phase::Idle;
+            return;
+        }
+        self.begin();
+    }
+
     /// Begins the active ticket. Where there is no number for its submit, the hub ends.
     pub(crate) fn begin(&mut self)
         requires { IsReady self.old }

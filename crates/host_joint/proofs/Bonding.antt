@@ -1,5 +1,5 @@
 -- a bond stays under each step of a device that is not unplugged, and under each run
-use Rattle.std.proofs.Common.{◌≡◌, ◌≢◌, ℕ, Bool, List, [], ◌∷◌, ◌++◌, Some, None, refl, sym, subst, append_assoc, append-nil}
+use Rattle.std.proofs.Common.{◌≡◌, ◌≢◌, ◌⊎◌, inl, inr, ℕ, Bool, List, [], ◌∷◌, ◌++◌, Some, None, refl, sym, subst, append_assoc, append-nil}
 use Rattle.usbip_wire.specs.declared.submit.SubmitHead.{SubmitHead}
 use Rattle.usbip_wire.specs.declared.unlink.UnlinkHead.{UnlinkHead}
 use Rattle.usbip_wire.specs.Up as up
@@ -14,16 +14,16 @@ use Rattle.tmc_law.specs.Run.{Entry, Runs, taken, inputs, outputs}
 use Rattle.host_joint.specs.Lines.{Lines, EmptyLine, unlinks_in, unlinked_by, sent_to, events_of, AllFitting, InOrder}
 use Rattle.host_joint.specs.Unlinking.{Unlinking}
 use Rattle.host_joint.specs.Reads.{IsRead}
-use Rattle.host_joint.specs.Asking.{StaysPlugged}
+use Rattle.host_joint.specs.Asking.{Ask, Asking, StaysPlugged}
 use Rattle.host_joint.specs.Positions.{Position, IsAt, IsClosed}
 use Rattle.host_joint.specs.Requests.{Choice, IsClass, IsClearHalt, NoBulk, IsPlugged, RequestAt, RequestStays, ClearHaltStays}
 use Rattle.host_joint.specs.Drains.{DrainAt, OnlyRead}
 use Rattle.host_joint.specs.Tie.{asked_of}
 use Rattle.host_joint.specs.Bond.{IsFit, Bond, WasReading, WasRead}
 use Rattle.host_joint.proofs.Flows.{lines_step, fitting_behind, order_behind, all_answered}
-use Rattle.host_joint.proofs.Running.{AskLaws, cancelled_step}
+use Rattle.host_joint.proofs.Running.{AskLaws, asking_step, safe_move, cancelled_step}
 use Rattle.host_joint.proofs.Requesting.{quiet_goes}
-use Rattle.host_joint.proofs.Tying.{TieLaws, none_unlinked, stands_at, arriving_fits}
+use Rattle.host_joint.proofs.Tying.{TieLaws, none_unlinked, unlinks_taken, stands_at, arriving_fits}
 use Rattle.host_joint.proofs.Writing.{other_asked}
 
 -- what holds of the messages on their way and of the state is kept by each step, whatever else is known of it
@@ -79,13 +79,26 @@ bond_run laws Holds asked unlinks keeps (entry ∷ run) next ups downs s t goes 
 
 -- ---- what is kept
 
-pub reading_keeps : (laws : AskLaws) (last : ℕ) (message : List ℕ) (tag size : ℕ) (sofar read : List ℕ) (taken_it : Bool) (asked : Endpoint → List SubmitHead) (unlinks : List UnlinkHead) → Unlinking asked unlinks
+pub none_linked : (asked : Endpoint → List SubmitHead) (ups : List up.Message) (downs : List Put) (s : State) → Lines asked [] ups downs s → unlinks_in ups ≡ []
+none_linked asked ups downs s lines = (none_unlinked (unlinked_by downs) (unlinks_in ups) lines.unlinked).1
+
+-- an ask that is cancelled, or may be
+pub cancelled_goes : (laws : AskLaws) (run : List Entry) (asked : Endpoint → List SubmitHead) (unlinks : List UnlinkHead) (ask : Ask) (s t : State) (move : Move) (ups : List up.Message) (downs puts : List Put)
+    → Runs start run s → Steps s move puts t → AllFitting (taken move ++ ups) → InOrder (taken move ++ ups) → move ≢ Unplug → Unlinking asked unlinks ⊎ (unlinks ≡ []) → Lines asked unlinks (taken move ++ ups) downs s
+    → Asking ask (taken move ++ ups) downs s → Asking ask ups (downs ++ puts) t
+cancelled_goes laws run asked unlinks ask s t move ups downs puts reached step fit order plugged (inl unlinking) lines asking =
+    (cancelled_step laws run asked unlinks ask s t move ups downs puts reached step fit order plugged (record { lines = lines; order = unlinking; asking = asking })).asking
+cancelled_goes laws run asked unlinks ask s t move ups downs puts reached step fit order plugged (inr none) lines asking =
+    let free = none_linked asked (taken move ++ ups) downs s (subst (λ (l : List UnlinkHead). Lines asked l (taken move ++ ups) downs s) none lines) in
+    asking_step laws run ask s t move ups downs puts reached step fit (safe_move move ups s plugged (unlinks_taken move ups free)) asking
+
+pub reading_keeps : (laws : AskLaws) (last : ℕ) (message : List ℕ) (tag size : ℕ) (sofar read : List ℕ) (taken_it : Bool) (asked : Endpoint → List SubmitHead) (unlinks : List UnlinkHead) → Unlinking asked unlinks ⊎ (unlinks ≡ [])
     → Keeps (WasReading last message tag size sofar read taken_it) asked unlinks
 reading_keeps laws last message tag size sofar read taken_it asked unlinks unlinking run s t move ups downs puts reached step plugged fit order lines h = record {
   front = h.front;
   request = h.request;
   answered = h.answered;
-  asking = (cancelled_step laws run asked unlinks _ s t move ups downs puts reached step fit order plugged (record { lines = lines; order = unlinking; asking = h.asking })).asking;
+  asking = cancelled_goes laws run asked unlinks _ s t move ups downs puts reached step fit order plugged unlinking lines h.asking;
   counted = h.counted;
   behind = h.behind;
   header = h.header;
@@ -94,19 +107,16 @@ reading_keeps laws last message tag size sofar read taken_it asked unlinks unlin
   long = h.long;
 }
 
-pub read_keeps : (laws : AskLaws) (last : ℕ) (message sofar : List ℕ) (asked : Endpoint → List SubmitHead) (unlinks : List UnlinkHead) → Unlinking asked unlinks → Keeps (WasRead last message sofar) asked unlinks
+pub read_keeps : (laws : AskLaws) (last : ℕ) (message sofar : List ℕ) (asked : Endpoint → List SubmitHead) (unlinks : List UnlinkHead) → Unlinking asked unlinks ⊎ (unlinks ≡ []) → Keeps (WasRead last message sofar) asked unlinks
 read_keeps laws last message sofar asked unlinks unlinking run s t move ups downs puts reached step plugged fit order lines h = record {
   tag = h.tag;
   size = h.size;
-  asking = (cancelled_step laws run asked unlinks _ s t move ups downs puts reached step fit order plugged (record { lines = lines; order = unlinking; asking = h.asking })).asking;
+  asking = cancelled_goes laws run asked unlinks _ s t move ups downs puts reached step fit order plugged unlinking lines h.asking;
   some = h.some;
 }
 
 empty_at : (asked : Endpoint → List SubmitHead) (ups : List up.Message) (downs : List Put) (s : State) (e : Endpoint) → Lines asked [] ups downs s → asked e ≡ [] → EmptyLine e ups downs s
 empty_at asked ups downs s e lines none = all_answered asked e ups downs s lines none
-
-pub none_linked : (asked : Endpoint → List SubmitHead) (ups : List up.Message) (downs : List Put) (s : State) → Lines asked [] ups downs s → unlinks_in ups ≡ []
-none_linked asked ups downs s lines = (none_unlinked (unlinked_by downs) (unlinks_in ups) lines.unlinked).1
 
 pub stands_keeps : (position : Position) → IsClosed position → Keeps (λ ups downs s. IsAt position s) (asked_of None) []
 stands_keeps position closed run s t move ups downs puts reached step plugged fit order lines at =

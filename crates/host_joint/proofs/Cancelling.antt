@@ -25,7 +25,7 @@ use Rattle.host_joint.specs.Hosted.{OutAnswered, InAnswered, TookFull, TookEnd, 
 use Rattle.host_joint.specs.Positions.{IsAt, rests, in_begun, out_first, anything}
 use Rattle.host_joint.specs.Hand.{Reads}
 use Rattle.host_joint.specs.Tie.{asked_of, IsGood, Tie}
-use Rattle.host_joint.specs.Bond.{IsFit, Bond, WasReading, WasRead, Situation, Reading, Read, Holds, Waits, Bound, taken_of, IsUnlinkOf, cancelled_with, StillGoes, StillTaken, StillFull, StillEnds, StillHalted}
+use Rattle.host_joint.specs.Bond.{IsFit, Bond, WasReading, WasRead, Situation, Reading, Read, Holds, Waits, Bound, taken_of, IsUnlinkOf, MayBeCancelled, cancelled_with, StillGoes, StillTaken, StillFull, StillEnds, StillHalted}
 use Rattle.host_joint.proofs.Flows.{all_answered}
 use Rattle.host_joint.proofs.Booking.{unlink_written, submit_answered, unlink_answered}
 use Rattle.host_joint.proofs.Numbered.{below_next}
@@ -68,7 +68,7 @@ good_fits [] h = tt
 good_fits (Submitted asked a transferred ∷ downs) h = (h.0, good_fits downs h.1)
 good_fits (Unlinked asked a ∷ downs) h = absurd h.0
 
-counted_of : (b : Bool) (whole front answered : ℕ) → whole ≡ front + 1 → whole ≡ answered + cond b 1 0 → answered ≡ cond (cond b false true) whole front
+pub counted_of : (b : Bool) (whole front answered : ℕ) → whole ≡ front + 1 → whole ≡ answered + cond b 1 0 → answered ≡ cond (cond b false true) whole front
 counted_of true whole front answered one counted = omega (arith, one, counted)
 counted_of false whole front answered one counted = omega (arith, one, counted)
 
@@ -221,7 +221,7 @@ pub bound_after : (situation : Situation) → {Before : List up.Message → List
 bound_after situation {Before} head a transferred unlinks next ups downs s awaited bond held = record { bond = after Before (Holds situation) head a transferred unlinks next ups downs s bond held; awaited = awaited }
 
 still_own : (laws : WireLaws) (last : ℕ) (message : List ℕ) (tag size : ℕ) (sofar read : List ℕ) (head : SubmitHead) (a : RetSubmitHead) (transferred : List ℕ) (unlinks : List UnlinkHead) (next : ℕ) (ups : List up.Message) (downs : List Put) (s : State)
-    → (head.ep ≡ 1) ⊎ (head.ep ≡ 2) → Unlinking (asked_of None) unlinks → (bond : Bond (WasReading last message tag size sofar read (taken_of head)) (asked_of (Some head)) unlinks next ups (Submitted head a transferred ∷ downs) s)
+    → (head.ep ≡ 1) ⊎ (head.ep ≡ 2) → MayBeCancelled None unlinks → (bond : Bond (WasReading last message tag size sofar read (taken_of head)) (asked_of (Some head)) unlinks next ups (Submitted head a transferred ∷ downs) s)
     → StillGoes last message tag size sofar read head a transferred unlinks next ups downs s
 still_own laws last message tag size sofar read head a transferred unlinks next ups downs s (inl own) awaited bond =
     by (out_answered last message tag size (h.front ++ h.request ∷ []) h.answered sofar read true ups head a transferred downs s own h.asking)
@@ -312,6 +312,10 @@ still_own laws last message tag size sofar read head a transferred unlinks next 
         (bound_after (Read last message (sofar ++ ends.carried)) head a transferred unlinks next ups downs s awaited bond
         (record { tag = tag; size = size; asking = ends.next tag size all; some = not_nothing sofar ends.carried ends.some }))
 
+pub none_waits : (head : SubmitHead) (unlinks : List UnlinkHead) → MayBeCancelled (Some head) unlinks → MayBeCancelled None unlinks
+none_waits head unlinks (inl h) = inl (record { rising = rising_asked None; falling = h.falling; named = λ e is. tt })
+none_waits head unlinks (inr h) = inr h
+
 pub still : (laws : WireLaws) (last : ℕ) (message : List ℕ) (tag size : ℕ) (sofar read : List ℕ) (head : SubmitHead) (unlinks : List UnlinkHead) (next : ℕ) (asked : SubmitHead) (a : RetSubmitHead) (transferred : List ℕ) (ups : List up.Message) (downs : List Put) (s : State)
     → (head.ep ≡ 1) ⊎ (head.ep ≡ 2) → Bound (Reading last message tag size sofar read (taken_of head)) (Some head) unlinks next ups (Submitted asked a transferred ∷ downs) s
     → (asked ≡ head) × (a.seqnum ≡ head.seqnum) × StillGoes last message tag size sofar read head a transferred unlinks next ups downs s
@@ -321,7 +325,7 @@ still laws last message tag size sofar read head unlinks next asked a transferre
       same,
       own.fits.0.1.number,
       still_own laws last message tag size sofar read head a transferred unlinks next ups downs s bulk
-          (record { rising = rising_asked None; falling = bound.awaited.falling; named = λ e is. tt }) own,
+          (none_waits head unlinks bound.awaited) own,
     )
 
 -- ---- the answer to the unlink

@@ -166,6 +166,22 @@ hands_out last message tag size front job sofar read gone ups downs s unasked a 
       shut = tt;
     }
 
+-- all parts so far were taken: a message may be unfinished, and no transfer is in progress, so that an abort of any tag can begin
+pub hands_part : (last : ℕ) (message : List ℕ) (tag size : ℕ) (written : List Job) (mark : ℕ) (sofar read : List ℕ) (gone : Bool) (ups : List up.Message) (downs : List Put) (s : State)
+    → ((t n : ℕ) → last_header written ≡ Some (Request t n) → ⊥) → Asking (ask_of last message tag size written (length written) sofar read gone) ups downs s
+    → s.bulk_out ≡ [] → s.bulk_in ≡ [] → IsAt (out_begun mark) s
+hands_part last message tag size written mark sofar read gone ups downs s unasked a outs ins =
+    let past = all_past written a.past a.todo a.hit a.came a.whole a.counted in
+    record {
+      bulk_out = outs;
+      bulk_in = ins;
+      running = a.calm.running;
+      side = idle last message tag size a.past a.todo sofar a.flow s (λ t n is. unasked t n (ap last_header (sym past.past_all) ∙ is)) a.stage;
+      out = position_of.NoTransfer (no_transfer s.halted.bulk_out gone a.todo (sent_to BulkOut ups) s.bulk_out s.transfer past.todo_none a.out);
+      waits = tt;
+      shut = tt;
+    }
+
 -- ---- a ticket that is complete
 
 pub none_front : (past todo hit : List Job) → [] ≡ past ++ (todo ++ hit) → (past ≡ []) × (todo ≡ [])

@@ -57,8 +57,8 @@ bound_run laws letters (Reading last message tag size sofar read taken) run wait
   bond = bond_run laws _ (asked_of waits) unlinks (reading_keeps laws.ask last message tag size sofar read taken (asked_of waits) unlinks bound.awaited) run next ups downs s t goes plugged bound.bond;
   awaited = bound.awaited;
 }
-bound_run laws letters (Saying tag first ended taken gone) run waits unlinks next ups downs s t goes plugged bound = record {
-  bond = bond_run laws _ (asked_of waits) unlinks (saying_keeps laws.ask tag first ended taken gone waits unlinks bound.awaited) run next ups downs s t goes plugged bound.bond;
+bound_run laws letters (Saying tag first ended taken) run waits unlinks next ups downs s t goes plugged bound = record {
+  bond = bond_run laws _ (asked_of waits) unlinks (saying_keeps laws.ask tag first ended taken waits unlinks bound.awaited) run next ups downs s t goes plugged bound.bond;
   awaited = bound.awaited;
 }
 bound_run laws letters (Read last message sofar) run waits unlinks next ups downs s t goes plugged bound = record {

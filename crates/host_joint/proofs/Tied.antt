@@ -159,7 +159,7 @@ still_coming x todo none (Partly job here later moved left unshut whole come byt
 still_coming x todo none (Cut job moved left was unshut whole come bytes begun more line runs) = cc
 still_coming x todo none (Shut shuts whole line free) = cc
 
-pub not_taken : WasSaying 1 true false true true (up.Submit (out_submit 1 112) spaces_text ∷ up.Unlink (unlink 2 1) ∷ []) [] start → ⊥
+pub not_taken : WasSaying 1 true false true (up.Submit (out_submit 1 112) spaces_text ∷ up.Unlink (unlink 2 1) ∷ []) [] start → ⊥
 not_taken h =
     let a = h.asking in
     let past = all_past (h.front ++ h.job ∷ []) a.past a.todo a.hit a.came a.whole (a.counted ∙ ap (λ (n : ℕ). n + a.came) h.counted) in

@@ -86,18 +86,14 @@ pub record WasRead (last : ℕ) (message sofar : List ℕ) (ups : List up.Messag
   pub asking : Asking (cancelled_with last message tag size [] 0 sofar []) ups downs s
   pub some : sofar ≢ []
 
--- what a host knows of an ask of which no piece was requested, or of a tell
-abbrev pub said_with : (gone : Bool) (last : ℕ) (message : List ℕ) (tag size : ℕ) (written : List Job) (answered : ℕ) → Ask
-said_with gone last message tag size written answered = record (ask_with last message tag size written answered [] []) { gone = gone }
-
 -- the transfer that a host writes next is the first one of its message
 abbrev pub begins : Hand → Bool
 begins Free = true
 begins _ = false
 
--- A message whose last transfer so far has this tag: whether it is the first one, whether it ends the message, whether it was answered
--- as taken, and whether it was unlinked.
-pub record WasSaying (tag : ℕ) (first ended taken gone : Bool) (ups : List up.Message) (downs : List Put) (s : State) : Type 0 where
+-- A message whose last transfer so far has this tag: whether it is the first one, whether it ends the message, and whether it was answered
+-- as taken.
+pub record WasSaying (tag : ℕ) (first ended taken : Bool) (ups : List up.Message) (downs : List Put) (s : State) : Type 0 where
   pub last : ℕ
   pub message : List ℕ
   pub mark : ℕ
@@ -105,17 +101,17 @@ pub record WasSaying (tag : ℕ) (first ended taken gone : Bool) (ups : List up.
   pub front : List Job
   pub job : Job
   pub answered : ℕ
-  pub asking : Asking (said_with gone last message mark size (front ++ job ∷ []) answered) ups downs s
+  pub asking : Asking (cancelled_with last message mark size (front ++ job ∷ []) answered [] []) ups downs s
   pub counted : answered ≡ (if taken then length (front ++ job ∷ []) else length front)
   pub inner : IsInner (last_header front)
   pub header : tag_of job.header ≡ tag
   pub alone : first ≡ true → front ≡ []
+  pub goes_on : ended ≡ false → IsInner (Some job.header)
   pub final : ended ≡ true → IsFinal (Some job.header)
 
--- the unlinks that are not answered, where it was unlinked, and where it was not
-abbrev pub IsCancelled : (gone : Bool) → Option SubmitHead → List UnlinkHead → Type 0
-IsCancelled true waits unlinks = Unlinking (asked_of waits) unlinks
-IsCancelled false waits unlinks = unlinks ≡ []
+-- the submit was unlinked, as falls to a cancel, or nothing was
+abbrev pub MayBeCancelled : Option SubmitHead → List UnlinkHead → Type 0
+MayBeCancelled waits unlinks = Unlinking (asked_of waits) unlinks ⊎ (unlinks ≡ [])
 
 -- a device between two requests of a recovery
 pub data Place : Type 0 where
@@ -235,10 +231,10 @@ leaves_else (FreesBehind endpoint) = Anywhere
 
 -- what a host is at behind a cancel
 pub data Situation : Type 0 where
-  -- the cancelled ask is read yet, or its request is yet to be answered
+  -- an ask that is cancelled, or may be, is read yet, or its request is yet to be answered
   Reading : (last : ℕ) (message : List ℕ) (tag size : ℕ) (sofar read : List ℕ) (taken : Bool) → Situation
   -- the last transfer so far of a message is cancelled, or may be
-  Saying : (tag : ℕ) (first ended taken gone : Bool) → Situation
+  Saying : (tag : ℕ) (first ended taken : Bool) → Situation
   -- its piece was read to the end
   Read : (last : ℕ) (message sofar : List ℕ) → Situation
   -- between two requests of the recovery
@@ -249,7 +245,7 @@ pub data Situation : Type 0 where
 
 abbrev pub Holds : Situation → List up.Message → List Put → State → Type 0
 Holds (Reading last message tag size sofar read taken) ups downs s = WasReading last message tag size sofar read taken ups downs s
-Holds (Saying tag first ended taken gone) ups downs s = WasSaying tag first ended taken gone ups downs s
+Holds (Saying tag first ended taken) ups downs s = WasSaying tag first ended taken ups downs s
 Holds (Read last message sofar) ups downs s = WasRead last message sofar ups downs s
 Holds (Stands place) ups downs s = IsAt (position_of place) s
 Holds (Requests head letter) ups downs s = RequestAt head (position_of (finds letter)) (one_of letter) (other_of letter) (sent_to Control ups) (events_of Control downs) s
@@ -257,9 +253,9 @@ Holds (Drains head) ups downs s = DrainAt head (sent_to BulkIn ups) (events_of B
 
 -- which submit and which unlinks are not answered then
 abbrev pub Waits : Situation → Option SubmitHead → List UnlinkHead → Type 0
-Waits (Reading last message tag size sofar read taken) waits unlinks = Unlinking (asked_of waits) unlinks
-Waits (Saying tag first ended taken gone) waits unlinks = IsCancelled gone waits unlinks
-Waits (Read last message sofar) waits unlinks = Unlinking (asked_of waits) unlinks
+Waits (Reading last message tag size sofar read taken) waits unlinks = MayBeCancelled waits unlinks
+Waits (Saying tag first ended taken) waits unlinks = MayBeCancelled waits unlinks
+Waits (Read last message sofar) waits unlinks = MayBeCancelled waits unlinks
 Waits (Stands place) waits unlinks = (waits ≡ None) × (unlinks ≡ [])
 Waits (Requests head letter) waits unlinks = (waits ≡ Some head) × (unlinks ≡ []) × IsOf head letter
 Waits (Drains head) waits unlinks = (waits ≡ Some head) × (unlinks ≡ []) × IsRead head
@@ -295,10 +291,10 @@ pub data StillGoes (last : ℕ) (message : List ℕ) (tag size : ℕ) (sofar rea
       → StillGoes last message tag size sofar read head answer transferred unlinks next ups downs s
 
 -- the answer to a transfer of a message: it was taken whole, or Bulk-OUT is halted
-abbrev pub TakesPart : (tag : ℕ) (first ended gone : Bool) (head : SubmitHead) (answer : RetSubmitHead) (unlinks : List UnlinkHead) (next : ℕ) (ups : List up.Message) (downs : List Put) → State → Type 0
-TakesPart tag first ended gone head answer unlinks next ups downs s =
-    ((answer.status ≡ success) × (answer.actual ≡ head.length) × Bound (Saying tag first ended true gone) None unlinks next ups downs s)
-    ⊎ ((answer.status ≡ stalled) × (is_halted BulkOut s ≡ true) × Bound (Saying tag first ended false gone) None unlinks next ups downs s)
+abbrev pub TakesPart : (tag : ℕ) (first ended : Bool) (head : SubmitHead) (answer : RetSubmitHead) (unlinks : List UnlinkHead) (next : ℕ) (ups : List up.Message) (downs : List Put) → State → Type 0
+TakesPart tag first ended head answer unlinks next ups downs s =
+    ((answer.status ≡ success) × (answer.actual ≡ head.length) × Bound (Saying tag first ended true) None unlinks next ups downs s)
+    ⊎ ((answer.status ≡ stalled) × (is_halted BulkOut s ≡ true) × Bound (Saying tag first ended false) None unlinks next ups downs s)
 
 -- an answer to a request of the recovery has one of two layouts, and leaves the device where that one says
 pub data Said (letter : Letter) (layout : List ℕ) (next : ℕ) (ups : List up.Message) (downs : List Put) (s : State) : Type 0 where

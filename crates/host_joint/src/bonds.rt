@@ -28,13 +28,17 @@ use tmc_law::{
 };
 use tmc_wire::{header_offsets_are_laid_out, headers_are_read_again, transfers_are_read_again};
 
-/// A host that cancels an ask that is read writes an unlink of its one submit. Where all was answered, the recovery begins: with a Bulk-IN
+/// A host that cancels an ask that is read writes an unlink of its one submit. What binds it to the device then does so also where it wrote
+/// none, for one whose endpoint halts. Where all was answered, the recovery begins: with a Bulk-IN
 /// transfer to abort where the request was taken, with a Bulk-OUT transfer to abort where it was not, and with nothing where the
 /// piece was read to its end. From anywhere a clear may begin.
 pub fn cancels_begin()
     ensures unlink { (last : ℕ) (message : List ℕ) (tag size : ℕ) (sofar read : List ℕ) (head : SubmitHead) (unlink : UnlinkHead) (next : ℕ) (ups : List up.Message) (downs : List Put) (s : State)
         → unlink.seqnum ≡ next → unlink.target ≡ head.seqnum → Tie (hand.Reads last message tag size sofar read) (Some head) next ups downs s
         → Bound (Reading last message tag size sofar read (taken_of head)) (Some head) (unlink ∷ []) (next + 1) (ups ++ up.Unlink unlink ∷ []) downs s }
+    ensures read { (last : ℕ) (message : List ℕ) (tag size : ℕ) (sofar read : List ℕ) (head : SubmitHead) (next : ℕ) (ups : List up.Message) (downs : List Put) (s : State)
+        → Tie (hand.Reads last message tag size sofar read) (Some head) next ups downs s
+        → Bound (Reading last message tag size sofar read (taken_of head)) (Some head) [] next ups downs s }
     ensures to_in { (last : ℕ) (message : List ℕ) (tag size : ℕ) (sofar read : List ℕ) (next : ℕ) (ups : List up.Message) (downs : List Put) (s : State)
         → Bound (Reading last message tag size sofar read true) None [] next ups downs s → Bound (Stands (ToAbortIn tag)) None [] next ups downs s }
     ensures to_out { (last : ℕ) (message : List ℕ) (tag size : ℕ) (sofar read : List ℕ) (next : ℕ) (ups : List up.Message) (downs : List Put) (s : State)
@@ -47,30 +51,30 @@ pub fn cancels_begin()
 
 /// A message may be cancelled while its last transfer so far is not answered. What binds a host and a device then holds from where that
 /// transfer is written, beside the tie; with the cancel, its unlink comes behind. The answer says that the transfer was taken whole, or that
-/// Bulk-OUT is halted. Where all was answered, the recovery begins: with this Bulk-OUT transfer to abort where it was not taken, and
-/// with nothing where it was and ends the message.
+/// Bulk-OUT is halted. Where all was answered, the recovery begins: with this Bulk-OUT transfer to abort, which is in progress at most where it was
+/// not taken, and with nothing where it was taken and ends the message.
 pub fn messages_are_cancelled()
     ensures part { (before : hand.Hand) (head : SubmitHead) (bytes : List ℕ) (tag : ℕ) (message said text more : List ℕ) (next : ℕ) (ups : List up.Message) (downs : List Put) (s : State)
         → hand.Speaks before message said → message ≡ said ++ (text ++ more) → hand.IsTransfer head (Message tag (length text) false) text bytes → head.seqnum ≡ next → Tie before None next ups downs s
-        → Bound (Saying tag (begins before) false false false) (Some head) [] (next + 1) (ups ++ up.Submit head bytes ∷ []) downs s }
+        → Bound (Saying tag (begins before) false false) (Some head) [] (next + 1) (ups ++ up.Submit head bytes ∷ []) downs s }
     ensures last_part { (before : hand.Hand) (head : SubmitHead) (bytes : List ℕ) (tag : ℕ) (message said text : List ℕ) (next : ℕ) (ups : List up.Message) (downs : List Put) (s : State)
         → hand.Speaks before message said → message ≡ said ++ text → hand.IsTransfer head (Message tag (length text) true) text bytes → head.seqnum ≡ next → Tie before None next ups downs s
-        → Bound (Saying tag (begins before) true false false) (Some head) [] (next + 1) (ups ++ up.Submit head bytes ∷ []) downs s }
+        → Bound (Saying tag (begins before) true false) (Some head) [] (next + 1) (ups ++ up.Submit head bytes ∷ []) downs s }
     ensures unlink { (tag : ℕ) (first ended : Bool) (head : SubmitHead) (unlink : UnlinkHead) (next : ℕ) (ups : List up.Message) (downs : List Put) (s : State)
-        → unlink.seqnum ≡ next → unlink.target ≡ head.seqnum → Bound (Saying tag first ended false false) (Some head) [] next ups downs s
-        → Bound (Saying tag first ended false true) (Some head) (unlink ∷ []) (next + 1) (ups ++ up.Unlink unlink ∷ []) downs s }
-    ensures answer { (tag : ℕ) (first ended gone : Bool) (head : SubmitHead) (unlinks : List UnlinkHead) (next : ℕ) (asked : SubmitHead) (answer : RetSubmitHead) (transferred : List ℕ) (ups : List up.Message) (downs : List Put) (s : State)
-        → head.ep ≡ number_of BulkOut → Bound (Saying tag first ended false gone) (Some head) unlinks next ups (Submitted asked answer transferred ∷ downs) s
-        → (asked ≡ head) × (answer.seqnum ≡ head.seqnum) × TakesPart tag first ended gone head answer unlinks next ups downs s }
+        → unlink.seqnum ≡ next → unlink.target ≡ head.seqnum → Bound (Saying tag first ended false) (Some head) [] next ups downs s
+        → Bound (Saying tag first ended false) (Some head) (unlink ∷ []) (next + 1) (ups ++ up.Unlink unlink ∷ []) downs s }
+    ensures answer { (tag : ℕ) (first ended : Bool) (head : SubmitHead) (unlinks : List UnlinkHead) (next : ℕ) (asked : SubmitHead) (answer : RetSubmitHead) (transferred : List ℕ) (ups : List up.Message) (downs : List Put) (s : State)
+        → head.ep ≡ number_of BulkOut → Bound (Saying tag first ended false) (Some head) unlinks next ups (Submitted asked answer transferred ∷ downs) s
+        → (asked ≡ head) × (answer.seqnum ≡ head.seqnum) × TakesPart tag first ended head answer unlinks next ups downs s }
     ensures unlinked { (tag : ℕ) (first ended taken : Bool) (waits : Option SubmitHead) (unlink : UnlinkHead) (next : ℕ) (asked : UnlinkHead) (answer : RetUnlinkHead) (ups : List up.Message) (downs : List Put) (s : State)
-        → IsUnlinkOf waits unlink → Bound (Saying tag first ended taken true) waits (unlink ∷ []) next ups (Unlinked asked answer ∷ downs) s
-        → (answer.seqnum ≡ unlink.seqnum) × Bound (Saying tag first ended taken true) None [] next ups downs s }
-    ensures to_first { (tag : ℕ) (ended gone : Bool) (next : ℕ) (ups : List up.Message) (downs : List Put) (s : State)
-        → Bound (Saying tag true ended false gone) None [] next ups downs s → Bound (Stands (ToAbortFirst tag)) None [] next ups downs s }
-    ensures to_out { (tag : ℕ) (first ended gone : Bool) (next : ℕ) (ups : List up.Message) (downs : List Put) (s : State)
-        → Bound (Saying tag first ended false gone) None [] next ups downs s → Bound (Stands (ToAbortOut tag)) None [] next ups downs s }
-    ensures to_rest { (tag : ℕ) (first gone : Bool) (next : ℕ) (ups : List up.Message) (downs : List Put) (s : State)
-        → Bound (Saying tag first true true gone) None [] next ups downs s → Bound (Stands Resting) None [] next ups downs s }
+        → IsUnlinkOf waits unlink → Bound (Saying tag first ended taken) waits (unlink ∷ []) next ups (Unlinked asked answer ∷ downs) s
+        → (answer.seqnum ≡ unlink.seqnum) × Bound (Saying tag first ended taken) None [] next ups downs s }
+    ensures to_first { (tag : ℕ) (ended : Bool) (next : ℕ) (ups : List up.Message) (downs : List Put) (s : State)
+        → Bound (Saying tag true ended false) None [] next ups downs s → Bound (Stands (ToAbortFirst tag)) None [] next ups downs s }
+    ensures to_out { (tag : ℕ) (first ended taken : Bool) (next : ℕ) (ups : List up.Message) (downs : List Put) (s : State)
+        → Bound (Saying tag first ended taken) None [] next ups downs s → Bound (Stands (ToAbortOut tag)) None [] next ups downs s }
+    ensures to_rest { (tag : ℕ) (first : Bool) (next : ℕ) (ups : List up.Message) (downs : List Put) (s : State)
+        → Bound (Saying tag first true true) None [] next ups downs s → Bound (Stands Resting) None [] next ups downs s }
 {
     headers_are_read_again();
     header_offsets_are_laid_out();

@@ -94,9 +94,9 @@ pub fn worked_cancels_are_bound()
         × IsOwned 1 (codes "*IDN?") identity queried }
     ensures fresh { Bound (Reading 2 spaced 3 4000 [] [] false) (Some (out_submit 3 12)) (unlink 4 3 ∷ []) 5
         (up.Submit (out_submit 3 12) last_request ∷ up.Unlink (unlink 4 3) ∷ []) [] told_to }
-    ensures stopped { Bound (Saying 1 true false false true) (Some (out_submit 1 112)) (unlink 2 1 ∷ []) 3
+    ensures stopped { Bound (Saying 1 true false false) (Some (out_submit 1 112)) (unlink 2 1 ∷ []) 3
         (up.Submit (out_submit 1 112) spaces_text ∷ up.Unlink (unlink 2 1) ∷ []) [] start }
-    ensures untaken { Bound (Saying 1 true false true true) (Some (out_submit 1 112)) (unlink 2 1 ∷ []) 3
+    ensures untaken { Bound (Saying 1 true false true) (Some (out_submit 1 112)) (unlink 2 1 ∷ []) 3
         (up.Submit (out_submit 1 112) spaces_text ∷ up.Unlink (unlink 2 1) ∷ []) [] start → ⊥ }
     ensures foreign { (waits : Option SubmitHead) (unlinks : List UnlinkHead) (next : ℕ) (ups : List up.Message) (downs : List Put)
         → Bound (Reading 4 (codes "*IDN?") 2 4000 [] response_text true) waits unlinks next ups downs queried → ⊥ }

@@ -1,5 +1,4 @@
-use Rattle.std.proofs.Common.{None}
-use Rattle.host_joint.proofs.Joining.{rising_asked}
+use Rattle.std.proofs.Common.{inr, refl}
 use Rattle.host_joint.proofs.Cancelling.{still, unlinked_reading, unlinked_read}
 use Rattle.host_joint.proofs.bonds.cancelled_answers_are_taken.Goals as goal
 
@@ -21,9 +20,9 @@ returns-clause-submit c =
 pub returns-clause-unlink : goal.returns-clause-unlink
 returns-clause-unlink c last message tag size sofar read taken waits unlink next asked answer ups downs s target bound =
     let go = unlinked_reading last message tag size sofar read taken waits unlink next asked answer ups downs s target bound.bond in
-    (go.0, record { bond = go.1; awaited = record { rising = rising_asked None; falling = tt; named = λ e is. tt } })
+    (go.0, record { bond = go.1; awaited = inr refl })
 
 pub returns-clause-unlink_read : goal.returns-clause-unlink_read
 returns-clause-unlink_read c last message sofar waits unlink next asked answer ups downs s target bound =
     let go = unlinked_read last message sofar waits unlink next asked answer ups downs s target bound.bond in
-    (go.0, record { bond = go.1; awaited = record { rising = rising_asked None; falling = tt; named = λ e is. tt } })
+    (go.0, record { bond = go.1; awaited = inr refl })

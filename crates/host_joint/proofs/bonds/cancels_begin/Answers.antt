@@ -1,12 +1,16 @@
-use Rattle.std.proofs.Common.{[], None, refl}
+use Rattle.std.proofs.Common.{[], None, inl, inr, refl}
 use Rattle.host_joint.specs.Bond.{Holds, Stands, ToAbortIn, ToAbortFirst, Resting, Anywhere}
 use Rattle.host_joint.specs.Tie.{asked_of}
 use Rattle.host_joint.proofs.Cancelling.{cancels, unlinking_one, bond_as, to_in, to_out, to_rest, to_clear}
+use Rattle.host_joint.proofs.Saying.{may_read}
 use Rattle.host_joint.proofs.bonds.cancels_begin.Goals as goal
 
 pub returns-clause-unlink : goal.returns-clause-unlink
 returns-clause-unlink c last message tag size sofar read head unlink next ups downs s number target tie =
-    record { bond = cancels last message tag size sofar read head unlink next ups downs s tie; awaited = unlinking_one head unlink target }
+    record { bond = cancels last message tag size sofar read head unlink next ups downs s tie; awaited = inl (unlinking_one head unlink target) }
+
+pub returns-clause-read : goal.returns-clause-read
+returns-clause-read c last message tag size sofar read head next ups downs s tie = record { bond = may_read last message tag size sofar read head next ups downs s tie; awaited = inr refl }
 
 pub returns-clause-to_in : goal.returns-clause-to_in
 returns-clause-to_in c last message tag size sofar read next ups downs s bound = record {

@@ -45,19 +45,19 @@ pub returns-clause-unlinked : goal.returns-clause-unlinked
 returns-clause-unlinked c = unlinked_part
 
 pub returns-clause-to_first : goal.returns-clause-to_first
-returns-clause-to_first c tag ended gone next ups downs s bound = record {
-  bond = bond_as _ (Holds (Stands (ToAbortFirst tag))) (asked_of None) [] next ups downs s bound.bond (part_to_first tag ended gone next ups downs s bound.bond);
+returns-clause-to_first c tag ended next ups downs s bound = record {
+  bond = bond_as _ (Holds (Stands (ToAbortFirst tag))) (asked_of None) [] next ups downs s bound.bond (part_to_first tag ended next ups downs s bound.bond);
   awaited = (refl, refl);
 }
 
 pub returns-clause-to_out : goal.returns-clause-to_out
-returns-clause-to_out c tag first ended gone next ups downs s bound = record {
-  bond = bond_as _ (Holds (Stands (ToAbortOut tag))) (asked_of None) [] next ups downs s bound.bond (part_to_out tag first ended gone next ups downs s bound.bond);
+returns-clause-to_out c tag first ended taken next ups downs s bound = record {
+  bond = bond_as _ (Holds (Stands (ToAbortOut tag))) (asked_of None) [] next ups downs s bound.bond (part_to_out tag first ended taken next ups downs s bound.bond);
   awaited = (refl, refl);
 }
 
 pub returns-clause-to_rest : goal.returns-clause-to_rest
-returns-clause-to_rest c tag first gone next ups downs s bound = record {
-  bond = bond_as _ (Holds (Stands Resting)) (asked_of None) [] next ups downs s bound.bond (part_to_rest tag first gone next ups downs s bound.bond);
+returns-clause-to_rest c tag first next ups downs s bound = record {
+  bond = bond_as _ (Holds (Stands Resting)) (asked_of None) [] next ups downs s bound.bond (part_to_rest tag first next ups downs s bound.bond);
   awaited = (refl, refl);
 }

@@ -1,0 +1,90 @@
+-- an answer ends the hub
+use Rattle.std.proofs.Common.{◌≡◌, ℕ, ◌+◌, List, [], ◌∷◌, ◌++◌, length, Option, Some, None, refl, sym, subst, ◌∙◌, ap, arith, append_assoc}
+use Rattle.usbip_wire.specs.declared.ret_submit.RetSubmitHead.{RetSubmitHead}
+use Rattle.usbip_wire.specs.Down as down
+use Rattle.host_urbs.specs.Held.{Held, Follows}
+use Rattle.host_urbs.specs.Law.{MayTake}
+use Rattle.host_urbs.specs.Record as urbs
+use Rattle.host_hub.specs.declared.hub_core.HubCore.{HubCore}
+use Rattle.host_hub.specs.declared.outcome.End.{End}
+use Rattle.host_hub.specs.BookSeen.{Seen}
+use Rattle.host_hub.specs.Order.{Setting}
+use Rattle.host_hub.specs.Record.{Past, Happening, Fell, Settled, taken}
+use Rattle.host_hub.specs.Crossings.{crossings}
+use Rattle.host_hub.specs.Hand.{ended}
+use Rattle.host_hub.specs.Book.{KeepsBook, live}
+use Rattle.host_hub.specs.Causes.{named}
+use Rattle.host_hub.specs.Calls.{All, IsOfTurn}
+use Rattle.host_hub.specs.Ends.{ends_by}
+use Rattle.host_hub.specs.Law.{Kept}
+use Rattle.host_hub.specs.Shown.{ShowsTicket}
+use Rattle.host_hub.specs.Steps.{settle_all}
+use Rattle.host_hub.specs.Knows.{Knows}
+use Rattle.host_hub.specs.Stands.{Rests}
+use Rattle.host_hub.specs.Hears.{GoesByTurn, Hears}
+use Rattle.host_hub.proofs.Lawful.{lawful_book}
+use Rattle.host_hub.proofs.Endings.{fell_kept}
+use Rattle.host_hub.proofs.Begins.{ended_rests}
+use Rattle.host_hub.proofs.Taken.{taken_more}
+
+shown_fell : (past : Past) (m : down.Message) (e : End) (u : ℕ) (one : Seen) → ShowsTicket past u one → ShowsTicket (Fell m e ∷ past) u one
+shown_fell past m e u one h = record { asking = h.asking; last = h.last; bytes = h.bytes; outcome = h.outcome }
+
+pub knows_fell : (s : Setting) (past : Past) (all : List ℕ) (core : HubCore) (m : down.Message) (e : End) (u : Held) → Knows s past all core → core.end ≡ None
+    → Follows s.first (urbs.Took m ∷ crossings s past) all u → u.devid ≡ core.urbs.devid
+    → Knows s (Fell m e ∷ past) all (record core { urbs = u; taken = core.taken + 1; end = Some e })
+knows_fell s past all core m e u k running follows same = record {
+  shallow = k.shallow;
+  first_number = k.first_number;
+  interface = k.interface;
+  device = same ∙ k.device;
+  follows = follows;
+  shows = record { count = k.shows.count; each = λ v one h. shown_fell past m e v one (k.shows.each v one h); entries = k.shows.entries; service = k.shows.service };
+  marks = k.marks;
+  all_started = k.all_started;
+  starts = k.starts;
+  all_born = k.all_born;
+  limit_sum = k.limit_sum;
+  tag = k.tag;
+  answers = ap (λ (n : ℕ). n + 1) k.answers ∙ sym (taken_more (taken past) m);
+  over = refl;
+  proper = k.proper;
+  few = k.few;
+  waiting = k.waiting;
+  row = k.row;
+  next_ticket = k.next_ticket;
+  from_first = k.from_first;
+  room = omega (arith, k.room);
+}
+
+-- the tickets that settle, in the record
+record Ends (e : End) (ts : List ℕ) (past : Past) : Type 0 where
+  pub more : Past
+  pub turns : All IsOfTurn more
+  pub same : settle_all e ts past ≡ more ++ past
+
+turn_added : (past : Past) (x : Happening) → All IsOfTurn past → IsOfTurn x → All IsOfTurn (past ++ x ∷ [])
+turn_added [] x h i = (i, tt)
+turn_added (y ∷ ys) x h i = (h.0, turn_added ys x h.1 i)
+
+all_ends : (e : End) (ts : List ℕ) (past : Past) → Ends e ts past
+all_ends e [] past = record { more = []; turns = tt; same = refl }
+all_ends e (t ∷ ts) past =
+    let a : Ends e ts (Settled t (named e) ∷ past) = all_ends e ts (Settled t (named e) ∷ past) in
+    record {
+      more = a.more ++ Settled t (named e) ∷ [];
+      turns = turn_added a.more (Settled t (named e)) a.turns tt;
+      same = a.same ∙ sym (append_assoc a.more (Settled t (named e) ∷ []) past);
+    }
+
+pub fell_goes : (s : Setting) (past : Past) (all : List ℕ) (new : HubCore) (m : down.Message) (e : End) → Kept s past → ended past ≡ None → MayTake (crossings s past) m
+    → ends_by s past m ≡ Some e → new.end ≡ Some e → Knows s (settle_all e (live past) (Fell m e ∷ past)) all new → GoesByTurn s past all new
+fell_goes s past all new m e kept running may ends is k =
+    let a : Ends e (live past) (Fell m e ∷ past) = all_ends e (live past) (Fell m e ∷ past) in
+    let same : settle_all e (live past) (Fell m e ∷ past) ≡ (a.more ++ Fell m e ∷ []) ++ past = a.same ∙ sym (append_assoc a.more (Fell m e ∷ []) past) in
+    record {
+      more = a.more ++ Fell m e ∷ [];
+      by_turn = turn_added a.more (Fell m e) a.turns tt;
+      rests = subst (λ (p : Past). Rests s p all new) same
+          (ended_rests s (settle_all e (live past) (Fell m e ∷ past)) all new e is k (fell_kept s past m e kept running may ends));
+    }
