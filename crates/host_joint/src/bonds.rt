@@ -29,9 +29,9 @@ use tmc_law::{
 use tmc_wire::{header_offsets_are_laid_out, headers_are_read_again, transfers_are_read_again};
 
 /// A host that cancels an ask that is read writes an unlink of its one submit. What binds it to the device then does so also where it wrote
-/// none, for one whose endpoint halts. Where all was answered, the recovery begins: with a Bulk-IN
-/// transfer to abort where the request was taken, with a Bulk-OUT transfer to abort where it was not, and with nothing where the
-/// piece was read to its end. From anywhere a clear may begin.
+/// none, for one whose endpoint halts. Where all was answered, the recovery begins: with a Bulk-IN transfer to abort where the request was
+/// taken, with a Bulk-OUT transfer to abort where it was not, and with nothing where the piece was read to its end. From anywhere a
+/// clear may begin.
 pub fn cancels_begin()
     ensures unlink { (last : ℕ) (message : List ℕ) (tag size : ℕ) (sofar read : List ℕ) (head : SubmitHead) (unlink : UnlinkHead) (next : ℕ) (ups : List up.Message) (downs : List Put) (s : State)
         → unlink.seqnum ≡ next → unlink.target ≡ head.seqnum → Tie (hand.Reads last message tag size sofar read) (Some head) next ups downs s
