@@ -28,14 +28,14 @@ use Rattle.host_joint.specs.Owned.{Owned, NothingRead, PiecesRead, PieceRead}
 use Rattle.host_joint.specs.WorkedAsks.{query_job, read_job, request_job, query_ask, read_ask, query_asked, foreign_ask}
 
 -- the bytes have no fault of a header
-record IsFine (bytes : List ℕ) : Type 0 where
+pub record IsFine (bytes : List ℕ) : Type 0 where
   pub long : 12 ≤ length bytes
   pub known : fault.is_out_message (fault.MsgID bytes) ≡ true
   pub tagged : fault.bTag bytes ≢ 0
   pub inverse : fault.bTagInverse bytes ≡ 255 - fault.bTag bytes
   pub counted : (fault.MsgID bytes ≡ trigger) ⊎ (fault.TransferSize bytes ≢ 0)
 
-no_fault : (bytes : List ℕ) (f : HeaderFault) → IsFine bytes → fault.HasFault fault.is_out_message bytes f → ⊥
+pub no_fault : (bytes : List ℕ) (f : HeaderFault) → IsFine bytes → fault.HasFault fault.is_out_message bytes f → ⊥
 no_fault bytes Length fine h = omega (arith, h, fine.long)
 no_fault bytes MsgId fine h = let e : true ≡ false = sym fine.known ∙ h in cc
 no_fault bytes Tag fine h = fine.tagged h

@@ -36,3 +36,7 @@ mod Bonding
 mod Cancelling
 mod Saying
 mod Recovering
+mod Coming
+mod Serving
+mod Exchanging
+mod Pausing

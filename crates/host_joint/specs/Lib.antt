@@ -24,3 +24,4 @@ pub mod Joint
 -- examples
 pub mod WorkedAsks
 pub mod WorkedTies
+pub mod WorkedPieces

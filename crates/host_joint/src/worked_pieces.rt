@@ -1,0 +1,52 @@
+//! An example ask whose response comes in two pieces. Each function does nothing.
+
+ghost use Rattle.std.specs.Prelude.{◌≡◌, ◌<◌, ℕ, List, [], ◌∷◌, ◌++◌, length, Option, Some, None};
+ghost use Rattle.usbip_wire.specs.declared.submit.SubmitHead.{SubmitHead};
+ghost use Rattle.usbip_wire.specs.Up as up;
+ghost use Rattle.tmc_law.specs.State.{State, start};
+ghost use Rattle.tmc_law.specs.Put.{Put};
+ghost use Rattle.tmc_law.specs.Run.{Runs};
+ghost use Rattle.tmc_law.specs.WorkedQuery.{identity};
+ghost use Rattle.tmc_law.specs.WorkedParts.{spaced, sending_parts};
+ghost use Rattle.tmc_law.specs.WorkedSession.{out_submit};
+ghost use Rattle.host_joint.specs.Stage.{Ran};
+ghost use Rattle.host_joint.specs.Hand.{Free, Pauses};
+ghost use Rattle.host_joint.specs.Tie.{Tie, IsOwned};
+ghost use Rattle.host_joint.specs.WorkedTies.{told_to, last_request};
+ghost use Rattle.host_joint.specs.WorkedPieces.{requesting_first, giving_first, requesting_second, giving_second, first_data, first_log, second_log, behind_first, behind_second, reading_first, reading_second, skipping};
+
+use crate::{
+    answers_are_the_expected, pieces_have_no_fault, tickets_end, ties_own, ties_stay,
+    what_ran_is_one, worked_hosts_are_tied, writes_keep_ties,
+};
+use tmc_law::worked::a_message_comes_in_parts;
+use tmc_law::runs_join;
+use tmc_wire::headers_are_read_again;
+
+/// A host that sent a message in two transfers reads its response in two pieces, and is tied to the device all the time: when it
+/// wrote the first request, when that was taken, behind the first piece, of which it has the data and knows that more follows, when the
+/// second request was taken, and behind the second piece, with the whole response. It may also stop behind the first one. A host that takes
+/// the second piece for the first bytes of the response is never tied to that device.
+pub fn worked_pieces_are_read()
+    ensures runs { Runs start (sending_parts ++ (requesting_first ++ (giving_first ++ (requesting_second ++ giving_second)))) behind_second }
+    ensures asked { Tie reading_first (Some (out_submit 3 12)) 4 (up.Submit (out_submit 3 12) last_request ∷ []) [] told_to }
+    ensures requested { (s : State) × Runs told_to requesting_first s × Tie reading_first None 4 [] [] s }
+    ensures paused { Tie (Pauses 2 spaced first_data) None 5 [] [] behind_first × IsOwned 2 spaced first_data behind_first
+        × ((response : List ℕ) × Ran 2 spaced response first_log × (length first_data < length response)) }
+    ensures again { (s : State) × Runs behind_first requesting_second s × Tie reading_second None 6 [] [] s }
+    ensures whole { Tie Free None 7 [] [] behind_second × Ran 2 spaced identity second_log }
+    ensures stopped { Tie Free None 5 [] [] behind_first }
+    ensures skipped { (waits : Option SubmitHead) (next : ℕ) (ups : List up.Message) (downs : List Put) → Tie skipping waits next ups downs behind_second → ⊥ }
+{
+    a_message_comes_in_parts();
+    runs_join();
+    headers_are_read_again();
+    worked_hosts_are_tied();
+    ties_stay();
+    writes_keep_ties();
+    answers_are_the_expected();
+    pieces_have_no_fault();
+    tickets_end();
+    ties_own();
+    what_ran_is_one();
+}
