@@ -40,3 +40,4 @@ mod Coming
 mod Serving
 mod Exchanging
 mod Pausing
+mod TwoPieces

@@ -40,4 +40,4 @@ pub use ties::{
     writes_keep_ties,
 };
 pub use worked::{worked_asks_are_in_hand, worked_cancels_are_bound, worked_hosts_are_tied};
-pub use worked_pieces::worked_pieces_are_read;
+pub use worked_pieces::{worked_pieces_are_asked, worked_pieces_are_read};
