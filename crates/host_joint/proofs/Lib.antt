@@ -41,3 +41,4 @@ mod Serving
 mod Exchanging
 mod Pausing
 mod TwoPieces
+mod Stopping

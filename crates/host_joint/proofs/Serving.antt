@@ -5,6 +5,7 @@ use Rattle.tmc_wire.specs.declared.header.OutHeader.TheVariants.{Message, Reques
 use Rattle.tmc_wire.specs.Header.{in_header_bytes}
 use Rattle.instr_plain.specs.declared.log.LogEntry.TheVariants as entry
 use Rattle.instr_plain.specs.Standing.{at_power_on}
+use Rattle.usbip_wire.specs.Up as up
 use Rattle.tmc_law.specs.Endpoint.{BulkOut, BulkIn}
 use Rattle.tmc_law.specs.State.{State, Idle, Owed, Sending, arrived, start}
 use Rattle.tmc_law.specs.Logging.{unread}
@@ -135,10 +136,10 @@ second_requested = record behind_first { side = Owed 4 4000 }
 abbrev second_came : State
 second_came = record behind_first { bulk_out = arrived (out_submit 5 12) next_request ∷ [] }
 
-abbrev second_read_came : State
+abbrev pub second_read_came : State
 second_read_came = record second_requested { bulk_in = arrived (in_submit 6 4096) [] ∷ [] }
 
-abbrev second_sends : State
+abbrev pub second_sends : State
 second_sends = record second_read_came {
   side = Sending (record { tag = 4; size = 9; left = second_piece });
   log = second_log;
@@ -158,7 +159,7 @@ requests_second one_header = (
   ),
 )
 
-begins_second : Steps second_read_came (Begin 9) [] second_sends
+pub begins_second : Steps second_read_came (Begin 9) [] second_sends
 unfolding in_header_bytes
 begins_second = record {
   plugged = refl;
@@ -171,9 +172,13 @@ fills_second = record {
   leads = Short (arrived (in_submit 6 4096) []) [] (record { tag = 4; size = 9; left = second_piece }) 0 refl refl tt refl (inl refl) (lit≤ tt) (lit< tt) (lit≤ tt) refl refl;
 }
 
+pub second_comes : Steps second_requested (Comes (up.Submit (in_submit 6 4096) [])) [] second_read_came
+second_comes =
+    comes second_requested (in_submit 6 4096) [] BulkIn (record { plugged = refl; wide = refl; eight = refl; setup = refl; carried = refl; bytes = refl; free = refl; few = refl }) (record { number = refl; way = refl; usable = refl })
+
 pub gives_second : Runs second_requested giving_second behind_second
 gives_second = (
   second_read_came,
-  comes second_requested (in_submit 6 4096) [] BulkIn (record { plugged = refl; wide = refl; eight = refl; setup = refl; carried = refl; bytes = refl; free = refl; few = refl }) (record { number = refl; way = refl; usable = refl }),
+  second_comes,
   (second_sends, begins_second, (behind_second, fills_second, refl)),
 )

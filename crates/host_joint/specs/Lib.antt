@@ -25,3 +25,4 @@ pub mod Joint
 pub mod WorkedAsks
 pub mod WorkedTies
 pub mod WorkedPieces
+pub mod WorkedRecoveries
