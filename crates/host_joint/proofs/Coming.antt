@@ -1,18 +1,17 @@
 -- steps of worked runs: submits that come, and transfers that one packet carries whole
-use Rattle.std.proofs.Common.{◌≡◌, ◌≢◌, ◌∙◌, ℕ, zero, suc, ◌<◌, ◌^◌, ◌==◌, ◌&&◌, not, nat_lt, Bool, true, false, List, [], ◌∷◌, ◌++◌, length, take, drop, slice_index, Some, None, refl, ap, sym, subst, arith, lit<, lit≤}
+use Rattle.std.proofs.Common.{◌≡◌, ◌≢◌, ℕ, zero, suc, ◌<◌, ◌^◌, ◌==◌, ◌&&◌, not, nat_lt, Bool, true, false, List, [], ◌∷◌, ◌++◌, length, take, drop, slice_index, None, refl, sym, lit<}
 use Rattle.std.proofs.lemmas.Bool.{eqb-false, eqb-true, ltb-true}
 use Rattle.usbip_wire.specs.declared.urb.Dir.{Dir}
 use Rattle.usbip_wire.specs.declared.urb.Dir.TheVariants.{Out, In}
 use Rattle.usbip_wire.specs.declared.submit.SubmitHead.{SubmitHead}
 use Rattle.usbip_wire.specs.Submit as wire
 use Rattle.usbip_wire.specs.Up as up
-use Rattle.tmc_law.specs.Endpoint.{Endpoint, BulkOut, BulkIn}
-use Rattle.tmc_law.specs.State.{State, Pending, Plugged, Idle, arrived, queue_of, with_queue, pending, Avoids}
+use Rattle.tmc_law.specs.Endpoint.{Endpoint}
+use Rattle.tmc_law.specs.State.{State, Pending, Plugged, arrived, queue_of, with_queue, pending, Avoids}
 use Rattle.tmc_law.specs.Put.{ended, success}
 use Rattle.tmc_law.specs.Queues.{IsTaken, Queued}
 use Rattle.tmc_law.specs.BulkOut.{TakesEffect, TransferEnds, DoesMove, Begun, wants, packets_of}
 use Rattle.tmc_law.specs.Step.{Steps, Comes, Take}
-use Rattle.tmc_law.specs.WorkedSession.{devid, no_setup, out_submit, in_submit}
 use Rattle.host_joint.specs.Jobs.{Job, IsJob, partly, transfer_of}
 use Rattle.host_joint.proofs.Taking.{OneHeader, MayBegin, not_refused, owns_fresh}
 
@@ -35,7 +34,7 @@ two : (a b : Bool) → (a && b) ≡ true → (a ≡ true) × (b ≡ true)
 two true b e = (refl, e)
 two false b e = absurd (cc)
 
-below : (limit : ℕ) (ns : List ℕ) → 0 < limit → all_below limit ns ≡ true → (i : ℕ) → slice_index ns i < limit
+pub below : (limit : ℕ) (ns : List ℕ) → 0 < limit → all_below limit ns ≡ true → (i : ℕ) → slice_index ns i < limit
 below limit [] some e i = some
 below limit (n ∷ ns) some e zero = ltb-true n limit (two (nat_lt n limit) (all_below limit ns) e).0
 below limit (n ∷ ns) some e (suc i) = below limit ns some (two (nat_lt n limit) (all_below limit ns) e).1 i

@@ -1,5 +1,5 @@
 -- a tied host writes one submit, the device goes on, and the answer is taken
-use Rattle.std.proofs.Common.{◌≡◌, ◌≢◌, ◌∙◌, ◌⊎◌, inl, inr, ℕ, ◌+◌, ◌<◌, true, false, Option, Some, None, List, [], ◌∷◌, ◌++◌, length, refl, sym, subst, append-nil, arith}
+use Rattle.std.proofs.Common.{◌≡◌, ◌∙◌, ℕ, ◌+◌, ◌<◌, true, false, Option, Some, None, List, [], ◌∷◌, ◌++◌, length, sym, subst, append-nil, arith}
 use Rattle.usbip_wire.specs.declared.submit.SubmitHead.{SubmitHead}
 use Rattle.usbip_wire.specs.declared.ret_submit.RetSubmitHead.{RetSubmitHead}
 use Rattle.usbip_wire.specs.Up as up
@@ -42,9 +42,9 @@ pub exchange : (laws : TieLaws) (before after : Hand) (head : SubmitHead) (bytes
     → Runs s run t → IsUndisturbed run → Tie before None next [] [] s → Goes after head a.actual transferred (next + 1) [] [] t
 exchange laws before after head bytes run a transferred next s t writes number takes gives runs calm tie =
     let wrote : Tie after (Some head) (next + 1) (inputs run ++ []) [] s =
-        subst (λ (l : List up.Message). Tie after (Some head) (next + 1) l [] s) (sym (append-nil (inputs run) ∙ takes)) (laws.writes before after head bytes next [] [] s writes number tie) in
+    subst (λ (l : List up.Message). Tie after (Some head) (next + 1) l [] s) (sym (append-nil (inputs run) ∙ takes)) (laws.writes before after head bytes next [] [] s writes number tie) in
     let went : Tie after (Some head) (next + 1) [] (Submitted head a transferred ∷ []) t =
-        subst (λ (l : List Put). Tie after (Some head) (next + 1) [] l t) gives (laws.stays run after (Some head) (next + 1) [] [] s t runs calm wrote) in
+    subst (λ (l : List Put). Tie after (Some head) (next + 1) [] l t) gives (laws.stays run after (Some head) (next + 1) [] [] s t runs calm wrote) in
     goes_of after head a transferred (next + 1) [] [] t (laws.given after head (next + 1) (Submitted head a transferred) [] [] t went)
 
 -- ---- what came

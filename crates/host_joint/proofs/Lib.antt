@@ -42,3 +42,4 @@ mod Exchanging
 mod Pausing
 mod TwoPieces
 mod Stopping
+mod Restoring

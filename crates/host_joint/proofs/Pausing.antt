@@ -1,12 +1,9 @@
 -- the response to the message of two transfers is read in two pieces
-use Rattle.std.proofs.Common.{◌≡◌, ◌≢◌, ◌∙◌, ◌⊎◌, inl, inr, ℕ, ◌+◌, ◌<◌, Bool, true, false, Option, Some, None, List, [], ◌∷◌, ◌++◌, length, refl, ap, sym, subst, arith, lit<, lit≤}
-use Rattle.usbip_wire.specs.declared.submit.SubmitHead.{SubmitHead}
-use Rattle.usbip_wire.specs.Up as up
+use Rattle.std.proofs.Common.{◌≡◌, ◌∙◌, inl, inr, ℕ, ◌<◌, Bool, true, false, None, List, [], ◌∷◌, ◌++◌, length, refl, ap, sym, subst, arith, lit<}
 use Rattle.tmc_wire.specs.declared.header.OutHeader.TheVariants.{Request}
 use Rattle.tmc_wire.specs.Header.{out_header_bytes}
-use Rattle.tmc_law.specs.State.{State}
-use Rattle.tmc_law.specs.Put.{Put, success}
-use Rattle.tmc_law.specs.Run.{Runs, IsFront}
+use Rattle.tmc_law.specs.Put.{success}
+use Rattle.tmc_law.specs.Run.{IsFront}
 use Rattle.tmc_law.specs.WorkedParts.{spaced}
 use Rattle.tmc_law.specs.WorkedQuery.{identity}
 use Rattle.tmc_law.specs.WorkedSession.{out_submit, in_submit}
@@ -15,9 +12,9 @@ use Rattle.host_joint.specs.Hand.{Free, Pauses, IsTransfer, WritesRequest, Write
 use Rattle.host_joint.specs.Pieces.{IsPiece, IsFaultless, IsWhole}
 use Rattle.host_joint.specs.Tie.{IsUndisturbed, Tie, Owns}
 use Rattle.host_joint.specs.WorkedTies.{told, told_to, last_request}
-use Rattle.host_joint.specs.WorkedPieces.{first_data, second_data, first_piece, second_piece, next_request, first_log, second_log, requesting_first, giving_first, requesting_second, giving_second, behind_first, behind_second, reading_first, reading_second, skipping}
+use Rattle.host_joint.specs.WorkedPieces.{requested_second, first_data, second_data, first_piece, second_piece, next_request, first_log, second_log, requesting_first, giving_first, requesting_second, giving_second, behind_first, behind_second, reading_first, reading_second, skipping}
 use Rattle.host_joint.proofs.Taking.{OneHeader}
-use Rattle.host_joint.proofs.Serving.{first_requested, second_requested, requests_first, gives_first, requests_second, gives_second}
+use Rattle.host_joint.proofs.Serving.{first_requested, requests_first, gives_first, requests_second, gives_second}
 use Rattle.host_joint.proofs.Exchanging.{TieLaws, exchange, on, Ends, EndsAll, EndsPart, ends}
 
 abbrev pub Fields : Type 0
@@ -75,16 +72,16 @@ paused laws fields tie =
           longer = subst (λ (l : List ℕ). length l < length response) (sym own) longer;
         }
 
-pub again : TieLaws → OneHeader → Tie (Pauses 2 spaced first_data) None 5 [] [] behind_first → Tie reading_second None 6 [] [] second_requested
+pub again : TieLaws → OneHeader → Tie (Pauses 2 spaced first_data) None 5 [] [] behind_first → Tie reading_second None 6 [] [] requested_second
 again laws one_header tie =
-    on reading_second (out_submit 5 12) 12 [] 6 [] [] second_requested refl
-    (exchange laws (Pauses 2 spaced first_data) reading_second (out_submit 5 12) next_request requesting_second (record { seqnum = 5; status = success; actual = 12 }) [] 5 behind_first second_requested
+    on reading_second (out_submit 5 12) 12 [] 6 [] [] requested_second refl
+    (exchange laws (Pauses 2 spaced first_data) reading_second (out_submit 5 12) next_request requesting_second (record { seqnum = 5; status = success; actual = 12 }) [] 5 behind_first requested_second
     (WritesNext 2 4 4000 spaced first_data refl next_is refl) refl refl refl (requests_second one_header) two_more tie)
 
-pub whole : TieLaws → Fields → Tie reading_second None 6 [] [] second_requested → Tie Free None 7 [] [] behind_second × Ran 2 spaced identity second_log
+pub whole : TieLaws → Fields → Tie reading_second None 6 [] [] requested_second → Tie Free None 7 [] [] behind_second × Ran 2 spaced identity second_log
 whole laws fields tie =
     by (ends reading_second (in_submit 6 4096) 24 second_piece 7 [] [] behind_second refl (lit< tt)
-    (exchange laws reading_second reading_second (in_submit 6 4096) [] giving_second (record { seqnum = 6; status = success; actual = 24 }) second_piece 6 second_requested behind_second
+    (exchange laws reading_second reading_second (in_submit 6 4096) [] giving_second (record { seqnum = 6; status = success; actual = 24 }) second_piece 6 requested_second behind_second
     (WritesRead 2 4 4000 spaced first_data [] refl (record { number = refl; way = refl; size = refl }) refl refl) refl refl refl gives_second three_more tie))
   where
     by : Ends 2 spaced 4 4000 first_data [] second_piece 7 [] [] behind_second → Tie Free None 7 [] [] behind_second × Ran 2 spaced identity second_log

@@ -1,27 +1,24 @@
 -- a response is given in two pieces, step by step
-use Rattle.std.proofs.Common.{◌≡◌, ◌≢◌, ◌⊎◌, inl, inr, ℕ, ◌-◌, ◌≤◌, true, false, List, [], ◌∷◌, ◌++◌, length, codes, Some, None, refl, ap, sym, ◌∙◌, arith, lit<, lit≤}
+use Rattle.std.proofs.Common.{◌≡◌, ◌≢◌, inl, inr, ℕ, [], ◌∷◌, refl, ap, sym, ◌∙◌, lit<, lit≤}
 use Rattle.std.proofs.lemmas.Bool.{eqb-false}
-use Rattle.tmc_wire.specs.declared.header.OutHeader.TheVariants.{Message, Request}
+use Rattle.tmc_wire.specs.declared.header.OutHeader.TheVariants.{Request}
 use Rattle.tmc_wire.specs.Header.{in_header_bytes}
-use Rattle.instr_plain.specs.declared.log.LogEntry.TheVariants as entry
 use Rattle.instr_plain.specs.Standing.{at_power_on}
 use Rattle.usbip_wire.specs.Up as up
 use Rattle.tmc_law.specs.Endpoint.{BulkOut, BulkIn}
-use Rattle.tmc_law.specs.State.{State, Idle, Owed, Sending, arrived, start}
-use Rattle.tmc_law.specs.Logging.{unread}
+use Rattle.tmc_law.specs.State.{State, Idle, Owed, Sending, arrived}
 use Rattle.tmc_law.specs.Put.{success}
 use Rattle.tmc_law.specs.BulkOut.{Requests}
 use Rattle.tmc_law.specs.BulkIn.{DoesBegin, Short}
-use Rattle.tmc_law.specs.Step.{Steps, Comes, Take, Begin, Fill}
+use Rattle.tmc_law.specs.Step.{Steps, Comes, Begin, Fill}
 use Rattle.tmc_law.specs.Run.{Runs}
 use Rattle.tmc_law.specs.WorkedSession.{out_submit, in_submit, answered}
-use Rattle.tmc_law.specs.WorkedParts.{parts_log}
 use Rattle.tmc_law.specs.WorkedQuery.{identity}
 use Rattle.host_joint.specs.Jobs.{Job, IsJob}
 use Rattle.host_joint.specs.WorkedTies.{told_to, last_request}
-use Rattle.host_joint.specs.WorkedPieces.{first_piece, second_piece, next_request, second_data, first_log, second_log, requesting_first, giving_first, requesting_second, giving_second, behind_first, behind_second, request_job, next_job}
+use Rattle.host_joint.specs.WorkedPieces.{requested_second, first_piece, second_piece, next_request, second_data, first_log, second_log, requesting_first, giving_first, requesting_second, giving_second, behind_first, behind_second, request_job, next_job}
 use Rattle.host_joint.proofs.Taking.{OneHeader, MayBegin, Suits}
-use Rattle.host_joint.proofs.Examples.{IsFine, no_fault}
+use Rattle.host_joint.proofs.Examples.{no_fault}
 use Rattle.host_joint.proofs.Coming.{comes, takes_job}
 
 -- ---- the first piece
@@ -130,14 +127,11 @@ gives_first = (
 
 -- ---- the second one
 
-abbrev pub second_requested : State
-second_requested = record behind_first { side = Owed 4 4000 }
-
 abbrev second_came : State
 second_came = record behind_first { bulk_out = arrived (out_submit 5 12) next_request ∷ [] }
 
 abbrev pub second_read_came : State
-second_read_came = record second_requested { bulk_in = arrived (in_submit 6 4096) [] ∷ [] }
+second_read_came = record requested_second { bulk_in = arrived (in_submit 6 4096) [] ∷ [] }
 
 abbrev pub second_sends : State
 second_sends = record second_read_came {
@@ -146,13 +140,13 @@ second_sends = record second_read_came {
   standing = at_power_on;
 }
 
-pub requests_second : OneHeader → Runs behind_first requesting_second second_requested
+pub requests_second : OneHeader → Runs behind_first requesting_second requested_second
 requests_second one_header = (
   second_came,
   comes behind_first (out_submit 5 12) next_request BulkOut (record { plugged = refl; wide = refl; eight = refl; setup = refl; carried = refl; bytes = refl; free = refl; few = refl }) (record { number = refl; way = refl; usable = refl }),
   (
-    second_requested,
-    takes_job one_header second_came second_requested next_job next_is (may_begin next_job 4 4000 second_came refl refl refl)
+    requested_second,
+    takes_job one_header second_came requested_second next_job next_is (may_begin next_job 4 4000 second_came refl refl refl)
         (record { plugged = refl; none_waits = refl; none_runs = refl; first = refl; some = eqb-false _ _ refl; one = refl; moves = (refl, refl); full = refl })
         (Requests 4 4000 refl some_data refl),
     refl,
@@ -172,11 +166,11 @@ fills_second = record {
   leads = Short (arrived (in_submit 6 4096) []) [] (record { tag = 4; size = 9; left = second_piece }) 0 refl refl tt refl (inl refl) (lit≤ tt) (lit< tt) (lit≤ tt) refl refl;
 }
 
-pub second_comes : Steps second_requested (Comes (up.Submit (in_submit 6 4096) [])) [] second_read_came
+pub second_comes : Steps requested_second (Comes (up.Submit (in_submit 6 4096) [])) [] second_read_came
 second_comes =
-    comes second_requested (in_submit 6 4096) [] BulkIn (record { plugged = refl; wide = refl; eight = refl; setup = refl; carried = refl; bytes = refl; free = refl; few = refl }) (record { number = refl; way = refl; usable = refl })
+    comes requested_second (in_submit 6 4096) [] BulkIn (record { plugged = refl; wide = refl; eight = refl; setup = refl; carried = refl; bytes = refl; free = refl; few = refl }) (record { number = refl; way = refl; usable = refl })
 
-pub gives_second : Runs second_requested giving_second behind_second
+pub gives_second : Runs requested_second giving_second behind_second
 gives_second = (
   second_read_came,
   second_comes,

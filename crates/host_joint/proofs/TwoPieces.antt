@@ -1,5 +1,5 @@
 -- an ask whose response comes in two pieces, by the laws of asks
-use Rattle.std.proofs.Common.{◌≡◌, ◌≢◌, ◌∙◌, ◌⊎◌, inl, inr, ℕ, zero, suc, ◌+◌, ◌<◌, ◌≤◌, Bool, true, false, Option, Some, None, List, [], ◌∷◌, ◌++◌, length, take, drop, codes, replicate, refl, ap, sym, subst, arith, lit<, lit≤}
+use Rattle.std.proofs.Common.{◌≡◌, ◌≢◌, ◌∙◌, inl, inr, ℕ, zero, suc, ◌≤◌, Bool, true, false, List, [], ◌∷◌, ◌++◌, length, take, drop, codes, refl, ap, sym, subst, arith, lit<, lit≤}
 use Rattle.std.proofs.lemmas.Bool.{eqb-false}
 use Rattle.usbip_wire.specs.declared.submit.SubmitHead.{SubmitHead}
 use Rattle.usbip_wire.specs.declared.ret_submit.RetSubmitHead.{RetSubmitHead}
@@ -10,24 +10,24 @@ use Rattle.host_joint.specs.Pieces.{IsWhole}
 use Rattle.tmc_law.specs.Endpoint.{BulkOut, BulkIn, number_of}
 use Rattle.tmc_law.specs.State.{State, start}
 use Rattle.tmc_law.specs.Logging.{unread}
-use Rattle.tmc_law.specs.Put.{Put, Submitted, success, stalled}
+use Rattle.tmc_law.specs.Put.{Put, Submitted, success}
 use Rattle.tmc_law.specs.BulkOut.{message_most}
-use Rattle.tmc_law.specs.Run.{Entry, Runs, IsFront, inputs, outputs}
+use Rattle.tmc_law.specs.Run.{Entry, Runs, inputs, outputs}
 use Rattle.tmc_law.specs.WorkedParts.{spaced, spaces_text, last_text, sending_parts}
 use Rattle.tmc_law.specs.WorkedQuery.{identity}
-use Rattle.tmc_law.specs.WorkedSession.{out_submit, in_submit, answered}
+use Rattle.tmc_law.specs.WorkedSession.{out_submit, in_submit}
 use Rattle.host_joint.specs.Lines.{Gives, AllFitting, unlinks_in}
 use Rattle.host_joint.specs.Jobs.{Job, IsJob}
-use Rattle.host_joint.specs.Reads.{read_size, IsRead}
+use Rattle.host_joint.specs.Reads.{IsRead}
 use Rattle.host_joint.specs.Stage.{Ran, NoneComes, Inner, Final, Carries, IsUnasked}
 use Rattle.host_joint.specs.Asking.{Ask, Asking, AtRest, IsQuiet, StaysPlugged}
-use Rattle.host_joint.specs.Hosted.{OutAnswered, InAnswered, TookFull, TookEnd, TookHalt, PieceEnd, IsNextOf}
+use Rattle.host_joint.specs.Hosted.{OutAnswered, InAnswered, PieceEnd, IsNextOf}
 use Rattle.host_joint.specs.Owned.{Owned, NothingRead, PiecesRead, PieceRead}
-use Rattle.host_joint.specs.WorkedTies.{told_to, last_request}
-use Rattle.host_joint.specs.WorkedPieces.{first_data, second_data, first_piece, second_piece, next_request, first_log, second_log, requesting_first, giving_first, requesting_second, giving_second, behind_first, behind_second, spaces_job, last_job, request_job, next_job, asked_with}
+use Rattle.host_joint.specs.WorkedTies.{told_to}
+use Rattle.host_joint.specs.WorkedPieces.{requested_second, first_data, second_data, first_piece, second_piece, second_log, requesting_first, giving_first, requesting_second, giving_second, behind_first, behind_second, spaces_job, last_job, request_job, next_job, asked_with}
 use Rattle.host_joint.proofs.Taking.{OneHeader}
-use Rattle.host_joint.proofs.Serving.{first_is, next_is, first_requested, second_requested, requests_first, gives_first, requests_second, gives_second}
-use Rattle.host_joint.proofs.Examples.{IsFine, no_fault, good, piece_ends}
+use Rattle.host_joint.proofs.Serving.{first_is, next_is, first_requested, requests_first, gives_first, requests_second, gives_second}
+use Rattle.host_joint.proofs.Examples.{no_fault, good, piece_ends}
 use Rattle.host_joint.proofs.Transfers.{WireLaws, piece_whole}
 use Rattle.host_joint.proofs.Given.{piece_text}
 
@@ -107,13 +107,13 @@ begun moves =
 pub said : AskMoves → (mid : State) → Runs start (take 3 sending_parts) mid → Runs mid (drop 3 sending_parts) told_to → Asking (asked_with 3 message_jobs 2 []) [] [] told_to
 said moves mid first last =
     let part = moves.stays [] (take 3 sending_parts) (asked_with 3 (spaces_job ∷ []) 0 []) start mid [] [] refl first ((record { endpoint = BulkOut; number = refl; way = refl }), tt) refl
-        ((λ e. cc), ((λ e. cc), ((λ e. cc), tt))) (begun moves) in
+    ((λ e. cc), ((λ e. cc), ((λ e. cc), tt))) (begun moves) in
     let taken = good (asked_with 3 (spaces_job ∷ []) 0 []) [] (out_submit 1 112) (record { seqnum = 1; status = success; actual = 112 }) [] mid refl
-        (moves.outs (asked_with 3 (spaces_job ∷ []) 0 []) [] (out_submit 1 112) (record { seqnum = 1; status = success; actual = 112 }) [] [] mid refl part) in
+    (moves.outs (asked_with 3 (spaces_job ∷ []) 0 []) [] (out_submit 1 112) (record { seqnum = 1; status = success; actual = 112 }) [] [] mid refl part) in
     let wrote = moves.part (asked_with 3 (spaces_job ∷ []) 1 []) [] [] mid last_job last_is
-        (record { rest = codes "*IDN?"; inner = tt; left = refl; carries = Final 2 5 refl refl refl (NoneComes refl); unread = refl }) refl taken in
+    (record { rest = codes "*IDN?"; inner = tt; left = refl; carries = Final 2 5 refl refl refl (NoneComes refl); unread = refl }) refl taken in
     let whole = moves.stays (take 3 sending_parts) (drop 3 sending_parts) (asked_with 3 message_jobs 1 []) mid told_to [] [] first last ((record { endpoint = BulkOut; number = refl; way = refl }), tt) refl
-        ((λ e. cc), ((λ e. cc), ((λ e. cc), tt))) wrote in
+    ((λ e. cc), ((λ e. cc), ((λ e. cc), tt))) wrote in
     good (asked_with 3 message_jobs 1 []) [] (out_submit 2 20) (record { seqnum = 2; status = success; actual = 20 }) [] told_to refl
     (moves.outs (asked_with 3 message_jobs 1 []) [] (out_submit 2 20) (record { seqnum = 2; status = success; actual = 20 }) [] [] told_to refl whole)
 
@@ -126,12 +126,12 @@ pub first_given : AskMoves → OneHeader → Runs start sending_parts told_to �
 first_given moves one_header before behind asks =
     let wrote = moves.request (asked_with 3 message_jobs 2 []) [] [] told_to request_job first_is refl (inl tt) (λ some. absurd (some refl)) refl asks in
     let went = moves.stays sending_parts requesting_first (asked_with 3 all_jobs 2 []) told_to first_requested [] [] before (requests_first one_header) ((record { endpoint = BulkOut; number = refl; way = refl }), tt) refl
-        ((λ e. cc), ((λ e. cc), tt)) wrote in
+    ((λ e. cc), ((λ e. cc), tt)) wrote in
     let taken = good (asked_with 3 all_jobs 2 []) [] (out_submit 3 12) (record { seqnum = 3; status = success; actual = 12 }) [] first_requested refl
-        (moves.outs (asked_with 3 all_jobs 2 []) [] (out_submit 3 12) (record { seqnum = 3; status = success; actual = 12 }) [] [] first_requested refl went) in
+    (moves.outs (asked_with 3 all_jobs 2 []) [] (out_submit 3 12) (record { seqnum = 3; status = success; actual = 12 }) [] [] first_requested refl went) in
     let reads = moves.one_read (asked_with 3 all_jobs 3 []) [] [] first_requested (in_submit 4 4096) (record { number = refl; way = refl; size = refl }) refl taken in
     let gave = moves.stays (sending_parts ++ requesting_first) giving_first (asked_with 3 all_jobs 3 []) first_requested behind_first [] [] behind gives_first ((record { endpoint = BulkIn; number = refl; way = refl }), tt) refl
-        ((λ e. cc), ((λ e. cc), ((λ e. cc), tt))) reads in
+    ((λ e. cc), ((λ e. cc), ((λ e. cc), tt))) reads in
     piece_ends (asked_with 3 all_jobs 3 []) [] (in_submit 4 4096) (record { seqnum = 4; status = success; actual = 24 }) first_piece [] behind_first (lit< tt) refl
     (moves.ins (asked_with 3 all_jobs 3 []) [] (in_submit 4 4096) (record { seqnum = 4; status = success; actual = 24 }) first_piece [] behind_first refl gave)
 
@@ -162,20 +162,20 @@ some_second : second_data ≢ []
 some_second e = cc
 
 pub second_taken : AskMoves → OneHeader → (before : List Entry) → Runs start before behind_first → Asking (asked_with 4 [] 0 first_data) [] [] behind_first
-    → Asking (asked_with 4 (next_job ∷ []) 1 first_data) [] [] second_requested
+    → Asking (asked_with 4 (next_job ∷ []) 1 first_data) [] [] requested_second
 second_taken moves one_header before reached asks =
     let wrote = moves.request (asked_with 4 [] 0 first_data) [] [] behind_first next_job next_is refl (inr (refl, some_first)) (λ some. some_second) refl asks in
-    let went = moves.stays before requesting_second (asked_with 4 (next_job ∷ []) 0 first_data) behind_first second_requested [] [] reached (requests_second one_header) ((record { endpoint = BulkOut; number = refl; way = refl }), tt) refl
-        ((λ e. cc), ((λ e. cc), tt)) wrote in
-    good (asked_with 4 (next_job ∷ []) 0 first_data) [] (out_submit 5 12) (record { seqnum = 5; status = success; actual = 12 }) [] second_requested refl
-    (moves.outs (asked_with 4 (next_job ∷ []) 0 first_data) [] (out_submit 5 12) (record { seqnum = 5; status = success; actual = 12 }) [] [] second_requested refl went)
+    let went = moves.stays before requesting_second (asked_with 4 (next_job ∷ []) 0 first_data) behind_first requested_second [] [] reached (requests_second one_header) ((record { endpoint = BulkOut; number = refl; way = refl }), tt) refl
+    ((λ e. cc), ((λ e. cc), tt)) wrote in
+    good (asked_with 4 (next_job ∷ []) 0 first_data) [] (out_submit 5 12) (record { seqnum = 5; status = success; actual = 12 }) [] requested_second refl
+    (moves.outs (asked_with 4 (next_job ∷ []) 0 first_data) [] (out_submit 5 12) (record { seqnum = 5; status = success; actual = 12 }) [] [] requested_second refl went)
 
-pub second_given : AskMoves → (before : List Entry) → Runs start before second_requested → Asking (asked_with 4 (next_job ∷ []) 1 first_data) [] [] second_requested
+pub second_given : AskMoves → (before : List Entry) → Runs start before requested_second → Asking (asked_with 4 (next_job ∷ []) 1 first_data) [] [] requested_second
     → Gave 4 (next_job ∷ []) 1 first_data second_piece behind_second
 second_given moves before reached asks =
-    let reads = moves.one_read (asked_with 4 (next_job ∷ []) 1 first_data) [] [] second_requested (in_submit 6 4096) (record { number = refl; way = refl; size = refl }) refl asks in
-    let gave = moves.stays before giving_second (asked_with 4 (next_job ∷ []) 1 first_data) second_requested behind_second [] [] reached gives_second ((record { endpoint = BulkIn; number = refl; way = refl }), tt) refl
-        ((λ e. cc), ((λ e. cc), ((λ e. cc), tt))) reads in
+    let reads = moves.one_read (asked_with 4 (next_job ∷ []) 1 first_data) [] [] requested_second (in_submit 6 4096) (record { number = refl; way = refl; size = refl }) refl asks in
+    let gave = moves.stays before giving_second (asked_with 4 (next_job ∷ []) 1 first_data) requested_second behind_second [] [] reached gives_second ((record { endpoint = BulkIn; number = refl; way = refl }), tt) refl
+    ((λ e. cc), ((λ e. cc), ((λ e. cc), tt))) reads in
     piece_ends (asked_with 4 (next_job ∷ []) 1 first_data) [] (in_submit 6 4096) (record { seqnum = 6; status = success; actual = 24 }) second_piece [] behind_second (lit< tt) refl
     (moves.ins (asked_with 4 (next_job ∷ []) 1 first_data) [] (in_submit 6 4096) (record { seqnum = 6; status = success; actual = 24 }) second_piece [] behind_second refl gave)
 

@@ -4,7 +4,7 @@ use Rattle.tmc_wire.specs.declared.header.OutHeader.TheVariants.{Message, Reques
 use Rattle.instr_plain.specs.declared.log.LogEntry.{LogEntry}
 use Rattle.instr_plain.specs.declared.log.LogEntry.TheVariants as entry
 use Rattle.instr_plain.specs.Standing.{at_power_on}
-use Rattle.tmc_law.specs.State.{State, start}
+use Rattle.tmc_law.specs.State.{State, Owed, start}
 use Rattle.tmc_law.specs.Put.{success}
 use Rattle.tmc_law.specs.Step.{Take, Begin, Fill}
 use Rattle.tmc_law.specs.Run.{Entry}
@@ -56,6 +56,10 @@ second_log = first_log ++ entry.Took 9 ∷ []
 
 abbrev pub behind_first : State
 behind_first = record start { log = first_log; standing = record at_power_on { unread = second_data } }
+
+-- and behind the second request, whose piece has not begun
+abbrev pub requested_second : State
+requested_second = record behind_first { side = Owed 4 4000 }
 
 abbrev pub behind_second : State
 behind_second = record start { log = second_log }

@@ -4,15 +4,15 @@ use Rattle.usbip_wire.specs.declared.submit.SubmitHead.{SubmitHead}
 use Rattle.usbip_wire.specs.Up as up
 use Rattle.instr_plain.specs.declared.log.LogEntry.{LogEntry}
 use Rattle.instr_plain.specs.declared.log.LogEntry.TheVariants as entry
-use Rattle.tmc_law.specs.Endpoint.{BulkOut, BulkIn}
-use Rattle.tmc_law.specs.State.{State, Idle, Sending, Nothing, AbortsIn, Clears, start}
+use Rattle.tmc_law.specs.Endpoint.{BulkIn}
+use Rattle.tmc_law.specs.State.{State, Sending, start}
 use Rattle.tmc_law.specs.Put.{Unlinked, success, stalled, unlinked}
 use Rattle.tmc_law.specs.Step.{Comes, Answer, Begin, Fill, Halt}
 use Rattle.tmc_law.specs.Run.{Entry}
 use Rattle.tmc_law.specs.WorkedSession.{in_submit, asking_submit, telling_submit, unlink, submits, step, answered}
 use Rattle.tmc_law.specs.WorkedParts.{spaced}
 use Rattle.host_joint.specs.Bond.{Situation, Reading}
-use Rattle.host_joint.specs.WorkedPieces.{first_data, second_log}
+use Rattle.host_joint.specs.WorkedPieces.{first_data, second_piece, second_log}
 
 -- the second piece was requested, and nothing of it was read; whether an unlink is on its way or not
 abbrev pub reading_rest : Situation
@@ -53,6 +53,9 @@ halted_inside = record start { halted = record { bulk_out = false; bulk_in = tru
 abbrev pub aborting_none : List Entry
 aborting_none = submits (abort_submit 7) [] ∷ step Answer (answered (abort_submit 7) success 2 (0x80 ∷ 0x00 ∷ []) ∷ []) ∷ []
 
+abbrev pub usable_again : State
+usable_again = record start { log = second_log }
+
 abbrev pub freeing : List Entry
 freeing = submits (usable_in 8) [] ∷ step Answer (answered (usable_in 8) success 0 [] ∷ []) ∷ []
 
@@ -72,6 +75,9 @@ freeing_in = submits (usable_in 10) [] ∷ step Answer (answered (usable_in 10) 
 abbrev pub cleared_log : List LogEntry
 cleared_log = second_log ++ entry.Clear ∷ []
 
+abbrev pub cleared_at_last : State
+cleared_at_last = record start { log = cleared_log }
+
 -- ---- the host cancels
 
 -- the unlink hits the read, which had no bytes
@@ -81,6 +87,9 @@ cancelling_second =
     ∷ step (Begin 9) []
     ∷ step (Comes (up.Unlink (unlink 7 6))) (Unlinked (unlink 7 6) (record { seqnum = 7; status = unlinked }) ∷ [])
     ∷ []
+
+abbrev pub cancelled_inside : State
+cancelled_inside = record usable_again { side = Sending (record { tag = 4; size = 9; left = second_piece }) }
 
 -- the transfer is aborted, its packet is read, and the check says that it is over
 abbrev pub aborting_second : List Entry

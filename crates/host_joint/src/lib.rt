@@ -17,6 +17,7 @@ mod recovery;
 mod ties;
 mod worked;
 mod worked_pieces;
+mod worked_recoveries;
 
 pub use accepted::{asks_halt_nothing, no_submit_is_refused};
 pub use asks::{
@@ -41,3 +42,4 @@ pub use ties::{
 };
 pub use worked::{worked_asks_are_in_hand, worked_cancels_are_bound, worked_hosts_are_tied};
 pub use worked_pieces::{worked_pieces_are_asked, worked_pieces_are_read};
+pub use worked_recoveries::{worked_cancels_are_recovered, worked_halts_are_recovered};

@@ -13,7 +13,7 @@ ghost use Rattle.host_joint.specs.Stage.{Ran};
 ghost use Rattle.host_joint.specs.Hand.{Free, Pauses};
 ghost use Rattle.host_joint.specs.Tie.{Tie, IsOwned};
 ghost use Rattle.host_joint.specs.WorkedTies.{told_to, last_request};
-ghost use Rattle.host_joint.specs.WorkedPieces.{requesting_first, giving_first, requesting_second, giving_second, first_data, first_log, second_log, behind_first, behind_second, reading_first, reading_second, skipping, second_data, first_piece, second_piece, spaces_job, last_job, request_job, next_job, asked_with};
+ghost use Rattle.host_joint.specs.WorkedPieces.{requested_second, requesting_first, giving_first, requesting_second, giving_second, first_data, first_log, second_log, behind_first, behind_second, reading_first, reading_second, skipping, second_data, first_piece, second_piece, spaces_job, last_job, request_job, next_job, asked_with};
 ghost use Rattle.host_joint.specs.Asking.{Asking};
 ghost use Rattle.host_joint.specs.Hosted.{PieceEnd};
 ghost use Rattle.host_joint.specs.Owned.{Owned};
@@ -24,8 +24,8 @@ use crate::{
     messages_are_written, pieces_have_no_fault, tickets_end, ties_own, ties_stay,
     what_is_read_is_owned, what_ran_is_one, worked_hosts_are_tied, writes_keep_ties,
 };
-use tmc_law::worked::a_message_comes_in_parts;
 use tmc_law::runs_join;
+use tmc_law::worked::a_message_comes_in_parts;
 use tmc_wire::{header_offsets_are_laid_out, headers_are_read_again, transfers_are_read_again};
 
 /// A host that sent a message in two transfers reads its response in two pieces, and is tied to the device all the time: when it
@@ -38,7 +38,7 @@ pub fn worked_pieces_are_read()
     ensures requested { (s : State) × Runs told_to requesting_first s × Tie reading_first None 4 [] [] s }
     ensures paused { Tie (Pauses 2 spaced first_data) None 5 [] [] behind_first × IsOwned 2 spaced first_data behind_first
         × ((response : List ℕ) × Ran 2 spaced response first_log × (length first_data < length response)) }
-    ensures again { (s : State) × Runs behind_first requesting_second s × Tie reading_second None 6 [] [] s }
+    ensures again { Runs behind_first requesting_second requested_second × Tie reading_second None 6 [] [] requested_second }
     ensures whole { Tie Free None 7 [] [] behind_second × Ran 2 spaced identity second_log }
     ensures stopped { Tie Free None 5 [] [] behind_first }
     ensures skipped { (waits : Option SubmitHead) (next : ℕ) (ups : List up.Message) (downs : List Put) → Tie skipping waits next ups downs behind_second → ⊥ }

@@ -1,14 +1,14 @@
-use Rattle.std.proofs.Common.{[], ◌∷◌, ◌++◌, Some, None, refl}
+use Rattle.std.proofs.Common.{[], ◌++◌, None, refl}
 use Rattle.tmc_law.specs.State.{start}
 use Rattle.tmc_law.specs.WorkedParts.{spaced, sending_parts}
 use Rattle.tmc_law.specs.WorkedQuery.{identity}
 use Rattle.tmc_law.specs.WorkedSession.{out_submit}
 use Rattle.host_joint.specs.Hand.{Pauses, WritesRequest}
 use Rattle.host_joint.specs.WorkedTies.{told, told_to, last_request}
-use Rattle.host_joint.specs.WorkedPieces.{requesting_first, giving_first, requesting_second, giving_second, behind_first, behind_second, reading_first, first_data, second_log, skipping}
+use Rattle.host_joint.specs.WorkedPieces.{requested_second, requesting_first, giving_first, requesting_second, giving_second, behind_first, behind_second, reading_first, first_data, second_log, skipping}
 use Rattle.host_joint.proofs.Exchanging.{TieLaws}
-use Rattle.host_joint.proofs.Serving.{first_requested, second_requested, requests_first, gives_first, requests_second, gives_second}
-use Rattle.host_joint.proofs.Pausing.{first_is, IsPaused, requested, paused, again, whole, not_skipped}
+use Rattle.host_joint.proofs.Serving.{first_requested, requests_first, gives_first, requests_second, gives_second}
+use Rattle.host_joint.proofs.Pausing.{first_is, requested, paused, again, whole, not_skipped}
 use Rattle.host_joint.proofs.worked_pieces.worked_pieces_are_read.Goals as goal
 
 pub returns-clause-runs : goal.returns-clause-runs
@@ -17,7 +17,7 @@ returns-clause-runs c =
     c.runs_join.ensures.together sending_parts (requesting_first ++ (giving_first ++ (requesting_second ++ giving_second))) start told_to behind_second c.a_message_comes_in_parts.ensures
     (c.runs_join.ensures.together requesting_first (giving_first ++ (requesting_second ++ giving_second)) told_to first_requested behind_second (requests_first one)
     (c.runs_join.ensures.together giving_first (requesting_second ++ giving_second) first_requested behind_first behind_second gives_first
-    (c.runs_join.ensures.together requesting_second giving_second behind_first second_requested behind_second (requests_second one) gives_second)))
+    (c.runs_join.ensures.together requesting_second giving_second behind_first requested_second behind_second (requests_second one) gives_second)))
 
 pub returns-clause-asked : goal.returns-clause-asked
 returns-clause-asked c =
@@ -40,7 +40,7 @@ returns-clause-paused c =
 pub returns-clause-again : goal.returns-clause-again
 returns-clause-again c =
     let laws : TieLaws = record { writes = c.writes_keep_ties.ensures; stays = c.ties_stay.ensures.tie; given = c.answers_are_the_expected.ensures } in
-    (second_requested, requests_second c.headers_are_read_again.ensures.out_one, again laws c.headers_are_read_again.ensures.out_one (returns-clause-paused c).0)
+    (requests_second c.headers_are_read_again.ensures.out_one, again laws c.headers_are_read_again.ensures.out_one (returns-clause-paused c).0)
 
 pub returns-clause-whole : goal.returns-clause-whole
 returns-clause-whole c =
