@@ -43,3 +43,4 @@ mod Pausing
 mod TwoPieces
 mod Stopping
 mod Restoring
+mod Until

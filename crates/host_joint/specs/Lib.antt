@@ -21,6 +21,7 @@ pub mod Tie
 pub mod Bond
 -- both over a link
 pub mod Joint
+pub mod Unplugged
 -- examples
 pub mod WorkedAsks
 pub mod WorkedTies
