@@ -44,3 +44,4 @@ mod TwoPieces
 mod Stopping
 mod Restoring
 mod Until
+mod UntilJoined

@@ -12,10 +12,10 @@ use Rattle.tmc_law.specs.Step.{Move, Comes, Refuses, Take, Exec, Begin, Fill, An
 use Rattle.tmc_law.specs.Run.{Entry, Runs, inputs, outputs}
 use Rattle.host_joint.specs.Lines.{Lines, heads}
 use Rattle.host_joint.specs.Asking.{StaysPlugged}
-use Rattle.host_joint.specs.Hand.{Hand}
+use Rattle.host_joint.specs.Hand.{Hand, Free}
 use Rattle.host_joint.specs.Tie.{IsUndisturbed, asked_of, Tie}
 use Rattle.host_joint.specs.Bond.{Situation, Bound}
-use Rattle.host_joint.specs.Unplugged.{WasHeld, Until, BoundUntil, HaltsNothing, TellsUnplugged, NextUntil, ComesPlugged, ComesBefore, ComesBehind}
+use Rattle.host_joint.specs.Unplugged.{WasHeld, Until, TiedUntil, BoundUntil, HaltsNothing, TellsUnplugged, NextUntil, ComesPlugged, ComesBefore, ComesBehind}
 
 -- ---- a run up to the unplugging
 
@@ -122,6 +122,20 @@ pub until_moves : (Before After : List up.Message → List Put → State → Typ
 until_moves Before After ups later downs t moves (inl tie) = inl (moves downs t tie)
 until_moves Before After ups later downs t moves (inr held) =
     inr (record { before = held.before; front = held.front; tie = moves held.front held.before held.tie; unplugs = held.unplugs; behind = held.behind })
+
+-- at the end of a recovery
+pub ends_until : (situation : Situation) (next : ℕ) (ups : List up.Message) (downs : List Put) (t : State) → t.halted.bulk_out ≡ false → t.halted.bulk_in ≡ false
+    → ((ups : List up.Message) (downs : List Put) (s : State) → s.halted.bulk_out ≡ false → s.halted.bulk_in ≡ false → Bound situation None [] next ups downs s → Tie Free None next ups downs s)
+    → BoundUntil situation None [] next ups downs t → TiedUntil Free None next ups downs t
+ends_until situation next ups downs t out ins ends (inl bound) = inl (ends ups downs t out ins bound)
+ends_until situation next ups downs t out ins ends (inr held) =
+    inr (record {
+      before = held.before;
+      front = held.front;
+      tie = ends ups held.front held.before (sym (ap (λ (x : State). x.halted.bulk_out) held.unplugs.leads.is) ∙ out) (sym (ap (λ (x : State). x.halted.bulk_in) held.unplugs.leads.is) ∙ ins) held.tie;
+      unplugs = held.unplugs;
+      behind = held.behind;
+    })
 
 -- ---- the answers of the unplugging
 

@@ -15,6 +15,7 @@ mod numbers;
 mod owned;
 mod recovery;
 mod ties;
+mod unplugged;
 mod worked;
 mod worked_pieces;
 mod worked_recoveries;
@@ -39,6 +40,11 @@ pub use recovery::{asks_hand_over, devices_rest, drains_stay, requests_stay};
 pub use ties::{
     answers_are_the_expected, pieces_have_no_fault, tickets_end, ties_begin, ties_own, ties_stay,
     writes_keep_ties,
+};
+pub use unplugged::{
+    answers_come_until_unplugged, hosts_go_on_until_unplugged, joints_stay_until_unplugged,
+    the_next_answer_is_read_until_unplugged, ties_hold_until_unplugged, unplugged_hosts_own,
+    writes_keep_joints_until_unplugged,
 };
 pub use worked::{worked_asks_are_in_hand, worked_cancels_are_bound, worked_hosts_are_tied};
 pub use worked_pieces::{worked_pieces_are_asked, worked_pieces_are_read};
