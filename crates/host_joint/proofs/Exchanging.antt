@@ -23,7 +23,7 @@ pub record TieLaws : Type 0 where
       → Tie hand (Some head) next ups (put ∷ downs) s → IsGiven hand head put next ups downs s
 
 -- what was given are this answer's bytes
-goes_of : (hand : Hand) (head : SubmitHead) (a : RetSubmitHead) (transferred : List ℕ) (next : ℕ) (ups : List up.Message) (downs : List Put) (s : State) → IsGiven hand head (Submitted head a transferred) next ups downs s
+pub goes_of : (hand : Hand) (head : SubmitHead) (a : RetSubmitHead) (transferred : List ℕ) (next : ℕ) (ups : List up.Message) (downs : List Put) (s : State) → IsGiven hand head (Submitted head a transferred) next ups downs s
     → Goes hand head a.actual transferred next ups downs s
 goes_of hand head a transferred next ups downs s given =
     let same : a ≡ given.answer = answer_is a given.answer transferred given.transferred given.is in

@@ -45,3 +45,4 @@ mod Stopping
 mod Restoring
 mod Until
 mod UntilJoined
+mod Gone

@@ -12,9 +12,9 @@ use Rattle.host_joint.specs.Hand.{Free, Pauses, IsTransfer, WritesRequest, Write
 use Rattle.host_joint.specs.Pieces.{IsPiece, IsFaultless, IsWhole}
 use Rattle.host_joint.specs.Tie.{IsUndisturbed, Tie, Owns}
 use Rattle.host_joint.specs.WorkedTies.{told, told_to, last_request}
-use Rattle.host_joint.specs.WorkedPieces.{requested_second, first_data, second_data, first_piece, second_piece, next_request, first_log, second_log, requesting_first, giving_first, requesting_second, giving_second, behind_first, behind_second, reading_first, reading_second, skipping}
+use Rattle.host_joint.specs.WorkedPieces.{requested_first, requested_second, first_data, second_data, first_piece, second_piece, next_request, first_log, second_log, requesting_first, giving_first, requesting_second, giving_second, behind_first, behind_second, reading_first, reading_second, skipping}
 use Rattle.host_joint.proofs.Taking.{OneHeader}
-use Rattle.host_joint.proofs.Serving.{first_requested, requests_first, gives_first, requests_second, gives_second}
+use Rattle.host_joint.proofs.Serving.{requests_first, gives_first, requests_second, gives_second}
 use Rattle.host_joint.proofs.Exchanging.{TieLaws, exchange, on, Ends, EndsAll, EndsPart, ends}
 
 abbrev pub Fields : Type 0
@@ -40,10 +40,10 @@ two_more = ((λ e. cc), (λ endpoint e. cc), ((λ e. cc), (λ endpoint e. cc), t
 three_more : IsUndisturbed giving_second
 three_more = ((λ e. cc), (λ endpoint e. cc), ((λ e. cc), (λ endpoint e. cc), ((λ e. cc), (λ endpoint e. cc), tt)))
 
-pub requested : TieLaws → OneHeader → Tie told None 3 [] [] told_to → Tie reading_first None 4 [] [] first_requested
+pub requested : TieLaws → OneHeader → Tie told None 3 [] [] told_to → Tie reading_first None 4 [] [] requested_first
 requested laws one_header tie =
-    on reading_first (out_submit 3 12) 12 [] 4 [] [] first_requested refl
-    (exchange laws told reading_first (out_submit 3 12) last_request requesting_first (record { seqnum = 3; status = success; actual = 12 }) [] 3 told_to first_requested
+    on reading_first (out_submit 3 12) 12 [] 4 [] [] requested_first refl
+    (exchange laws told reading_first (out_submit 3 12) last_request requesting_first (record { seqnum = 3; status = success; actual = 12 }) [] 3 told_to requested_first
     (WritesRequest 2 3 4000 spaced refl first_is refl) refl refl refl (requests_first one_header) two_calm tie)
 
 -- behind the first piece
@@ -54,10 +54,10 @@ pub record IsPaused : Type 0 where
   pub first : IsFront first_data response
   pub longer : length first_data < length response
 
-pub paused : TieLaws → Fields → Tie reading_first None 4 [] [] first_requested → IsPaused
+pub paused : TieLaws → Fields → Tie reading_first None 4 [] [] requested_first → IsPaused
 paused laws fields tie =
     by (ends reading_first (in_submit 4 4096) 24 first_piece 5 [] [] behind_first refl (lit< tt)
-    (exchange laws reading_first reading_first (in_submit 4 4096) [] giving_first (record { seqnum = 4; status = success; actual = 24 }) first_piece 4 first_requested behind_first
+    (exchange laws reading_first reading_first (in_submit 4 4096) [] giving_first (record { seqnum = 4; status = success; actual = 24 }) first_piece 4 requested_first behind_first
     (WritesRead 2 3 4000 spaced [] [] refl (record { number = refl; way = refl; size = refl }) refl refl) refl refl refl gives_first three_calm tie))
   where
     by : Ends 2 spaced 3 4000 [] [] first_piece 5 [] [] behind_first → IsPaused

@@ -16,21 +16,18 @@ use Rattle.tmc_law.specs.WorkedSession.{out_submit, in_submit, answered}
 use Rattle.tmc_law.specs.WorkedQuery.{identity}
 use Rattle.host_joint.specs.Jobs.{Job, IsJob}
 use Rattle.host_joint.specs.WorkedTies.{told_to, last_request}
-use Rattle.host_joint.specs.WorkedPieces.{requested_second, first_piece, second_piece, next_request, second_data, first_log, second_log, requesting_first, giving_first, requesting_second, giving_second, behind_first, behind_second, request_job, next_job}
+use Rattle.host_joint.specs.WorkedPieces.{requested_first, requested_second, first_piece, second_piece, next_request, second_data, first_log, second_log, requesting_first, giving_first, requesting_second, giving_second, behind_first, behind_second, request_job, next_job}
 use Rattle.host_joint.proofs.Taking.{OneHeader, MayBegin, Suits}
 use Rattle.host_joint.proofs.Examples.{no_fault}
 use Rattle.host_joint.proofs.Coming.{comes, takes_job}
 
 -- ---- the first piece
 
-abbrev pub first_requested : State
-first_requested = record told_to { side = Owed 3 4000 }
-
 abbrev first_came : State
 first_came = record told_to { bulk_out = arrived (out_submit 3 12) last_request ∷ [] }
 
 abbrev first_read_came : State
-first_read_came = record first_requested { bulk_in = arrived (in_submit 4 4096) [] ∷ [] }
+first_read_came = record requested_first { bulk_in = arrived (in_submit 4 4096) [] ∷ [] }
 
 abbrev first_sends : State
 first_sends = record first_read_came {
@@ -92,13 +89,13 @@ some_identity e = cc
 some_data : second_data ≢ []
 some_data e = cc
 
-pub requests_first : OneHeader → Runs told_to requesting_first first_requested
+pub requests_first : OneHeader → Runs told_to requesting_first requested_first
 requests_first one_header = (
   first_came,
   comes told_to (out_submit 3 12) last_request BulkOut (record { plugged = refl; wide = refl; eight = refl; setup = refl; carried = refl; bytes = refl; free = refl; few = refl }) (record { number = refl; way = refl; usable = refl }),
   (
-    first_requested,
-    takes_job one_header first_came first_requested request_job first_is (may_begin request_job 3 4000 first_came refl refl refl)
+    requested_first,
+    takes_job one_header first_came requested_first request_job first_is (may_begin request_job 3 4000 first_came refl refl refl)
         (record { plugged = refl; none_waits = refl; none_runs = refl; first = refl; some = eqb-false _ _ refl; one = refl; moves = (refl, refl); full = refl })
         (Requests 3 4000 refl some_identity refl),
     refl,
@@ -118,10 +115,10 @@ fills_first = record {
   leads = Short (arrived (in_submit 4 4096) []) [] (record { tag = 3; size = 10; left = first_piece }) 0 refl refl tt refl (inl refl) (lit≤ tt) (lit< tt) (lit≤ tt) refl refl;
 }
 
-pub gives_first : Runs first_requested giving_first behind_first
+pub gives_first : Runs requested_first giving_first behind_first
 gives_first = (
   first_read_came,
-  comes first_requested (in_submit 4 4096) [] BulkIn (record { plugged = refl; wide = refl; eight = refl; setup = refl; carried = refl; bytes = refl; free = refl; few = refl }) (record { number = refl; way = refl; usable = refl }),
+  comes requested_first (in_submit 4 4096) [] BulkIn (record { plugged = refl; wide = refl; eight = refl; setup = refl; carried = refl; bytes = refl; free = refl; few = refl }) (record { number = refl; way = refl; usable = refl }),
   (first_sends, begins_first, (behind_first, fills_first, refl)),
 )
 

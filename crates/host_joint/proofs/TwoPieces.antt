@@ -24,9 +24,9 @@ use Rattle.host_joint.specs.Asking.{Ask, Asking, AtRest, IsQuiet, StaysPlugged}
 use Rattle.host_joint.specs.Hosted.{OutAnswered, InAnswered, PieceEnd, IsNextOf}
 use Rattle.host_joint.specs.Owned.{Owned, NothingRead, PiecesRead, PieceRead}
 use Rattle.host_joint.specs.WorkedTies.{told_to}
-use Rattle.host_joint.specs.WorkedPieces.{requested_second, first_data, second_data, first_piece, second_piece, second_log, requesting_first, giving_first, requesting_second, giving_second, behind_first, behind_second, spaces_job, last_job, request_job, next_job, asked_with}
+use Rattle.host_joint.specs.WorkedPieces.{requested_first, requested_second, first_data, second_data, first_piece, second_piece, second_log, requesting_first, giving_first, requesting_second, giving_second, behind_first, behind_second, spaces_job, last_job, request_job, next_job, asked_with}
 use Rattle.host_joint.proofs.Taking.{OneHeader}
-use Rattle.host_joint.proofs.Serving.{first_is, next_is, first_requested, requests_first, gives_first, requests_second, gives_second}
+use Rattle.host_joint.proofs.Serving.{first_is, next_is, requests_first, gives_first, requests_second, gives_second}
 use Rattle.host_joint.proofs.Examples.{no_fault, good, piece_ends}
 use Rattle.host_joint.proofs.Transfers.{WireLaws, piece_whole}
 use Rattle.host_joint.proofs.Given.{piece_text}
@@ -121,16 +121,16 @@ said moves mid first last =
 abbrev pub Gave : (tag : ℕ) (written : List Job) (count : ℕ) (sofar piece : List ℕ) → State → Type 0
 Gave tag written count sofar piece t = PieceEnd (asked_with tag written count sofar) piece [] [] t
 
-pub first_given : AskMoves → OneHeader → Runs start sending_parts told_to → Runs start (sending_parts ++ requesting_first) first_requested → Asking (asked_with 3 message_jobs 2 []) [] [] told_to
+pub first_given : AskMoves → OneHeader → Runs start sending_parts told_to → Runs start (sending_parts ++ requesting_first) requested_first → Asking (asked_with 3 message_jobs 2 []) [] [] told_to
     → Gave 3 all_jobs 3 [] first_piece behind_first
 first_given moves one_header before behind asks =
     let wrote = moves.request (asked_with 3 message_jobs 2 []) [] [] told_to request_job first_is refl (inl tt) (λ some. absurd (some refl)) refl asks in
-    let went = moves.stays sending_parts requesting_first (asked_with 3 all_jobs 2 []) told_to first_requested [] [] before (requests_first one_header) ((record { endpoint = BulkOut; number = refl; way = refl }), tt) refl
+    let went = moves.stays sending_parts requesting_first (asked_with 3 all_jobs 2 []) told_to requested_first [] [] before (requests_first one_header) ((record { endpoint = BulkOut; number = refl; way = refl }), tt) refl
     ((λ e. cc), ((λ e. cc), tt)) wrote in
-    let taken = good (asked_with 3 all_jobs 2 []) [] (out_submit 3 12) (record { seqnum = 3; status = success; actual = 12 }) [] first_requested refl
-    (moves.outs (asked_with 3 all_jobs 2 []) [] (out_submit 3 12) (record { seqnum = 3; status = success; actual = 12 }) [] [] first_requested refl went) in
-    let reads = moves.one_read (asked_with 3 all_jobs 3 []) [] [] first_requested (in_submit 4 4096) (record { number = refl; way = refl; size = refl }) refl taken in
-    let gave = moves.stays (sending_parts ++ requesting_first) giving_first (asked_with 3 all_jobs 3 []) first_requested behind_first [] [] behind gives_first ((record { endpoint = BulkIn; number = refl; way = refl }), tt) refl
+    let taken = good (asked_with 3 all_jobs 2 []) [] (out_submit 3 12) (record { seqnum = 3; status = success; actual = 12 }) [] requested_first refl
+    (moves.outs (asked_with 3 all_jobs 2 []) [] (out_submit 3 12) (record { seqnum = 3; status = success; actual = 12 }) [] [] requested_first refl went) in
+    let reads = moves.one_read (asked_with 3 all_jobs 3 []) [] [] requested_first (in_submit 4 4096) (record { number = refl; way = refl; size = refl }) refl taken in
+    let gave = moves.stays (sending_parts ++ requesting_first) giving_first (asked_with 3 all_jobs 3 []) requested_first behind_first [] [] behind gives_first ((record { endpoint = BulkIn; number = refl; way = refl }), tt) refl
     ((λ e. cc), ((λ e. cc), ((λ e. cc), tt))) reads in
     piece_ends (asked_with 3 all_jobs 3 []) [] (in_submit 4 4096) (record { seqnum = 4; status = success; actual = 24 }) first_piece [] behind_first (lit< tt) refl
     (moves.ins (asked_with 3 all_jobs 3 []) [] (in_submit 4 4096) (record { seqnum = 4; status = success; actual = 24 }) first_piece [] behind_first refl gave)

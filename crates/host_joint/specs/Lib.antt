@@ -27,3 +27,4 @@ pub mod WorkedAsks
 pub mod WorkedTies
 pub mod WorkedPieces
 pub mod WorkedRecoveries
+pub mod WorkedUnplugging

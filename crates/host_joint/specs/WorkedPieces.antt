@@ -13,7 +13,7 @@ use Rattle.tmc_law.specs.WorkedParts.{spaced, spaces_text, last_text, parts_log}
 use Rattle.host_joint.specs.Jobs.{Job}
 use Rattle.host_joint.specs.Asking.{Ask}
 use Rattle.host_joint.specs.Hand.{Hand, Reads}
-use Rattle.host_joint.specs.WorkedTies.{last_request}
+use Rattle.host_joint.specs.WorkedTies.{told_to, last_request}
 
 -- the first 10 bytes of the response, and the other 9
 abbrev pub first_data : List ℕ
@@ -46,6 +46,10 @@ requesting_second = submits (out_submit 5 12) next_request ∷ step (Take 1) (an
 
 abbrev pub giving_second : List Entry
 giving_second = submits (in_submit 6 4096) [] ∷ step (Begin 9) [] ∷ step (Fill 1) (answered (in_submit 6 4096) success 24 second_piece ∷ []) ∷ []
+
+-- the device behind the first request, whose piece has not begun
+abbrev pub requested_first : State
+requested_first = record told_to { side = Owed 3 4000 }
 
 -- the device behind each piece
 abbrev pub first_log : List LogEntry

@@ -19,6 +19,7 @@ mod unplugged;
 mod worked;
 mod worked_pieces;
 mod worked_recoveries;
+mod worked_unplugging;
 
 pub use accepted::{asks_halt_nothing, no_submit_is_refused};
 pub use asks::{
@@ -49,3 +50,4 @@ pub use unplugged::{
 pub use worked::{worked_asks_are_in_hand, worked_cancels_are_bound, worked_hosts_are_tied};
 pub use worked_pieces::{worked_pieces_are_asked, worked_pieces_are_read};
 pub use worked_recoveries::{worked_cancels_are_recovered, worked_halts_are_recovered};
+pub use worked_unplugging::worked_hosts_are_unplugged;

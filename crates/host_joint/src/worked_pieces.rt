@@ -13,7 +13,7 @@ ghost use Rattle.host_joint.specs.Stage.{Ran};
 ghost use Rattle.host_joint.specs.Hand.{Free, Pauses};
 ghost use Rattle.host_joint.specs.Tie.{Tie, IsOwned};
 ghost use Rattle.host_joint.specs.WorkedTies.{told_to, last_request};
-ghost use Rattle.host_joint.specs.WorkedPieces.{requested_second, requesting_first, giving_first, requesting_second, giving_second, first_data, first_log, second_log, behind_first, behind_second, reading_first, reading_second, skipping, second_data, first_piece, second_piece, spaces_job, last_job, request_job, next_job, asked_with};
+ghost use Rattle.host_joint.specs.WorkedPieces.{requested_first, requested_second, requesting_first, giving_first, requesting_second, giving_second, first_data, first_log, second_log, behind_first, behind_second, reading_first, reading_second, skipping, second_data, first_piece, second_piece, spaces_job, last_job, request_job, next_job, asked_with};
 ghost use Rattle.host_joint.specs.Asking.{Asking};
 ghost use Rattle.host_joint.specs.Hosted.{PieceEnd};
 ghost use Rattle.host_joint.specs.Owned.{Owned};
@@ -35,7 +35,7 @@ use tmc_wire::{header_offsets_are_laid_out, headers_are_read_again, transfers_ar
 pub fn worked_pieces_are_read()
     ensures runs { Runs start (sending_parts ++ (requesting_first ++ (giving_first ++ (requesting_second ++ giving_second)))) behind_second }
     ensures asked { Tie reading_first (Some (out_submit 3 12)) 4 (up.Submit (out_submit 3 12) last_request ∷ []) [] told_to }
-    ensures requested { (s : State) × Runs told_to requesting_first s × Tie reading_first None 4 [] [] s }
+    ensures requested { Runs told_to requesting_first requested_first × Tie reading_first None 4 [] [] requested_first }
     ensures paused { Tie (Pauses 2 spaced first_data) None 5 [] [] behind_first × IsOwned 2 spaced first_data behind_first
         × ((response : List ℕ) × Ran 2 spaced response first_log × (length first_data < length response)) }
     ensures again { Runs behind_first requesting_second requested_second × Tie reading_second None 6 [] [] requested_second }
@@ -65,6 +65,7 @@ pub fn worked_pieces_are_asked()
     ensures first { (end : PieceEnd (asked_with 3 (spaces_job ∷ last_job ∷ request_job ∷ []) 3 []) first_piece [] [] behind_first)
         × (end.carried ≡ first_data) × (end.eom ≡ false) }
     ensures between { Asking (asked_with 4 [] 0 first_data) [] [] behind_first × Owned (asked_with 4 [] 0 first_data) behind_first }
+    ensures again { Asking (asked_with 4 (next_job ∷ []) 1 first_data) [] [] requested_second }
     ensures second { (end : PieceEnd (asked_with 4 (next_job ∷ []) 1 first_data) second_piece [] [] behind_second)
         × (end.carried ≡ second_data) × (end.eom ≡ true) }
     ensures rests { IsAt rests behind_second }

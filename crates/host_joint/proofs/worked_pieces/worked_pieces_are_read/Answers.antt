@@ -5,9 +5,9 @@ use Rattle.tmc_law.specs.WorkedQuery.{identity}
 use Rattle.tmc_law.specs.WorkedSession.{out_submit}
 use Rattle.host_joint.specs.Hand.{Pauses, WritesRequest}
 use Rattle.host_joint.specs.WorkedTies.{told, told_to, last_request}
-use Rattle.host_joint.specs.WorkedPieces.{requested_second, requesting_first, giving_first, requesting_second, giving_second, behind_first, behind_second, reading_first, first_data, second_log, skipping}
+use Rattle.host_joint.specs.WorkedPieces.{requested_first, requested_second, requesting_first, giving_first, requesting_second, giving_second, behind_first, behind_second, reading_first, first_data, second_log, skipping}
 use Rattle.host_joint.proofs.Exchanging.{TieLaws}
-use Rattle.host_joint.proofs.Serving.{first_requested, requests_first, gives_first, requests_second, gives_second}
+use Rattle.host_joint.proofs.Serving.{requests_first, gives_first, requests_second, gives_second}
 use Rattle.host_joint.proofs.Pausing.{first_is, requested, paused, again, whole, not_skipped}
 use Rattle.host_joint.proofs.worked_pieces.worked_pieces_are_read.Goals as goal
 
@@ -15,8 +15,8 @@ pub returns-clause-runs : goal.returns-clause-runs
 returns-clause-runs c =
     let one = c.headers_are_read_again.ensures.out_one in
     c.runs_join.ensures.together sending_parts (requesting_first ++ (giving_first ++ (requesting_second ++ giving_second))) start told_to behind_second c.a_message_comes_in_parts.ensures
-    (c.runs_join.ensures.together requesting_first (giving_first ++ (requesting_second ++ giving_second)) told_to first_requested behind_second (requests_first one)
-    (c.runs_join.ensures.together giving_first (requesting_second ++ giving_second) first_requested behind_first behind_second gives_first
+    (c.runs_join.ensures.together requesting_first (giving_first ++ (requesting_second ++ giving_second)) told_to requested_first behind_second (requests_first one)
+    (c.runs_join.ensures.together giving_first (requesting_second ++ giving_second) requested_first behind_first behind_second gives_first
     (c.runs_join.ensures.together requesting_second giving_second behind_first requested_second behind_second (requests_second one) gives_second)))
 
 pub returns-clause-asked : goal.returns-clause-asked
@@ -25,7 +25,6 @@ returns-clause-asked c =
 
 pub returns-clause-requested : goal.returns-clause-requested
 returns-clause-requested c = (
-  first_requested,
   requests_first c.headers_are_read_again.ensures.out_one,
   requested (record { writes = c.writes_keep_ties.ensures; stays = c.ties_stay.ensures.tie; given = c.answers_are_the_expected.ensures }) c.headers_are_read_again.ensures.out_one
       c.worked_hosts_are_tied.ensures.told.0,
