@@ -46,3 +46,4 @@ mod Restoring
 mod Until
 mod UntilJoined
 mod Gone
+mod Hitting

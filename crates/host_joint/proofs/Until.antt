@@ -20,7 +20,7 @@ use Rattle.host_joint.specs.Unplugged.{WasHeld, Until, TiedUntil, BoundUntil, Ha
 -- ---- a run up to the unplugging
 
 -- no step of it unplugs the device, or one does, and is the first such one
-data Up (run : List Entry) : Type 0 where
+pub data Up (run : List Entry) : Type 0 where
   AllUp : StaysPlugged run → Up run
   UpTo : (a : List Entry) (last : Entry) (b : List Entry) → run ≡ a ++ last ∷ b → last.move ≡ Unplug → StaysPlugged a → Up run
 
@@ -28,7 +28,7 @@ one_more : (entry : Entry) (run : List Entry) → entry.move ≢ Unplug → Up r
 one_more entry run stays (AllUp plugged) = AllUp (stays, plugged)
 one_more entry run stays (UpTo a last b whole is plugged) = UpTo (entry ∷ a) last b (ap (λ (l : List Entry). entry ∷ l) whole) is (stays, plugged)
 
-up_to : (run : List Entry) → Up run
+pub up_to : (run : List Entry) → Up run
 up_to [] = AllUp tt
 up_to (entry ∷ run) = by entry.move refl (up_to run)
   where

@@ -22,6 +22,7 @@ pub mod Bond
 -- both over a link
 pub mod Joint
 pub mod Unplugged
+pub mod Hits
 -- examples
 pub mod WorkedAsks
 pub mod WorkedTies

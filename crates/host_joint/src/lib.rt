@@ -8,6 +8,7 @@
 mod accepted;
 mod asks;
 mod bonds;
+mod hits;
 mod host_moves;
 mod joints;
 mod lines;
@@ -30,6 +31,7 @@ pub use bonds::{
     bonds_stay, cancelled_answers_are_taken, cancelled_asks_own, cancels_begin,
     messages_are_cancelled, recoveries_end, recoveries_go_on,
 };
+pub use hits::{joints_tell_hits, unlinks_tell_hits};
 pub use host_moves::{answers_are_taken, asks_are_settled_late, messages_are_written};
 pub use joints::{
     joints_begin, joints_stay, no_answer_is_refused, the_next_answer_is_read, writes_keep_joints,
