@@ -222,7 +222,7 @@ unlink_tells laws run waits unlinks x ups downs puts s t reached (Hits e before 
 unlink_tells laws run waits unlinks x ups downs puts s t reached (Polled e before submit behind setup tag line number polled asks row is to) bulk one lines fits order =
     let control : e ≡ Control = (laws.polled run s e before submit behind reached line polled).0 in
     let none : LeftBy [] (events_of Control downs) (heads s.control ++ sent_heads (sent_to Control ups)) =
-        subst (λ (l : List SubmitHead). LeftBy l (events_of Control downs) (heads s.control ++ sent_heads (sent_to Control ups))) (no_control waits bulk) (lines.submits Control) in
+    subst (λ (l : List SubmitHead). LeftBy l (events_of Control downs) (heads s.control ++ sent_heads (sent_to Control ups))) (no_control waits bulk) (lines.submits Control) in
     some_pending s.control before submit behind (sent_heads (sent_to Control ups)) (subst (λ (d : Endpoint). queue_of d s ≡ before ++ submit ∷ behind) control line) (none_left (events_of Control downs) _ none)
 unlink_tells laws run waits [] x ups downs puts s t reached (Misses free is to) bulk one lines fits order = none (unlinked_by downs) lines.unlinked
   where
@@ -274,8 +274,8 @@ plugged_tells laws situation (entry ∷ run) waits unlinks next ups downs s t bu
     let here = subst (λ (l : List up.Message). Bound situation waits unlinks next l downs s) same bound in
     let told = step_tells laws here.bond.run waits unlinks entry.move (inputs run ++ ups) downs entry.puts s goes.0 here.bond.reached goes.1 bulk one here.bond.lines here.bond.fits here.bond.order tells in
     let later : Bound situation waits unlinks next (inputs run ++ ups) (downs ++ (entry.puts ++ [])) goes.0 =
-        laws.stays situation (entry ∷ []) waits unlinks next (inputs run ++ ups) downs s goes.0 (goes.0, goes.1, refl) (plugged.0, tt)
-        (subst (λ (l : List up.Message). Bound situation waits unlinks next (l ++ (inputs run ++ ups)) downs s) (sym (append-nil (taken entry.move))) here) in
+    laws.stays situation (entry ∷ []) waits unlinks next (inputs run ++ ups) downs s goes.0 (goes.0, goes.1, refl) (plugged.0, tt)
+    (subst (λ (l : List up.Message). Bound situation waits unlinks next (l ++ (inputs run ++ ups)) downs s) (sym (append-nil (taken entry.move))) here) in
     subst (λ (l : List Put). TellsHit waits l) (append_assoc downs entry.puts (outputs run))
     (plugged_tells laws situation run waits unlinks next ups (downs ++ entry.puts) goes.0 t bulk one goes.2 plugged.1
     (subst (λ (l : List Put). Bound situation waits unlinks next (inputs run ++ ups) (downs ++ l) goes.0) (append-nil entry.puts) later) told)

@@ -10,17 +10,18 @@ use Rattle.tmc_law.specs.Endpoint.{Control, BulkOut, BulkIn, ends}
 use Rattle.instr_plain.specs.Standing.{at_power_on}
 use Rattle.tmc_law.specs.State.{State, Plugged, Idle, Sending, Nothing, AbortsIn, Clears, start, arrived}
 use Rattle.tmc_law.specs.Halts.{DoesHalt}
-use Rattle.tmc_law.specs.Queues.{Hits}
+use Rattle.tmc_law.specs.Queues.{Hits, Misses}
 use Rattle.tmc_law.specs.BulkIn.{Ends}
 use Rattle.tmc_law.specs.Control.{Asks, control_answer}
 use Rattle.tmc_law.specs.Aborts.{Served, NoTransfer, NotBegun, DoesAbort, checked_in, DoesClear, checked_clear}
 use Rattle.tmc_law.specs.Standard.{Standard, ClearHalt, IsStandard, standard_layout, standard_effect}
 use Rattle.tmc_law.specs.Class.{Serves, ByClass, ByStandard}
 use Rattle.tmc_law.specs.Step.{Steps, Answer}
-use Rattle.tmc_law.specs.Run.{Runs}
+use Rattle.tmc_law.specs.Run.{Entry, Runs}
 use Rattle.tmc_law.specs.WorkedSession.{in_submit}
 use Rattle.host_joint.specs.WorkedPieces.{requested_second}
 use Rattle.host_joint.specs.WorkedRecoveries.{usable_again, cleared_at_last, cancelled_inside, abort_submit, check_submit, usable_in, usable_out, clear_submit, check_clear_submit, halting_second, halted_inside, aborting_none, freeing, clearing_halted, checking_clear, freeing_out, freeing_in, cleared_log, cancelling_second, aborting_second, draining, checking_second}
+use Rattle.host_joint.specs.WorkedTies.{queried}
 use Rattle.host_joint.proofs.Coming.{all_below, below, comes}
 use Rattle.host_joint.proofs.Serving.{second_read_came, second_sends, second_comes, begins_second}
 
@@ -210,3 +211,11 @@ checks_second = (
   comes gave_packet (check_submit 10) [] Control (record { plugged = refl; wide = refl; eight = refl; setup = refl; carried = refl; bytes = refl; free = refl; few = refl }) (record { number = refl; way = refl; usable = refl }),
   (usable_again, class_answers (with_control (check_submit 10) gave_packet) (check_submit 10) CheckIn (checked_in gave_packet) refl refl (check_asks 10) tt refl, refl),
 )
+
+-- an unlink that misses
+
+abbrev pub missing : List Entry
+missing = step (Comes (up.Unlink (unlink 4 3))) (Unlinked (unlink 4 3) (record { seqnum = 4; status = success }) ∷ []) ∷ []
+
+pub misses : Runs queried missing queried
+misses = (queried, record { plugged = refl; leads = (all_wide (4 ∷ 0x00010002 ∷ 3 ∷ []) refl, Misses tt refl refl) }, refl)

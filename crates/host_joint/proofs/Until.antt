@@ -201,7 +201,7 @@ pub tells : (waits : Option SubmitHead) (unlinks : List UnlinkHead) (put : Put) 
     → TellsUnplugged waits put downs
 tells None unlinks put ups downs s lines e =
     let none = answers_are s.control s.bulk_out s.bulk_in s.interrupt_in [] [] [] [] (put ∷ downs)
-        (none_at s.control _ (lines.submits Control)) (none_at s.bulk_out _ (lines.submits BulkOut)) (none_at s.bulk_in _ (lines.submits BulkIn)) (none_at s.interrupt_in _ (lines.submits InterruptIn)) e in
+    (none_at s.control _ (lines.submits Control)) (none_at s.bulk_out _ (lines.submits BulkOut)) (none_at s.bulk_in _ (lines.submits BulkIn)) (none_at s.interrupt_in _ (lines.submits InterruptIn)) e in
     absurd (cc)
 tells (Some head) unlinks put ups downs s lines e =
     tells_one head s.control s.bulk_out s.bulk_in s.interrupt_in put downs

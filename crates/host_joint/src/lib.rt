@@ -51,5 +51,7 @@ pub use unplugged::{
 };
 pub use worked::{worked_asks_are_in_hand, worked_cancels_are_bound, worked_hosts_are_tied};
 pub use worked_pieces::{worked_pieces_are_asked, worked_pieces_are_read};
-pub use worked_recoveries::{worked_cancels_are_recovered, worked_halts_are_recovered};
+pub use worked_recoveries::{
+    worked_cancels_are_recovered, worked_halts_are_recovered, worked_unlinks_tell_hits,
+};
 pub use worked_unplugging::worked_hosts_are_unplugged;

@@ -17,14 +17,13 @@ ghost use Rattle.host_joint.specs.Unplugged.{TiedUntil, TellsUnplugged};
 ghost use Rattle.host_joint.specs.WorkedUnplugging.{unplugging_behind, unplugged_behind, unplugging_inside, unplugged_inside};
 
 use crate::{
-    answers_are_the_expected, answers_come_until_unplugged, asking_stays, hosts_go_on_until_unplugged,
-    messages_are_written, pieces_have_no_fault, ties_hold_until_unplugged,
-    unplugged_asks_were_in_hand, unplugged_hosts_own, unplugging_is_the_end, what_is_read_is_owned,
-    worked_pieces_are_asked, worked_pieces_are_read,
+    answers_are_the_expected, answers_come_until_unplugged, asking_stays,
+    hosts_go_on_until_unplugged, messages_are_written, pieces_have_no_fault,
+    ties_hold_until_unplugged, unplugged_asks_were_in_hand, unplugged_hosts_own,
+    unplugging_is_the_end, what_is_read_is_owned, worked_pieces_are_asked, worked_pieces_are_read,
 };
-
-use tmc_law::worked::a_message_comes_in_parts;
 use tmc_law::runs_join;
+use tmc_law::worked::a_message_comes_in_parts;
 use tmc_wire::headers_are_read_again;
 
 /// The device is unplugged when the first piece is on its way to the host: the host is tied until then, takes the piece, and writes the

@@ -22,7 +22,7 @@ returns-clause-writes c devid before after waits unlinks others next later messa
 pub returns-clause-stay : goal.returns-clause-stay
 returns-clause-stay c devid situation waits unlinks next written read steps more s t bulk one tells =
     let kept = until_kept (λ run. Unit {0}) (λ ups downs s. Bound situation waits unlinks next ups downs s)
-        (λ run ups downs s t goes kind bound. c.ties_hold_until_unplugged.ensures.bound situation run waits unlinks next ups downs s t goes bound) any_kind (bound_never c.no_submit_is_refused.ensures situation waits unlinks next) in
+    (λ run ups downs s t goes kind bound. c.ties_hold_until_unplugged.ensures.bound situation run waits unlinks next ups downs s t goes bound) any_kind (bound_never c.no_submit_is_refused.ensures situation waits unlinks next) in
     joint_goes (record {
       together = c.runs_join.ensures.together;
       taken_together = c.runs_join.ensures.taken_together;
@@ -41,7 +41,7 @@ returns-clause-stay c devid situation waits unlinks next written read steps more
 pub returns-clause-answer : goal.returns-clause-answer
 returns-clause-answer c devid situation waits unlinks next written read this more message steps s apart j split spelled =
     let x = next_by (λ ups downs t. BoundTelling situation waits unlinks next ups downs t) (entries_of waits unlinks) (λ put ups downs s bytes both one. bound_spelled situation waits unlinks next apart put ups downs s bytes both.0 one)
-        (c.answers_are_determined.ensures.free (entries_of waits unlinks)) devid written read this more message steps s j split spelled in
+    (c.answers_are_determined.ensures.free (entries_of waits unlinks)) devid written read this more message steps s j split spelled in
     record {
       put = x.put;
       ups = x.ups;

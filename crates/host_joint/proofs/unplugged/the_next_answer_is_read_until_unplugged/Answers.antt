@@ -9,7 +9,7 @@ pub returns-clause-answer : goal.returns-clause-answer
 returns-clause-answer c devid hand head next written read this more message steps s j split spelled =
     let given = c.answers_come_until_unplugged.ensures.given in
     let x = next_by (λ ups downs t. TiedUntil hand (Some head) next ups downs t) (entries_for (Some head)) (tied_spelled given hand (Some head) next) (c.answers_are_determined.ensures.free (entries_for (Some head)))
-        devid written read this more message steps s j split spelled in
+    devid written read this more message steps s j split spelled in
     record {
       put = x.put;
       ups = x.ups;
@@ -22,7 +22,7 @@ returns-clause-answer c devid hand head next written read this more message step
 pub returns-clause-bound : goal.returns-clause-bound
 returns-clause-bound c devid situation waits unlinks next written read this more message steps s apart j split spelled =
     let x = next_by (λ ups downs t. BoundUntil situation waits unlinks next ups downs t) (entries_of waits unlinks) (bound_spelled situation waits unlinks next apart) (c.answers_are_determined.ensures.free (entries_of waits unlinks))
-        devid written read this more message steps s j split spelled in
+    devid written read this more message steps s j split spelled in
     record {
       put = x.put;
       ups = x.ups;

@@ -85,7 +85,7 @@ returns-clause-again c =
     let one = c.headers_are_read_again.ensures.out_one in
     let join = c.runs_join.ensures.together in
     let first = join sending_parts (requesting_first ++ giving_first) start told_to behind_first c.a_message_comes_in_parts.ensures
-        (join requesting_first giving_first told_to requested_first behind_first (requests_first one) gives_first) in
+    (join requesting_first giving_first told_to requested_first behind_first (requests_first one) gives_first) in
     second_taken moves one (sending_parts ++ (requesting_first ++ giving_first)) first (returns-clause-between c).0
 
 pub returns-clause-second : goal.returns-clause-second

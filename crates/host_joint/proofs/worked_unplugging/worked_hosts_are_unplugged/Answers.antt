@@ -17,7 +17,7 @@ use Rattle.host_joint.proofs.worked_unplugging.worked_hosts_are_unplugged.Goals 
 pub returns-clause-piece : goal.returns-clause-piece
 returns-clause-piece c =
     let wrote = c.hosts_go_on_until_unplugged.ensures.tie reading_first reading_first (in_submit 4 4096) [] 4 [] [] requested_first
-        (WritesRead 2 3 4000 spaced [] [] refl (record { number = refl; way = refl; size = refl }) refl refl) refl (inl c.worked_pieces_are_read.ensures.requested.1) in
+    (WritesRead 2 3 4000 spaced [] [] refl (record { number = refl; way = refl; size = refl }) refl refl) refl (inl c.worked_pieces_are_read.ensures.requested.1) in
     c.ties_hold_until_unplugged.ensures.tie unplugging_behind reading_first (Some (in_submit 4 4096)) 5 [] [] requested_first unplugged_behind
     (c.runs_join.ensures.together giving_first (step Unplug [] ∷ []) requested_first behind_first unplugged_behind gives_first
     (unplugged_behind, record { plugged = refl; leads = record { answered = refl; is = refl } }, refl)) behind_halts wrote
@@ -25,13 +25,13 @@ returns-clause-piece c =
 pub returns-clause-taken : goal.returns-clause-taken
 returns-clause-taken c =
     let tie = taken_until c.pieces_have_no_fault.ensures.whole c.answers_come_until_unplugged.ensures.tie_behind unplugged_behind
-        (c.answers_come_until_unplugged.ensures.given reading_first (in_submit 4 4096) 5 (answered (in_submit 4 4096) success 24 first_piece) [] [] unplugged_behind (returns-clause-piece c)) in
+    (c.answers_come_until_unplugged.ensures.given reading_first (in_submit 4 4096) 5 (answered (in_submit 4 4096) success 24 first_piece) [] [] unplugged_behind (returns-clause-piece c)) in
     (tie, c.unplugged_hosts_own.ensures.tie (Pauses 2 spaced first_data) None 5 [] [] unplugged_behind tie)
 
 pub returns-clause-inside : goal.returns-clause-inside
 returns-clause-inside c =
     let wrote = c.hosts_go_on_until_unplugged.ensures.tie reading_second reading_second (in_submit 6 4096) [] 6 [] [] requested_second
-        (WritesRead 2 4 4000 spaced first_data [] refl (record { number = refl; way = refl; size = refl }) refl refl) refl (inl c.worked_pieces_are_read.ensures.again.1) in
+    (WritesRead 2 4 4000 spaced first_data [] refl (record { number = refl; way = refl; size = refl }) refl refl) refl (inl c.worked_pieces_are_read.ensures.again.1) in
     let tie = c.ties_hold_until_unplugged.ensures.tie unplugging_inside reading_second (Some (in_submit 6 4096)) 7 [] [] requested_second unplugged_inside goes_inside inside_halts wrote in
     (goes_inside, tie, tells_inside, c.unplugged_hosts_own.ensures.tie reading_second (Some (in_submit 6 4096)) 7 [] (answered (in_submit 6 4096) unplugged 0 [] ∷ []) unplugged_inside tie)
 
@@ -41,10 +41,10 @@ returns-clause-asked c =
     let join = c.runs_join.ensures.together in
     let one = c.headers_are_read_again.ensures.out_one in
     let reached = join sending_parts (requesting_first ++ (giving_first ++ requesting_second)) start told_to requested_second c.a_message_comes_in_parts.ensures
-        (join requesting_first (giving_first ++ requesting_second) told_to requested_first requested_second (requests_first one)
-        (join giving_first requesting_second requested_first behind_first requested_second gives_first (requests_second one))) in
+    (join requesting_first (giving_first ++ requesting_second) told_to requested_first requested_second (requests_first one)
+    (join giving_first requesting_second requested_first behind_first requested_second gives_first (requests_second one))) in
     let went = c.asking_stays.ensures.run (sending_parts ++ (requesting_first ++ (giving_first ++ requesting_second))) (step (Comes (up.Submit (in_submit 6 4096) [])) [] ∷ []) (asked_with 4 (next_job ∷ []) 1 first_data)
-        requested_second second_read_came [] [] reached (second_read_came, second_comes, refl) ((record { endpoint = BulkIn; number = refl; way = refl }), tt) refl ((λ e. cc), tt) wrote in
+    requested_second second_read_came [] [] reached (second_read_came, second_comes, refl) ((record { endpoint = BulkIn; number = refl; way = refl }), tt) refl ((λ e. cc), tt) wrote in
     let was = c.unplugged_asks_were_in_hand.ensures (asked_with 4 (next_job ∷ []) 1 first_data) second_read_came unplugged_inside [] [] (answered (in_submit 6 4096) unplugged 0 [] ∷ []) unplugs_inside went in
     (was, c.what_is_read_is_owned.ensures.unplugged (asked_with 4 (next_job ∷ []) 1 first_data) [] (answered (in_submit 6 4096) unplugged 0 [] ∷ []) unplugged_inside was)
 
