@@ -36,3 +36,10 @@ mod Bonding
 mod Cancelling
 mod Saying
 mod Recovering
+mod Coming
+mod Serving
+mod Exchanging
+mod Pausing
+mod TwoPieces
+mod Stopping
+mod Restoring

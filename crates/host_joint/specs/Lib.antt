@@ -24,3 +24,5 @@ pub mod Joint
 -- examples
 pub mod WorkedAsks
 pub mod WorkedTies
+pub mod WorkedPieces
+pub mod WorkedRecoveries

@@ -16,6 +16,8 @@ mod owned;
 mod recovery;
 mod ties;
 mod worked;
+mod worked_pieces;
+mod worked_recoveries;
 
 pub use accepted::{asks_halt_nothing, no_submit_is_refused};
 pub use asks::{
@@ -31,7 +33,7 @@ pub use joints::{
     joints_begin, joints_stay, no_answer_is_refused, the_next_answer_is_read, writes_keep_joints,
 };
 pub use lines::{hosts_keep_lines, lines_stay, what_is_answered_is_over};
-pub use numbers::{new_numbers_are_unused, new_numbers_rise, what_ran_is_kept};
+pub use numbers::{new_numbers_are_unused, new_numbers_rise, what_ran_is_kept, what_ran_is_one};
 pub use owned::what_is_read_is_owned;
 pub use recovery::{asks_hand_over, devices_rest, drains_stay, requests_stay};
 pub use ties::{
@@ -39,3 +41,5 @@ pub use ties::{
     writes_keep_ties,
 };
 pub use worked::{worked_asks_are_in_hand, worked_cancels_are_bound, worked_hosts_are_tied};
+pub use worked_pieces::{worked_pieces_are_asked, worked_pieces_are_read};
+pub use worked_recoveries::{worked_cancels_are_recovered, worked_halts_are_recovered};
