@@ -1,5 +1,5 @@
 -- in the middle of the ask of two pieces the device is unplugged
-use Rattle.std.proofs.Common.{◌≡◌, ◌≢◌, ◌∙◌, ◌⊎◌, inl, inr, ℕ, ◌+◌, ◌<◌, Bool, true, false, Option, Some, None, List, [], ◌∷◌, ◌++◌, length, refl, ap, sym, subst, arith, lit<, lit≤}
+use Rattle.std.proofs.Common.{◌≡◌, ◌∙◌, inl, ℕ, true, false, Option, Some, None, List, [], ◌++◌, refl, ap, sym, subst, arith, lit<}
 use Rattle.usbip_wire.specs.declared.ret_submit.RetSubmitHead.{RetSubmitHead}
 use Rattle.usbip_wire.specs.declared.submit.SubmitHead.{SubmitHead}
 use Rattle.usbip_wire.specs.Up as up
@@ -14,7 +14,7 @@ use Rattle.host_joint.specs.Hand.{Hand, Pauses}
 use Rattle.host_joint.specs.Tie.{Tie, IsGiven}
 use Rattle.host_joint.specs.Unplugged.{TiedUntil, HaltsNothing, TellsUnplugged, GivenUntil, GivenPlugged, GivenBefore, GivenBehind}
 use Rattle.host_joint.specs.WorkedPieces.{first_data, first_piece, reading_first, reading_second, requested_second}
-use Rattle.host_joint.specs.WorkedUnplugging.{unplugging_behind, unplugged_behind, unplugging_inside, unplugged_inside}
+use Rattle.host_joint.specs.WorkedUnplugging.{unplugging_behind, unplugging_inside, unplugged_inside}
 use Rattle.host_joint.proofs.Serving.{second_read_came, second_comes}
 use Rattle.host_joint.proofs.Exchanging.{goes_of, Ends, EndsAll, EndsPart, ends}
 use Rattle.host_joint.proofs.Pausing.{Fields}

@@ -1,18 +1,18 @@
 -- the answer to an unlink says whether its submit was answered
-use Rattle.std.proofs.Common.{◌≡◌, ◌≢◌, ◌∙◌, ◌⊎◌, inl, inr, ℕ, ◌==◌, Bool, true, false, cond, eqb, Option, Some, None, List, [], ◌∷◌, ◌++◌, map, refl, ap, sym, subst, append_assoc, append-nil, arith}
+use Rattle.std.proofs.Common.{◌≡◌, ◌≢◌, ◌∙◌, ◌⊎◌, inl, inr, ℕ, Bool, true, false, cond, eqb, Option, Some, None, List, [], ◌∷◌, ◌++◌, map, refl, ap, sym, subst, append_assoc, append-nil}
 use Rattle.std.proofs.lemmas.Bool.{eqb-true, eq-eqb}
 use Rattle.usbip_wire.specs.declared.submit.SubmitHead.{SubmitHead}
 use Rattle.usbip_wire.specs.declared.unlink.UnlinkHead.{UnlinkHead}
 use Rattle.usbip_wire.specs.Up as up
 use Rattle.tmc_law.specs.Endpoint.{Endpoint, Control, BulkOut, BulkIn, InterruptIn, number_of}
 use Rattle.tmc_law.specs.State.{State, Pending, queue_of, pending, Avoids, start}
-use Rattle.tmc_law.specs.Put.{Put, Submitted, Unlinked, ended, unlink_answer, unplugged, unlinked, success, answer_of}
+use Rattle.tmc_law.specs.Put.{Put, Submitted, Unlinked, unlink_answer, unplugged, unlinked, success, answer_of}
 use Rattle.tmc_law.specs.Halts.{all_ended, unplug_answers}
 use Rattle.tmc_law.specs.Queues.{Unlinks, Hits, Polled, Misses}
 use Rattle.tmc_law.specs.AnswerFits.{AllAnswers, IsAnswer, ToPending, ToArriving, ToUnlink}
 use Rattle.tmc_law.specs.Step.{Move, Comes, Refuses, Take, Exec, Begin, Fill, Answer, Pend, Poll, Notify, Halt, Unplug, Steps}
 use Rattle.tmc_law.specs.Run.{Entry, Runs, taken, inputs, outputs}
-use Rattle.host_joint.specs.Lines.{Lines, LeftBy, Event, Gives, Drops, events_of, heads, sent_heads, sent_to, without, unlinked_by, unlinks_in, NoneNumbered, InOrder}
+use Rattle.host_joint.specs.Lines.{Lines, LeftBy, Event, Gives, Drops, events_of, heads, sent_heads, sent_to, unlinked_by, unlinks_in, NoneNumbered, InOrder}
 use Rattle.host_joint.specs.Asking.{StaysPlugged}
 use Rattle.host_joint.specs.Tie.{asked_of, IsOutOrIn, IsGood}
 use Rattle.host_joint.specs.Bond.{Situation, Bound, IsFit, IsUnlinkOf}

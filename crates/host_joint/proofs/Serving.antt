@@ -6,7 +6,7 @@ use Rattle.tmc_wire.specs.Header.{in_header_bytes}
 use Rattle.instr_plain.specs.Standing.{at_power_on}
 use Rattle.usbip_wire.specs.Up as up
 use Rattle.tmc_law.specs.Endpoint.{BulkOut, BulkIn}
-use Rattle.tmc_law.specs.State.{State, Idle, Owed, Sending, arrived}
+use Rattle.tmc_law.specs.State.{State, Idle, Sending, arrived}
 use Rattle.tmc_law.specs.Put.{success}
 use Rattle.tmc_law.specs.BulkOut.{Requests}
 use Rattle.tmc_law.specs.BulkIn.{DoesBegin, Short}

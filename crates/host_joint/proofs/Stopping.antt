@@ -1,5 +1,7 @@
 -- in the middle of the second piece Bulk-IN halts, or the host cancels, step by step
 use Rattle.std.proofs.Common.{◌≡◌, ◌≢◌, ℕ, ◌^◌, true, false, List, [], ◌∷◌, refl, lit<}
+use Rattle.usbip_wire.specs.Up as up
+use Rattle.tmc_law.specs.Put.{Unlinked, success}
 use Rattle.usb_setup.specs.declared.setup.Setup.{Setup}
 use Rattle.usbip_wire.specs.declared.submit.SubmitHead.{SubmitHead}
 use Rattle.usbip_wire.specs.Urb.{AreWide}
@@ -16,9 +18,9 @@ use Rattle.tmc_law.specs.Control.{Asks, control_answer}
 use Rattle.tmc_law.specs.Aborts.{Served, NoTransfer, NotBegun, DoesAbort, checked_in, DoesClear, checked_clear}
 use Rattle.tmc_law.specs.Standard.{Standard, ClearHalt, IsStandard, standard_layout, standard_effect}
 use Rattle.tmc_law.specs.Class.{Serves, ByClass, ByStandard}
-use Rattle.tmc_law.specs.Step.{Steps, Answer}
+use Rattle.tmc_law.specs.Step.{Steps, Comes, Answer}
 use Rattle.tmc_law.specs.Run.{Entry, Runs}
-use Rattle.tmc_law.specs.WorkedSession.{in_submit}
+use Rattle.tmc_law.specs.WorkedSession.{in_submit, unlink, step}
 use Rattle.host_joint.specs.WorkedPieces.{requested_second}
 use Rattle.host_joint.specs.WorkedRecoveries.{usable_again, cleared_at_last, cancelled_inside, abort_submit, check_submit, usable_in, usable_out, clear_submit, check_clear_submit, halting_second, halted_inside, aborting_none, freeing, clearing_halted, checking_clear, freeing_out, freeing_in, cleared_log, cancelling_second, aborting_second, draining, checking_second}
 use Rattle.host_joint.specs.WorkedTies.{queried}

@@ -1,21 +1,21 @@
 -- what ties a host to a device holds until that is unplugged
-use Rattle.std.proofs.Common.{◌≡◌, ◌≢◌, ◌∙◌, ◌⊎◌, inl, inr, ℕ, ◌==◌, Bool, true, false, cond, Option, Some, None, List, [], ◌∷◌, ◌++◌, length, refl, ap, sym, subst, append_assoc, append-nil, arith}
+use Rattle.std.proofs.Common.{◌≡◌, ◌≢◌, ◌∙◌, inl, inr, ℕ, ◌==◌, Bool, true, false, cond, Option, Some, None, List, [], ◌∷◌, ◌++◌, length, refl, ap, sym, subst, append_assoc, append-nil, arith}
 use Rattle.std.proofs.lemmas.Bool.{eqb-true}
 use Rattle.usbip_wire.specs.declared.submit.SubmitHead.{SubmitHead}
 use Rattle.usbip_wire.specs.declared.unlink.UnlinkHead.{UnlinkHead}
 use Rattle.usbip_wire.specs.Up as up
 use Rattle.tmc_law.specs.Endpoint.{Endpoint, Control, BulkOut, BulkIn, InterruptIn, number_of}
-use Rattle.tmc_law.specs.State.{State, Pending, Plugged, Unplugged, queue_of}
+use Rattle.tmc_law.specs.State.{State, Pending, Plugged, Unplugged}
 use Rattle.tmc_law.specs.Put.{Put, returned, ended, unplugged}
 use Rattle.tmc_law.specs.Halts.{all_ended, unplug_answers}
 use Rattle.tmc_law.specs.Step.{Move, Comes, Refuses, Take, Exec, Begin, Fill, Answer, Pend, Poll, Notify, Halt, Unplug, Steps}
 use Rattle.tmc_law.specs.Run.{Entry, Runs, inputs, outputs}
 use Rattle.host_joint.specs.Lines.{Lines, heads}
 use Rattle.host_joint.specs.Asking.{StaysPlugged}
-use Rattle.host_joint.specs.Hand.{Hand, Free}
+use Rattle.host_joint.specs.Hand.{Free}
 use Rattle.host_joint.specs.Tie.{IsUndisturbed, asked_of, Tie}
 use Rattle.host_joint.specs.Bond.{Situation, Bound}
-use Rattle.host_joint.specs.Unplugged.{WasHeld, Until, TiedUntil, BoundUntil, HaltsNothing, TellsUnplugged, NextUntil, ComesPlugged, ComesBefore, ComesBehind}
+use Rattle.host_joint.specs.Unplugged.{Until, TiedUntil, BoundUntil, HaltsNothing, TellsUnplugged, NextUntil, ComesPlugged, ComesBefore, ComesBehind}
 
 -- ---- a run up to the unplugging
 

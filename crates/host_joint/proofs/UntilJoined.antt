@@ -1,9 +1,9 @@
 -- a host whose device may be unplugged, at the two ends of a link
-use Rattle.std.proofs.Common.{◌≡◌, ◌≢◌, ◌∙◌, ◌⊎◌, inl, inr, ℕ, ◌≤◌, Option, Some, None, List, [], ◌∷◌, ◌++◌, length, refl, ap, sym, subst, append_assoc, arith}
+use Rattle.std.proofs.Common.{◌≡◌, ◌∙◌, inl, inr, ℕ, Option, Some, None, List, [], ◌∷◌, ◌++◌, length, ap, sym, subst, append_assoc, arith}
 use Rattle.std.proofs.lemmas.List.{append_cancel_left}
 use Rattle.tmc_base.specs.declared.field.Field.{Field}
 use Rattle.tmc_base.specs.declared.run_step.RunStep.{RunStep}
-use Rattle.tmc_base.specs.Told.{in_bytes, out_bytes}
+use Rattle.tmc_base.specs.Told.{out_bytes}
 use Rattle.usbip_wire.specs.declared.submit.SubmitHead.{SubmitHead}
 use Rattle.usbip_wire.specs.declared.unlink.UnlinkHead.{UnlinkHead}
 use Rattle.usbip_wire.specs.declared.dirs.Outstanding.{Outstanding}
@@ -13,21 +13,20 @@ use Rattle.usbip_wire.specs.Down as down
 use Rattle.usbip_wire.specs.Down.{SpellsAnswer}
 use Rattle.usbip_wire.specs.DownFed.{BadAt}
 use Rattle.usbip_wire.specs.Laws.{ArePrefixFree}
-use Rattle.tmc_law.specs.State.{State, pending, Avoids}
-use Rattle.tmc_law.specs.Put.{Put, Submitted, Unlinked}
+use Rattle.tmc_law.specs.State.{State, pending}
+use Rattle.tmc_law.specs.Put.{Put, Submitted}
 use Rattle.tmc_law.specs.Halts.{unplug_answers}
 use Rattle.tmc_law.specs.Laws.{message_of}
 use Rattle.tmc_law.specs.Step.{Unplug, Steps, IsOver, TooMany, Twice}
 use Rattle.tmc_law.specs.Run.{Entry, Runs, SpellAll, SpellsPut, inputs, outputs}
-use Rattle.tmc_law.specs.Told.{Means, Tells}
-use Rattle.host_joint.specs.Asking.{StaysPlugged}
+use Rattle.tmc_law.specs.Told.{Tells}
 use Rattle.host_joint.specs.Hand.{Hand, Free, Says, Said, Reads, Pauses}
-use Rattle.host_joint.specs.Tie.{Tie, IsGiven, Owns, IsOwned, asked_of}
+use Rattle.host_joint.specs.Tie.{Tie, IsGiven, Owns, asked_of}
 use Rattle.host_joint.specs.Bond.{Situation, Bound}
 use Rattle.host_joint.specs.Joint.{TellsBy, JointBy, entries_for, entries_of, IsApart}
-use Rattle.host_joint.specs.Unplugged.{WasHeld, Until, TiedUntil, BoundUntil, HaltsNothing, TellsUnplugged, NextUntil, ComesPlugged, ComesBefore, ComesBehind, GivenUntil, GivenPlugged, GivenBefore, GivenBehind, JointUntil, JoinedUntil, TellsUnhalted, IsNextUntil, IsGivenUntil}
+use Rattle.host_joint.specs.Unplugged.{Until, TiedUntil, BoundUntil, HaltsNothing, TellsUnplugged, NextUntil, ComesPlugged, ComesBefore, ComesBehind, GivenUntil, GivenPlugged, GivenBefore, GivenBehind}
 use Rattle.host_joint.proofs.Until.{tells, next_until, halts_front}
-use Rattle.host_joint.proofs.Joining.{IsKind, IsKept, Never, rising_asked, apart_asked, few_total, FieldLaws, none_front, none_behind, no_downs, answer_not_empty, spelled_put, first_spelled, submit_found, none_bad}
+use Rattle.host_joint.proofs.Joining.{IsKind, IsKept, Never, rising_asked, apart_asked, few_total, FieldLaws, none_front, no_downs, answer_not_empty, spelled_put, first_spelled, submit_found, none_bad}
 
 -- ---- the answer to the one submit of a tied host
 

@@ -1,5 +1,5 @@
 -- what the answer to an unlink says: whether the unlink hit (Linux kernel documentation, "USB/IP protocol")
-use Rattle.std.specs.Prelude.{◌≡◌, ◌⊎◌, ℕ, ℤ, Option, Some, None, List, [], ◌∷◌, ◌++◌}
+use Rattle.std.specs.Prelude.{◌≡◌, ℕ, ℤ, Option, Some, None, List, [], ◌∷◌, ◌++◌}
 use Rattle.tmc_base.specs.declared.run_step.RunStep.{RunStep}
 use Rattle.usbip_wire.specs.declared.submit.SubmitHead.{SubmitHead}
 use Rattle.usbip_wire.specs.declared.unlink.UnlinkHead.{UnlinkHead}

@@ -1,8 +1,7 @@
 use Rattle.std.proofs.Common.{[], ◌∷◌, ◌++◌}
-use Rattle.usbip_wire.specs.Up as up
 use Rattle.host_joint.specs.Bond.{Bound}
 use Rattle.host_joint.specs.Joint.{entries_of}
-use Rattle.host_joint.specs.Unplugged.{TiedUntil, BoundUntil}
+use Rattle.host_joint.specs.Unplugged.{TiedUntil}
 use Rattle.host_joint.specs.Hits.{BoundTelling}
 use Rattle.host_joint.proofs.Joining.{joint_goes, writes_on}
 use Rattle.host_joint.proofs.UntilJoined.{until_kept, any_kind, tells_any, bound_never, bound_spelled, next_by}

@@ -1,7 +1,5 @@
-use Rattle.std.proofs.Common.{Some, None, [], ◌∷◌, ◌++◌, ◌+◌, false, ◌≡◌, ◌∙◌, ap, sym, Bool}
+use Rattle.std.proofs.Common.{Some, None, [], ◌∷◌, ◌++◌, ◌+◌}
 use Rattle.usbip_wire.specs.Up as up
-use Rattle.tmc_law.specs.State.{State}
-use Rattle.host_joint.specs.Hand.{Free}
 use Rattle.host_joint.specs.Tie.{Tie}
 use Rattle.host_joint.specs.Bond.{Stands, Resting, BehindClear, Bound}
 use Rattle.host_joint.proofs.Until.{until_moves, ends_until}

@@ -1,4 +1,4 @@
-use Rattle.std.proofs.Common.{inl, inr, refl}
+use Rattle.std.proofs.Common.{inl, inr}
 use Rattle.host_joint.specs.Hand.{Reads}
 use Rattle.host_joint.specs.Hand as hand
 use Rattle.host_joint.proofs.UntilJoined.{owns_same, log_of}

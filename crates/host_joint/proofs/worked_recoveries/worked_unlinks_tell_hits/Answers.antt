@@ -1,5 +1,5 @@
-use Rattle.std.proofs.Common.{Some, None, [], ◌∷◌, codes, inl, inr, refl, ◌≡◌, sym, ◌∙◌}
-use Rattle.tmc_law.specs.Put.{Unlinked, success, unlinked}
+use Rattle.std.proofs.Common.{Some, None, [], ◌∷◌, codes, inl, inr, refl, ◌≡◌}
+use Rattle.tmc_law.specs.Put.{success, unlinked}
 use Rattle.tmc_law.specs.WorkedQuery.{identity}
 use Rattle.tmc_law.specs.WorkedSession.{in_submit, unlink}
 use Rattle.host_joint.specs.Bond.{Read}
