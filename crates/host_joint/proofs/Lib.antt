@@ -47,3 +47,4 @@ mod Until
 mod UntilJoined
 mod Gone
 mod Hitting
+mod Turning

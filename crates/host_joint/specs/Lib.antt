@@ -23,6 +23,7 @@ pub mod Bond
 pub mod Joint
 pub mod Unplugged
 pub mod Hits
+pub mod Turns
 -- examples
 pub mod WorkedAsks
 pub mod WorkedTies
