@@ -28,6 +28,7 @@ use Rattle.host_joint.specs.Reads.{Flow, Still, Giving, Over, Torn, InLine, IsHa
 use Rattle.host_joint.specs.Stage.{Stage, Follows, Gathers, Waits, Rests, Owes, Sends, Sent, Tears, Barred, Dropped}
 use Rattle.host_joint.specs.Asking.{Ask, Asking, AllTaken, StaysPlugged}
 use Rattle.host_joint.specs.Turns.{NoneTaken, InTurn, IsPart, AreParts}
+use Rattle.host_joint.proofs.Flows.{unlinks-append}
 use Rattle.host_joint.proofs.Hosting.{own_event, other_event}
 use Rattle.host_joint.proofs.Tying.{stands_at}
 
@@ -245,9 +246,6 @@ pub record TurnLaws : Type 0 where
       → queue_of e s ≡ before ++ submit ∷ behind → submit.polled ≡ true → e ≡ Control
   pub answers : (run : List Entry) (s t : State) (move : Move) (puts : List Put) → Runs start run s → Steps s move puts t → AllAnswers (IsAnswer s move t) puts
   pub joins : (a b : List Entry) (s m t : State) → Runs s a m → Runs m b t → Runs s (a ++ b) t
-  pub stays : (before run : List Entry) (ask : Ask) (s t : State) (ups : List up.Message) (downs : List Put)
-      → Runs start before s → Runs s run t → AllFitting (inputs run ++ ups) → unlinks_in (inputs run) ≡ [] → StaysPlugged run
-      → Asking ask (inputs run ++ ups) downs s → Asking ask ups (downs ++ outputs run) t
 
 pub turn_step : (laws : TurnLaws) (run : List Entry) (ask : Ask) (s t : State) (move : Move) (ups : List up.Message) (downs puts : List Put)
     → Runs start run s → Steps s move puts t → Asking ask ups downs s → InTurn downs → InTurn (downs ++ puts)
@@ -266,6 +264,52 @@ turn_step laws run ask s t move ups downs puts reached step a turn = turn-append
     by (Giving bytes) is = inr (full (λ e. let f : Still ≡ Giving bytes = sym e ∙ is in cc))
     by (Over bytes) is = inr (full (λ e. let f : Still ≡ Over bytes = sym e ∙ is in cc))
     by (Torn bytes) is = inr (full (λ e. let f : Still ≡ Torn bytes = sym e ∙ is in cc))
+
+-- ---- under each run
+
+abbrev pub AllOk : (Entry → Type 0) → List Entry → Type 0
+AllOk Ok [] = Unit {0}
+AllOk Ok (entry ∷ run) = Ok entry × AllOk Ok run
+
+pub turn_goes : (laws : TurnLaws) (ask : Ask) (Holds : List up.Message → List Put → State → Type 0) (Ok : Entry → Type 0) → ((ups : List up.Message) (downs : List Put) (s : State) → Holds ups downs s → Asking ask ups downs s)
+    → ((before : List Entry) (entry : Entry) (ups : List up.Message) (downs : List Put) (s t : State) → Runs start before s → Steps s entry.move entry.puts t → Ok entry → Holds (taken entry.move ++ ups) downs s → Holds ups (downs ++ entry.puts) t)
+    → (before run : List Entry) (ups : List up.Message) (downs : List Put) (s t : State) → Runs start before s → Runs s run t → AllOk Ok run → Holds (inputs run ++ ups) downs s → InTurn downs → InTurn (downs ++ outputs run)
+turn_goes laws ask Holds Ok asks keeps before [] ups downs s t reached goes ok holds turn = subst (λ (l : List Put). InTurn l) (sym (append-nil downs)) turn
+turn_goes laws ask Holds Ok asks keeps before (entry ∷ run) ups downs s t reached goes ok holds turn =
+    let same : ((taken entry.move ++ inputs run) ++ ups) ≡ (taken entry.move ++ (inputs run ++ ups)) = append_assoc (taken entry.move) (inputs run) ups in
+    let here = subst (λ (l : List up.Message). Holds l downs s) same holds in
+    let turned = turn_step laws before ask s goes.0 entry.move (taken entry.move ++ (inputs run ++ ups)) downs entry.puts reached goes.1 (asks (taken entry.move ++ (inputs run ++ ups)) downs s here) turn in
+    subst (λ (l : List Put). InTurn l) (append_assoc downs entry.puts (outputs run))
+    (turn_goes laws ask Holds Ok asks keeps (before ++ entry ∷ []) run ups (downs ++ entry.puts) goes.0 t (laws.joins before (entry ∷ []) start s goes.0 reached (goes.0, goes.1, refl)) goes.2 ok.1
+    (keeps before entry (inputs run ++ ups) downs s goes.0 reached goes.1 ok.0 here) turned)
+
+-- a run that unlinks nothing, and one that is plugged
+abbrev pub IsCalm : Entry → Type 0
+IsCalm entry = (entry.move ≢ Unplug) × (unlinks_in (taken entry.move) ≡ [])
+
+none_both : (a b : List UnlinkHead) → a ++ b ≡ [] → (a ≡ []) × (b ≡ [])
+none_both [] b e = (refl, e)
+none_both (x ∷ a) b e = absurd (cc)
+
+pub calm_all : (run : List Entry) → StaysPlugged run → unlinks_in (inputs run) ≡ [] → AllOk IsCalm run
+calm_all [] plugged none = tt
+calm_all (entry ∷ run) plugged none =
+    let both = none_both (unlinks_in (taken entry.move)) (unlinks_in (inputs run)) (sym (unlinks-append (taken entry.move) (inputs run)) ∙ none) in
+    ((plugged.0, both.0), calm_all run plugged.1 both.1)
+
+pub plugged_all : (run : List Entry) → StaysPlugged run → AllOk (λ entry. entry.move ≢ Unplug) run
+plugged_all [] plugged = tt
+plugged_all (entry ∷ run) plugged = (plugged.0, plugged_all run plugged.1)
+
+-- nothing of a ticket is on its way
+pub quiet_turn : (downs : List Put) → events_of BulkIn downs ≡ [] → InTurn downs
+quiet_turn [] none = tt
+quiet_turn (Unlinked asked answer ∷ downs) none = absurd (cc)
+quiet_turn (Submitted head answer transferred ∷ downs) none = by (eqb head.ep 2) refl none (λ k. quiet_turn downs k)
+  where
+    by : (b : Bool) → eqb head.ep 2 ≡ b → cond b (Gives head answer transferred ∷ events_of BulkIn downs) (events_of BulkIn downs) ≡ [] → (events_of BulkIn downs ≡ [] → InTurn downs) → InTurn (Submitted head answer transferred ∷ downs)
+    by true is e rest = absurd (cc)
+    by false is e rest = ((λ own. let e : true ≡ false = sym (eq-eqb head.ep 2 own) ∙ is in absurd (cc)), rest e)
 
 -- ---- what a host concludes at a read that has bytes
 

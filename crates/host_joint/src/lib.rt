@@ -16,6 +16,7 @@ mod numbers;
 mod owned;
 mod recovery;
 mod ties;
+mod turns;
 mod unplugged;
 mod worked;
 mod worked_pieces;
@@ -44,6 +45,7 @@ pub use ties::{
     answers_are_the_expected, pieces_have_no_fault, tickets_end, ties_begin, ties_own, ties_stay,
     writes_keep_ties,
 };
+pub use turns::{answers_come_in_turn, asks_ahead_hand_over};
 pub use unplugged::{
     answers_come_until_unplugged, hosts_go_on_until_unplugged, joints_stay_until_unplugged,
     the_next_answer_is_read_until_unplugged, ties_hold_until_unplugged, unplugged_hosts_own,
