@@ -46,7 +46,7 @@ no_fault bytes Size fine h = no_size fine.counted h
     no_size (inl is) h = h.0 is
     no_size (inr some) h = some h.1
 
-query_is : IsJob query_job
+pub query_is : IsJob query_job
 query_is = record {
   number = refl;
   way = refl;
@@ -84,7 +84,7 @@ read_is = record {
   sized = refl;
 }
 
-request_is : IsJob request_job
+pub request_is : IsJob request_job
 request_is = record {
   number = refl;
   way = refl;

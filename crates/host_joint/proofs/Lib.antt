@@ -48,3 +48,4 @@ mod UntilJoined
 mod Gone
 mod Hitting
 mod Turning
+mod AheadOf

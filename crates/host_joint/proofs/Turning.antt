@@ -1,15 +1,15 @@
 -- the answers of an ask come in turn
-use Rattle.std.proofs.Common.{◌≡◌, ◌≢◌, ◌∙◌, ◌⊎◌, inl, inr, ℕ, ◌+◌, ◌*◌, Bool, true, false, cond, eqb, Option, Some, None, List, [], ◌∷◌, ◌++◌, length, map, refl, ap, sym, subst, append_assoc, append-nil, arith}
+use Rattle.std.proofs.Common.{◌≡◌, ◌≢◌, ◌∙◌, ◌⊎◌, inl, inr, ℕ, ◌+◌, ◌*◌, Bool, true, false, cond, eqb, Option, Some, List, [], ◌∷◌, ◌++◌, length, map, refl, ap, sym, subst, append_assoc, append-nil, arith}
 use Rattle.std.proofs.lemmas.Bool.{eq-eqb, eqb-true}
 use Rattle.usbip_wire.specs.declared.submit.SubmitHead.{SubmitHead}
 use Rattle.usbip_wire.specs.declared.unlink.UnlinkHead.{UnlinkHead}
 use Rattle.usbip_wire.specs.declared.ret_submit.RetSubmitHead.{RetSubmitHead}
 use Rattle.usbip_wire.specs.Up as up
 use Rattle.tmc_wire.specs.declared.header.OutHeader.{OutHeader}
-use Rattle.tmc_wire.specs.declared.header.OutHeader.TheVariants.{Message, Request, Trigger}
+use Rattle.tmc_wire.specs.declared.header.OutHeader.TheVariants.{Request}
 use Rattle.tmc_law.specs.Endpoint.{Endpoint, Control, BulkOut, BulkIn, InterruptIn, number_of, packet_size}
 use Rattle.tmc_law.specs.State.{State, Pending, Transfer, start, queue_of}
-use Rattle.tmc_law.specs.Put.{Put, Submitted, Unlinked, ended, answer_of, success, stalled, unplugged}
+use Rattle.tmc_law.specs.Put.{Put, Submitted, Unlinked, answer_of, success, stalled, unplugged}
 use Rattle.tmc_law.specs.Halts as halts
 use Rattle.tmc_law.specs.Halts.{all_ended, unplug_answers, halt_answers, DoesHalt}
 use Rattle.tmc_law.specs.Queues as queues
@@ -21,8 +21,8 @@ use Rattle.tmc_law.specs.AnswerFits.{AllAnswers, IsAnswer, ToPending, ToArriving
 use Rattle.tmc_law.specs.Reached.{AllFit}
 use Rattle.tmc_law.specs.Step.{Move, Comes, Refuses, Take, Exec, Begin, Fill, Answer, Pend, Poll, Notify, Halt, Unplug, Steps}
 use Rattle.tmc_law.specs.Run.{Entry, Runs, taken, inputs, outputs}
-use Rattle.host_joint.specs.Lines.{Event, Gives, Drops, events_of, sent_to, AllFitting, unlinks_in}
-use Rattle.host_joint.specs.Jobs.{Job, OutLine, Unbegun, Partly, Cut, Shut, fresh, last_header}
+use Rattle.host_joint.specs.Lines.{Event, Gives, events_of, sent_to, unlinks_in}
+use Rattle.host_joint.specs.Jobs.{Job, OutLine, Unbegun, Partly, Cut, Shut, last_header}
 use Rattle.host_joint.specs.Reads as reads
 use Rattle.host_joint.specs.Reads.{Flow, Still, Giving, Over, Torn, InLine, IsHalted, gives}
 use Rattle.host_joint.specs.Stage.{Stage, Follows, Gathers, Waits, Rests, Owes, Sends, Sent, Tears, Barred, Dropped}

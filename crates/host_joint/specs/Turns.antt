@@ -1,5 +1,5 @@
 -- in which order the answers of an ask come, where its request and its reads were written ahead (USBTMC 1.0, section 3.3)
-use Rattle.std.specs.Prelude.{◌≡◌, ◌≢◌, ℕ, true, false, List, [], ◌∷◌}
+use Rattle.std.specs.Prelude.{◌≡◌, ◌≢◌, List, [], ◌∷◌}
 use Rattle.tmc_wire.specs.declared.header.OutHeader.{OutHeader}
 use Rattle.tmc_wire.specs.declared.header.OutHeader.TheVariants.{Message, Request, Trigger}
 use Rattle.tmc_law.specs.Endpoint.{BulkOut, BulkIn, number_of}

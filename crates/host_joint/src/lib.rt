@@ -19,6 +19,7 @@ mod ties;
 mod turns;
 mod unplugged;
 mod worked;
+mod worked_ahead;
 mod worked_pieces;
 mod worked_recoveries;
 mod worked_unplugging;
@@ -52,6 +53,7 @@ pub use unplugged::{
     writes_keep_joints_until_unplugged,
 };
 pub use worked::{worked_asks_are_in_hand, worked_cancels_are_bound, worked_hosts_are_tied};
+pub use worked_ahead::worked_asks_are_written_ahead;
 pub use worked_pieces::{worked_pieces_are_asked, worked_pieces_are_read};
 pub use worked_recoveries::{
     worked_cancels_are_recovered, worked_halts_are_recovered, worked_unlinks_tell_hits,

@@ -1,4 +1,4 @@
-use Rattle.std.proofs.Common.{◌++◌, ◌≢◌}
+use Rattle.std.proofs.Common.{◌≢◌}
 use Rattle.tmc_law.specs.Step.{Unplug}
 use Rattle.tmc_law.specs.Run.{taken}
 use Rattle.host_joint.specs.Lines.{AllFitting, InOrder}

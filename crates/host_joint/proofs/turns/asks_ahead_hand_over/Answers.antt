@@ -1,4 +1,4 @@
-use Rattle.std.proofs.Common.{ℕ, List, subst, ◌≡◌, [], length}
+use Rattle.std.proofs.Common.{ℕ, List, subst, ◌≡◌, []}
 use Rattle.usbip_wire.specs.Up as up
 use Rattle.tmc_law.specs.Endpoint.{BulkOut}
 use Rattle.tmc_law.specs.State.{State}
