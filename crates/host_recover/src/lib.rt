@@ -10,6 +10,8 @@ mod need;
 mod recover;
 mod stage;
 mod standard;
+#[cfg(test)]
+mod tests;
 mod want;
 
 pub use laws::{
