@@ -1,24 +1,23 @@
 -- what a recovery wants follows from the letters that it heard
-use Rattle.std.proofs.Common.{◌≡◌, ℕ, Bool, true, false, List, [], ◌∷◌, ◌++◌, Option, Some, None, Result, Ok, Err, refl, sym, subst, ◌∙◌, ap, append_assoc}
+use Rattle.std.proofs.Common.{◌≡◌, ℕ, Bool, List, [], ◌∷◌, ◌++◌, Option, Some, None, Result, Ok, Err, refl, sym, subst, ◌∙◌, ap, append_assoc}
 use Rattle.std.proofs.lemmas.List.{append-nil}
 use Rattle.usb_setup.specs.declared.ends.Ends.{Ends}
 use Rattle.host_recover.specs.declared.need.Need.{Need}
-use Rattle.host_recover.specs.declared.need.Need.TheVariants as need
 use Rattle.host_recover.specs.declared.stage.Stage.{Stage}
 use Rattle.host_recover.specs.declared.stage.Stage.TheVariants as stage
 use Rattle.host_recover.specs.declared.want.Heard.{Heard}
 use Rattle.host_recover.specs.declared.want.Want.{Want}
 use Rattle.host_recover.specs.declared.want.Want.TheVariants as want
 use Rattle.host_recover.specs.Letter.{Letter, Submit}
-use Rattle.host_recover.specs.Next.{IsNext}
-use Rattle.host_recover.specs.Recover.{Awaits, Answer, Recovering, MayAnswer, HasHeard, IsAwaited, AreSeen, behind, MayCome, IsStuck, Follows}
+use Rattle.host_recover.specs.Next.{IsNext, ClearsOnly, due_halt}
+use Rattle.host_recover.specs.Recover.{Answer, Recovering, MayAnswer, HasHeard, IsAwaited, behind, MayCome, Follows}
 use Rattle.host_recover.specs.Stage.{awaits_at, awaits_of, left_at, left_of, wanted_by, first_of, behind_heard, step_of}
-use Rattle.host_recover.specs.Words.{Has, Begins, words_of}
+use Rattle.host_recover.specs.Words.{Has, words_of}
 use Rattle.host_recover.proofs.Lefts.{left, some_word, ends}
-use Rattle.host_recover.proofs.Phases.{Phase, Done, go, going, all, all_none, none_some}
+use Rattle.host_recover.proofs.Phases.{Phase, Done, go, all, all_none, none_some}
 use Rattle.host_recover.proofs.Some.{has_word}
-use Rattle.host_recover.proofs.Stages.{phase_at, left_is, left_runs, has_left, is_answered, over_at, first_left, clears_halt, clears_none, first_clears_none, first_not_over}
-use Rattle.host_recover.proofs.Steps.{Goes, Comes, Hears, hears_of}
+use Rattle.host_recover.proofs.Stages.{phase_at, left_is, left_runs, has_left, is_answered, over_at, first_left, clears_none, first_clears_none, first_not_over, led, answers_at}
+use Rattle.host_recover.proofs.Steps.{Goes, Comes, hears_of}
 use Rattle.host_recover.proofs.Words.{whole_ends, none_empty}
 
 abbrev pub kept : Need → Ends → Option Stage → Recovering
@@ -46,6 +45,10 @@ not_on s letter rest e h = none_some Done (sym (all_none rest) ∙ subst (λ (o 
 joined_once : (letters rest : List Letter) (x : Letter) → (letters ++ x ∷ []) ++ rest ≡ letters ++ x ∷ rest
 joined_once letters rest x = append_assoc letters (x ∷ []) rest
 
+-- two letters behind the others
+twice : (letters : List Letter) (x letter : Letter) (rest : List Letter) (n : Need) → Has (words_of n) (((letters ++ letter ∷ []) ++ x ∷ []) ++ rest) → Has (words_of n) (letters ++ letter ∷ x ∷ rest)
+twice letters x letter rest n w = subst (λ (ls : List Letter). Has (words_of n) ls) (joined_once (letters ++ letter ∷ []) rest x ∙ joined_once letters (x ∷ rest) letter) w
+
 some_end : (q : Phase) → Some q ≡ Some Done → q ≡ Done
 some_end q e = cc
 
@@ -58,6 +61,7 @@ goes_on n e s next letter i k g m letters h = record {
   begins = λ _. (some_word (phase_at next), heard.goes_on (some_word (phase_at next)) (has_at next (some_word (phase_at next)) (ends (phase_at next))));
   may_come = may_come;
   next = λ submit a seen. let c = may_come submit a in record { letter = c.letter; is = c.is; begins = c.begins; halt = g.halt letters seen submit a };
+  exact = exact;
   done = (λ d. whole (over_at e next d), over);
 }
   where
@@ -79,6 +83,12 @@ goes_on n e s next letter i k g m letters h = record {
           begins = (x.rest, subst (λ (ls : List Letter). Has (words_of n) ls) (sym (joined_once (letters ++ letter ∷ []) x.rest x.letter)) (heard.goes_on (x.letter ∷ x.rest) x.left));
         }
 
+    exact : (submit : Submit) → IsNext n (letters ++ letter ∷ []) i k submit → awaits_at next ≡ Answer submit
+    exact submit x =
+        g.exact letters x.letter (led g.phase x.letter x.begins.0 (has_left g.phase (x.letter ∷ x.begins.0) (leads_on s letter g.phase (x.letter ∷ x.begins.0) g.goes
+        (h.only letter (x.letter ∷ x.begins.0) m (twice letters x.letter letter x.begins.0 n x.begins.1))))) (subst (λ (y : Submit). ClearsOnly (due_halt (letters ++ letter ∷ []) i k) y) (sym x.is) x.halt)
+        ∙ ap Answer x.is
+
     whole : next ≡ stage.Over → Has (words_of n) (letters ++ letter ∷ [])
     whole o = subst (λ (ls : List Letter). Has (words_of n) ls) (append-nil (letters ++ letter ∷ [])) (heard.goes_on [] (subst (λ (s : Stage). Has (left_at s) []) (sym o) refl))
 
@@ -94,6 +104,7 @@ is_stuck_at n e s letter i k status none m letters h = record {
   begins = λ stuck. absurd (stuck tt);
   may_come = λ submit a. cc;
   next = λ submit a seen. cc;
+  exact = λ submit x. absurd (not_on s letter (x.letter ∷ x.begins.0) none (h.only letter (x.letter ∷ x.begins.0) m (twice letters x.letter letter x.begins.0 n x.begins.1)));
   done = (λ d. cc, λ w. absurd (not_on s letter [] none (h.only letter [] m w)));
 }
 
@@ -105,6 +116,8 @@ begins_with n e i k letters h = record {
   begins = λ _. (some_word (phase_at (first_of n)), heard.goes_on (some_word (phase_at (first_of n))) (has_at (first_of n) (some_word (phase_at (first_of n))) (ends (phase_at (first_of n)))));
   may_come = may_come;
   next = λ submit a seen. let c = may_come submit a in record { letter = c.letter; is = c.is; begins = c.begins; halt = clears_none (first_of n) (first_clears_none n) submit _ a };
+  exact = λ submit x. answers_at (first_of n) (first_clears_none n) x.letter (led (phase_at (first_of n)) x.letter x.begins.0 (subst (λ w. Has w (x.letter ∷ x.begins.0)) (sym (first_left n) ∙ left_is (first_of n))
+      (h.only x.letter x.begins.0 tt (subst (λ (ls : List Letter). Has (words_of n) ls) (joined_once letters x.begins.0 x.letter) x.begins.1)))) ∙ ap Answer x.is;
   done = (λ d. absurd (first_not_over n (over_at e (first_of n) d)), λ w. absurd (not_whole w));
 }
   where

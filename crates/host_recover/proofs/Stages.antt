@@ -1,21 +1,20 @@
 -- the phase in which each submit is answered
-use Rattle.std.proofs.Common.{◌≡◌, ℕ, Bool, true, false, List, [], ◌∷◌, ◌++◌, Option, Some, None, inl, inr, refl, sym, subst, ◌∙◌, ap}
+use Rattle.std.proofs.Common.{◌≡◌, Bool, true, false, List, [], ◌∷◌, Option, Some, None, refl, sym, subst, ◌∙◌, ap}
 use Rattle.std.proofs.lemmas.List.{append-nil}
 use Rattle.usb_setup.specs.declared.ends.Ends.{Ends}
-use Rattle.tmc_wire.specs.declared.class_request.ClassRequest.TheVariants as class
 use Rattle.host_recover.specs.declared.need.Need.{Need}
 use Rattle.host_recover.specs.declared.need.Need.TheVariants as need
 use Rattle.host_recover.specs.declared.stage.Stage.{Stage}
 use Rattle.host_recover.specs.declared.stage.Stage.TheVariants as stage
 use Rattle.host_recover.specs.declared.want.Want.TheVariants as want
-use Rattle.host_recover.specs.Letter.{Letter, Asked, Cleared, Drained, Endpoint, Submit, Ask, Clear, Read, submit_of, Success, Short, BulkIn, Notify, BulkOut}
+use Rattle.host_recover.specs.Letter.{Letter, Cleared, Endpoint, Submit, submit_of, BulkIn, Notify, BulkOut}
 use Rattle.host_recover.specs.Next.{ClearsOnly}
-use Rattle.host_recover.specs.Recover.{Awaits, Start, Answer, Nothing}
+use Rattle.host_recover.specs.Recover.{Answer}
 use Rattle.host_recover.specs.Stage.{awaits_at, left_at, first_of, wanted_by}
 use Rattle.host_recover.specs.Words.{Has, words_of}
-use Rattle.host_recover.proofs.Leads.{start, left_leads}
-use Rattle.host_recover.proofs.Lefts.{left, all_go, some_word, ends, goes}
-use Rattle.host_recover.proofs.Phases.{Phase, AbortsOut, ChecksOut, AbortsIn, DrainsIn, ChecksIn, Clears, Checks, Drains, Halts, BehindIn, BehindNotify, Done, all, clash}
+use Rattle.host_recover.proofs.Leads.{left_leads}
+use Rattle.host_recover.proofs.Lefts.{left, all_go, ends, goes}
+use Rattle.host_recover.proofs.Phases.{Phase, AbortsOut, ChecksOut, AbortsIn, DrainsIn, ChecksIn, Clears, Checks, Drains, Halts, BehindIn, BehindNotify, Done, go, all, all_none, none_some, clash, fits}
 
 abbrev pub phase_at : Stage → Phase
 phase_at (stage.AbortsOut tag parts) = AbortsOut tag parts
@@ -75,6 +74,33 @@ clears_none stage.Over f submit endpoint e = cc
 clears_none stage.FreesIn f submit endpoint e = clash (sym f)
 clears_none stage.FreesNotify f submit endpoint e = clash (sym f)
 clears_none stage.FreesOut f submit endpoint e = clash (sym f)
+
+-- a letter that is left of a phase leads on from it
+pub record Led (p : Phase) (x : Letter) : Type 0 where
+  pub next : Phase
+  pub goes : go p x ≡ Some next
+
+pub led : (p : Phase) (x : Letter) (rest : List Letter) → Has (left p) (x ∷ rest) → Led p x
+led p x rest h = at (go p x) refl (left_runs p (x ∷ rest) h)
+  where
+    at : (o : Option Phase) → go p x ≡ o → all o rest ≡ Some Done → Led p x
+    at None e k = none_some Done (sym (all_none rest) ∙ k)
+    at (Some next) e k = record { next = next; goes = e }
+
+-- it answers the submit of the stage
+pub answers_at : (s : Stage) → clears_halt s ≡ false → (x : Letter) → Led (phase_at s) x → awaits_at s ≡ Answer (submit_of x)
+answers_at (stage.AbortsOut tag parts) f x l = ap Answer (sym (fits (AbortsOut tag parts) x l.next l.goes))
+answers_at stage.ChecksOut f x l = ap Answer (sym (fits ChecksOut x l.next l.goes))
+answers_at (stage.AbortsIn tag) f x l = ap Answer (sym (fits (AbortsIn tag) x l.next l.goes))
+answers_at stage.DrainsIn f x l = ap Answer (sym (fits DrainsIn x l.next l.goes))
+answers_at stage.ChecksIn f x l = ap Answer (sym (fits ChecksIn x l.next l.goes))
+answers_at stage.Clears f x l = ap Answer (sym (fits Clears x l.next l.goes))
+answers_at stage.ChecksClear f x l = ap Answer (sym (fits Checks x l.next l.goes))
+answers_at stage.DrainsClear f x l = ap Answer (sym (fits Drains x l.next l.goes))
+answers_at stage.FreesIn f x l = clash (sym f)
+answers_at stage.FreesNotify f x l = clash (sym f)
+answers_at stage.FreesOut f x l = clash (sym f)
+answers_at stage.Over f x l = none_some l.next l.goes
 
 -- some answer to the submit of a stage, with some letters behind it, is left
 pub record Answered (s : Stage) (submit : Submit) : Type 0 where

@@ -1,21 +1,19 @@
 -- each answer leads from a stage to the next
-use Rattle.std.proofs.Common.{◌≡◌, ℕ, Bool, true, false, List, [], ◌∷◌, ◌++◌, Option, Some, None, Result, Ok, Err, inl, inr, refl, sym, subst, ◌∙◌, ap}
-use Rattle.std.specs.Prelude.{is_some, if◌then◌else◌, ◌==◌}
-use Rattle.tmc_wire.specs.declared.class_answer.ClassAnswer.{ClassAnswer}
-use Rattle.tmc_wire.specs.declared.class_request.ClassRequest.{ClassRequest}
+use Rattle.std.proofs.Common.{◌≡◌, ℕ, Bool, true, false, List, [], ◌∷◌, ◌++◌, Some, None, Result, Ok, Err, inl, refl, sym, subst, ◌∙◌, ap}
+use Rattle.std.specs.Prelude.{if◌then◌else◌}
 use Rattle.tmc_wire.specs.declared.class_request.ClassRequest.TheVariants as class
 use Rattle.host_recover.specs.declared.stage.Stage.{Stage}
 use Rattle.host_recover.specs.declared.stage.Stage.TheVariants as stage
 use Rattle.host_recover.specs.declared.want.Heard.{Heard}
 use Rattle.host_recover.specs.declared.want.Heard.TheVariants as heard
-use Rattle.host_recover.specs.Letter.{Letter, Asked, Cleared, Drained, Endpoint, Submit, Ask, Clear, Read, submit_of, Says, Success, Pending, Queued, Failed, Otherwise, Full, Short, Faulty, BulkIn, Notify, BulkOut, says_of}
+use Rattle.host_recover.specs.Letter.{Letter, Asked, Cleared, Drained, Endpoint, Submit, Clear, submit_of, Says, Success, Pending, Queued, Failed, Otherwise, Full, Short, Faulty, BulkIn, Notify, BulkOut, says_of}
 use Rattle.host_recover.specs.Next.{ClearsOnly, due_halt, is_check_out, ends_by_check_out}
-use Rattle.host_recover.specs.Recover.{Awaits, Answer, MayAnswer, IsAwaited, AreSeen, EndsBy, behind}
+use Rattle.host_recover.specs.Recover.{Answer, MayAnswer, IsAwaited, AreSeen, EndsBy, behind}
 use Rattle.host_recover.specs.Stage.{awaits_at, left_at, behind_abort_out, behind_check_out, behind_abort_in, behind_check_in, behind_clear, behind_check_clear, first_halt, second_halt, behind_heard}
 use Rattle.host_recover.specs.Words.{Has}
-use Rattle.host_recover.proofs.Lefts.{left, own, goes}
-use Rattle.host_recover.proofs.Phases.{Phase, AbortsOut, ChecksOut, AbortsIn, DrainsIn, ChecksIn, Clears, Checks, Drains, Halts, BehindIn, BehindNotify, Done, go, all, none_some, clash, may_say, says_out, says_abort_out, says_abort_in, said_abort_out, said_abort_in, halted, behind_in, behind_notify, fits}
-use Rattle.host_recover.proofs.Stages.{phase_at, left_is, left_runs, has_left, clears_halt, clears_none, same_submit, done_at}
+use Rattle.host_recover.proofs.Lefts.{left, own}
+use Rattle.host_recover.proofs.Phases.{Phase, Halts, BehindIn, BehindNotify, Done, go, none_some, clash, may_say, says_out, says_abort_out, says_abort_in, said_abort_out, said_abort_in}
+use Rattle.host_recover.proofs.Stages.{phase_at, left_is, left_runs, has_left, clears_halt, clears_none, same_submit, done_at, Led, answers_at}
 
 -- behind this answer the second stage comes, with these halts seen
 pub record Goes (s : Stage) (letter : Letter) (in_halted notify_halted : Bool) (next : Stage) : Type 0 where
@@ -25,6 +23,7 @@ pub record Goes (s : Stage) (letter : Letter) (in_halted notify_halted : Bool) (
   pub only : (x : Letter) (rest : List Letter) → MayAnswer (awaits_at next) x → Has (left phase) (x ∷ rest) → Has (left_at next) (x ∷ rest)
   pub halt : (letters : List Letter) → AreSeen (letters ++ letter ∷ []) in_halted notify_halted → (submit : Submit) → awaits_at next ≡ Answer submit
       → ClearsOnly (due_halt (letters ++ letter ∷ []) in_halted notify_halted) submit
+  pub exact : (letters : List Letter) (x : Letter) → Led phase x → ClearsOnly (due_halt (letters ++ letter ∷ []) in_halted notify_halted) (submit_of x) → awaits_at next ≡ Answer (submit_of x)
   pub done : phase ≡ Done → next ≡ stage.Over
 
 -- the phase is that of the next stage, which clears no halt
@@ -35,6 +34,7 @@ same {s} {letter} {i} {n} next f e = record {
   less = λ rest h. subst (λ w. Has w rest) (left_is next) h;
   only = λ x rest m h. subst (λ w. Has w (x ∷ rest)) (sym (left_is next)) h;
   halt = λ letters seen submit a. clears_none next f submit (due_halt (letters ++ letter ∷ []) i n) a;
+  exact = λ letters x l _. answers_at next f x l;
   done = λ d. done_at next d;
 }
 
@@ -88,6 +88,42 @@ notify_of_halts rest h = ([], rest, refl, inl refl, h)
 ends_letters : (letters : List Letter) (letter : Letter) → EndsBy letter (letters ++ letter ∷ [])
 ends_letters letters letter = (letters, refl)
 
+-- the halt that is due, of those that may be cleared
+due_of : (letters : List Letter) (letter : Letter) (i n : Bool) (e : Endpoint) → ClearsOnly (due_halt (letters ++ letter ∷ []) i n) (Clear e) → e ≡ due_behind letter i n
+due_of letters letter i n e d = d ∙ due_is letters letter i n
+
+frees_by : (e endpoint : Endpoint) → e ≡ endpoint → Answer (Clear endpoint) ≡ Answer (Clear e)
+frees_by e endpoint f = ap (λ (x : Endpoint). Answer (Clear x)) (sym f)
+
+due_in_halts : (letters : List Letter) (i n : Bool) (x : Letter) → Led Halts x → ClearsOnly (due_halt (letters ++ Asked class.CheckClear Success ∷ []) i n) (submit_of x)
+    → Answer (Clear (due_behind (Asked class.CheckClear Success) i n)) ≡ Answer (submit_of x)
+due_in_halts letters i n (Cleared e) l d = frees_by e (due_behind (Asked class.CheckClear Success) i n) (due_of letters (Asked class.CheckClear Success) i n e d)
+due_in_halts letters i n (Asked request says) l d = none_some l.next l.goes
+due_in_halts letters i n (Drained ending) l d = none_some l.next l.goes
+
+due_behind_in : (letters : List Letter) (i n : Bool) (x : Letter) → Led BehindIn x → ClearsOnly (due_halt (letters ++ Cleared BulkIn ∷ []) i n) (submit_of x)
+    → Answer (Clear (if n then Notify else BulkOut)) ≡ Answer (submit_of x)
+due_behind_in letters i n (Cleared BulkIn) l d = none_some l.next l.goes
+due_behind_in letters true n (Cleared Notify) l d = absurd (other (due_of letters (Cleared BulkIn) true n Notify d))
+  where
+    other : Notify ≡ BulkIn → ⊥
+    other e = cc
+due_behind_in letters false n (Cleared Notify) l d = frees_by Notify (if n then Notify else BulkOut) (due_of letters (Cleared BulkIn) false n Notify d)
+due_behind_in letters true n (Cleared BulkOut) l d = absurd (other (due_of letters (Cleared BulkIn) true n BulkOut d))
+  where
+    other : BulkOut ≡ BulkIn → ⊥
+    other e = cc
+due_behind_in letters false n (Cleared BulkOut) l d = frees_by BulkOut (if n then Notify else BulkOut) (due_of letters (Cleared BulkIn) false n BulkOut d)
+due_behind_in letters i n (Asked request says) l d = none_some l.next l.goes
+due_behind_in letters i n (Drained ending) l d = none_some l.next l.goes
+
+due_last : (x : Letter) → Led BehindNotify x → Answer (Clear BulkOut) ≡ Answer (submit_of x)
+due_last (Cleared BulkOut) l = refl
+due_last (Cleared BulkIn) l = none_some l.next l.goes
+due_last (Cleared Notify) l = none_some l.next l.goes
+due_last (Asked request says) l = none_some l.next l.goes
+due_last (Drained ending) l = none_some l.next l.goes
+
 -- the halts at the end of a clear
 checked : (i n : Bool) → Goes stage.ChecksClear (Asked class.CheckClear Success) i n (first_halt i n)
 checked true n = record {
@@ -96,6 +132,7 @@ checked true n = record {
   less = λ rest h. h;
   only = λ x rest m h. h;
   halt = λ letters seen submit a. due_at letters (Asked class.CheckClear Success) true n BulkIn submit refl a;
+  exact = λ letters x l d. due_in_halts letters true n x l d;
   done = λ d. cc;
 }
 checked false true = record {
@@ -104,6 +141,7 @@ checked false true = record {
   less = λ rest h. notify_of_halts rest h;
   only = second_of_halts;
   halt = λ letters seen submit a. due_at letters (Asked class.CheckClear Success) false true Notify submit refl a;
+  exact = λ letters x l d. due_in_halts letters false true x l d;
   done = λ d. cc;
 }
 checked false false = record {
@@ -112,6 +150,7 @@ checked false false = record {
   less = λ rest h. notify_of_halts rest (out_behind_in rest h);
   only = last_of_halts;
   halt = λ letters seen submit a. due_at letters (Asked class.CheckClear Success) false false BulkOut submit refl a;
+  exact = λ letters x l d. due_in_halts letters false false x l d;
   done = λ d. cc;
 }
 
@@ -122,6 +161,7 @@ behind_bulk_in i true = record {
   less = λ rest h. h;
   only = λ x rest m h. h;
   halt = λ letters seen submit a. due_at letters (Cleared BulkIn) i true Notify submit (rw (seen.bulk_in (ends_letters letters (Cleared BulkIn))) refl) a;
+  exact = λ letters x l d. due_behind_in letters i true x l d;
   done = λ d. cc;
 }
 behind_bulk_in i false = record {
@@ -130,6 +170,7 @@ behind_bulk_in i false = record {
   less = λ rest h. out_behind_in rest h;
   only = last_behind_in;
   halt = λ letters seen submit a. due_at letters (Cleared BulkIn) i false BulkOut submit (rw (seen.bulk_in (ends_letters letters (Cleared BulkIn))) refl) a;
+  exact = λ letters x l d. due_behind_in letters i false x l d;
   done = λ d. cc;
 }
 
@@ -141,6 +182,7 @@ behind_interrupt_in i n = record {
   only = λ x rest m h. h;
   halt = λ letters seen submit a. let f = seen.notify (ends_letters letters (Cleared Notify)) in
       due_at letters (Cleared Notify) i n BulkOut submit (rw f.0 (rw f.1 refl)) a;
+  exact = λ letters x l d. due_last x l;
   done = λ d. cc;
 }
 
@@ -151,6 +193,7 @@ checked_out i n = record {
   less = λ rest h. h;
   only = λ x rest m h. h;
   halt = λ letters seen submit a. due_at letters (Asked class.CheckOut Success) i n BulkOut submit refl a;
+  exact = λ letters x l d. due_last x l;
   done = λ d. cc;
 }
 

@@ -95,12 +95,13 @@ IsStuck (want.Stuck status) = Unit {0}
 IsStuck wants = ⊥
 
 -- Behind these letters, with these halts seen, the recovery wants this and runs so. The letters begin a word of it, which is
--- whole exactly where it is done, but where they end with an answer that it is stuck at. What it waits for next is the one
--- submit that comes next.
+-- whole exactly where it is done, but where they end with an answer that it is stuck at. What it waits for is the one submit
+-- that comes next.
 pub record Follows (letters : List Letter) (in_halted notify_halted : Bool) (wants : Want) (recovering : Recovering) : Type 0 where
   pub heard : (IsStuck wants → ⊥) → HasHeard letters recovering
   pub begins : (IsStuck wants → ⊥) → Begins (words_of recovering.need) letters
   pub may_come : (submit : Submit) → recovering.awaits ≡ Answer submit → MayCome recovering.need letters submit
   pub next : (submit : Submit) → recovering.awaits ≡ Answer submit → AreSeen letters in_halted notify_halted
       → IsNext recovering.need letters in_halted notify_halted submit
+  pub exact : (submit : Submit) → IsNext recovering.need letters in_halted notify_halted submit → recovering.awaits ≡ Answer submit
   pub done : (wants ≡ want.Done) ↔ IsOver recovering.need letters

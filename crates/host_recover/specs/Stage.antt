@@ -1,6 +1,6 @@
 -- What is kept of a recovery that runs, and what comes behind each answer. It serves the private calls: what is promised of
 -- a recovery is said by its words alone.
-use Rattle.std.specs.Prelude.{ℕ, Bool, true, false, if◌then◌else◌, Option, Some, None, Result, Ok, Err}
+use Rattle.std.specs.Prelude.{ℕ, Bool, if◌then◌else◌, Option, Some, None, Result, Ok, Err}
 use Rattle.usb_setup.specs.declared.ends.Ends.{Ends}
 use Rattle.tmc_wire.specs.declared.class_answer.ClassAnswer.{ClassAnswer}
 use Rattle.tmc_wire.specs.declared.class_request.ClassRequest.TheVariants as class
@@ -12,7 +12,7 @@ use Rattle.host_recover.specs.declared.want.Heard.{Heard}
 use Rattle.host_recover.specs.declared.want.Heard.TheVariants as heard
 use Rattle.host_recover.specs.declared.want.Want.{Want}
 use Rattle.host_recover.specs.declared.want.Want.TheVariants as want
-use Rattle.host_recover.specs.Letter.{Cleared, BulkIn, Notify, BulkOut, Ask, Clear, Read, Says, Success, Pending, Queued, Failed, Otherwise, says_of}
+use Rattle.host_recover.specs.Letter.{Cleared, BulkIn, Notify, BulkOut, Ask, Clear, Read, Says, Success, Pending, Queued, Failed, says_of}
 use Rattle.host_recover.specs.Recover.{Awaits, Start, Answer, Nothing}
 use Rattle.host_recover.specs.Want.{want_of}
 use Rattle.host_recover.specs.Words.{Words, Empty, One, ◌then◌, ◌or◌, asked, drain, failed_drain, checks, checks_out, checks_in, into, halts, full, words_of}

@@ -1,8 +1,7 @@
 -- Sets of words as rows of tokens, by which a proof tells them apart: each token stands behind the sets that it joins.
 use Rattle.std.specs.Prelude.{◌≡◌, List, [], ◌∷◌, ◌++◌}
 use Rattle.std.specs.Coded.{Coded, code_by, coded_list}
-use Rattle.std.proofs.Common.{refl, ◌∙◌, ap, append_assoc}
-use Rattle.std.proofs.lemmas.List.{append-nil}
+use Rattle.std.proofs.Common.{refl, ◌∙◌, ap}
 use Rattle.host_recover.specs.Letter.{Letter}
 use Rattle.host_recover.specs.Words.{Words, Empty, One, ◌then◌, ◌or◌, Many}
 
@@ -33,12 +32,12 @@ abbrev pub read_behind : List Words → List Token → List Words
 read_behind sets [] = sets
 read_behind sets (token ∷ tokens) = read_behind (joined token sets) tokens
 
-abbrev pub first_of : List Words → Words
-first_of [] = Empty
-first_of (words ∷ sets) = words
+abbrev pub top_of : List Words → Words
+top_of [] = Empty
+top_of (words ∷ sets) = words
 
 abbrev pub words_from : List Token → Words
-words_from tokens = first_of (read_behind [] tokens)
+words_from tokens = top_of (read_behind [] tokens)
 
 pub read_join : (sets : List Words) (a b : List Token) → read_behind sets (a ++ b) ≡ read_behind (read_behind sets a) b
 read_join sets [] b = refl
@@ -59,4 +58,4 @@ reads_back (Many words) sets =
     read_join sets (tokens_of words) (Repeated ∷ []) ∙ ap (λ (s : List Words). read_behind s (Repeated ∷ [])) (reads_back words sets)
 
 abbrev pub words_code : Coded Token → Coded Words
-words_code code = code_by (List Token) (coded_list code) tokens_of words_from (λ words. ap first_of (reads_back words []))
+words_code code = code_by (List Token) (coded_list code) tokens_of words_from (λ words. ap top_of (reads_back words []))

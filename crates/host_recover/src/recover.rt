@@ -1,7 +1,9 @@
 ghost use Rattle.std.specs.Prelude.{◌≡◌, ◌↔◌, ℕ, List, []};
+ghost use Rattle.tmc_wire.specs.declared.class_request.ClassRequest.{ClassRequest};
+ghost use Rattle.tmc_wire.specs.ControlTable.{TagFits};
 ghost use Rattle.host_recover.specs.declared.want.Want.TheVariants as want;
-ghost use Rattle.host_recover.specs.Letter.{Letter};
-ghost use Rattle.host_recover.specs.Recover.{Start, HasHeard, IsAwaited, behind, Wants, IsStuckAt, Follows};
+ghost use Rattle.host_recover.specs.Letter.{Letter, Ask};
+ghost use Rattle.host_recover.specs.Recover.{Start, Answer, HasHeard, IsAwaited, behind, Wants, IsStuckAt, Follows};
 ghost use Rattle.host_recover.specs.Stage.{awaits_of, step_of};
 ghost use Rattle.host_recover.specs.Words.{words_of};
 
@@ -50,10 +52,15 @@ impl Recover {
     /// answered with a stall since its halt was cleared last.
     pub fn next(&mut self, heard: Heard, in_halted: bool, notify_halted: bool) -> Want
         requires awaited { IsAwaited self.old.awaits heard }
+
+        // Whatever it has heard, with this its submits go on as a word does.
         ensures follows { (letters : List Letter) → HasHeard letters self.old
             → Follows (behind letters self.old.awaits heard) in_halted notify_halted result self.new }
         ensures wants { Wants self.new.ends self.new.awaits result }
         ensures stuck { (status : ℕ) → (result ≡ want.Stuck status) ↔ IsStuckAt self.old.awaits heard status }
+
+        // So a request's setup is read as this request.
+        ensures tag { (request : ClassRequest) → self.new.awaits ≡ Answer (Ask request) → TagFits request }
         ensures need { self.new.need ≡ self.old.need }
         ensures ends { self.new.ends ≡ self.old.ends }
     {
