@@ -1,5 +1,5 @@
 -- a node that is fed
-use Rattle.std.proofs.Common.{◌≡◌, ◌≢◌, ◌∙◌, ◌⊎◌, inl, inr, ℕ, ◌≤◌, Bool, true, false, not, if◌then◌else◌, List, [], ◌++◌, length, take, Option, Some, None, Result, Ok, Err, OnOk, is_err, refl, sym, ap, subst, arith}
+use Rattle.std.proofs.Common.{◌≡◌, ◌≢◌, ◌∙◌, ◌⊎◌, inl, inr, ℕ, Bool, true, false, not, if◌then◌else◌, List, [], ◌++◌, length, take, Option, Some, Result, Ok, Err, OnOk, is_err, refl, sym, ap, subst, arith}
 use Rattle.std.proofs.lemmas.List.{length-append, take-append-le, take_all}
 use Rattle.tmc_base.specs.declared.field.Field.{Field}
 use Rattle.tmc_base.specs.declared.memory.Memory.{Memory}

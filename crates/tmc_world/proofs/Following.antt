@@ -1,19 +1,19 @@
 -- the told run, and what follows it
-use Rattle.std.proofs.Common.{◌≡◌, ◌∙◌, ℕ, ◌-◌, ◌+◌, ◌≤◌, Bool, true, false, if◌then◌else◌, List, [], ◌∷◌, ◌++◌, length, take, drop, refl, sym, ap, subst, append_assoc, append-nil, arith}
-use Rattle.std.proofs.lemmas.List.{length-append, take-append-drop, take_all}
+use Rattle.std.proofs.Common.{◌≡◌, ◌∙◌, ℕ, ◌-◌, Bool, true, false, if◌then◌else◌, List, [], ◌∷◌, ◌++◌, length, take, drop, refl, sym, ap, subst, append_assoc, append-nil, arith}
+use Rattle.std.proofs.lemmas.List.{length-append, take-append-drop}
 use Rattle.std.proofs.Math.Seq.{take-append_seam, drop-append_seam}
 use Rattle.tmc_base.specs.declared.run_step.RunStep.{RunStep}
 use Rattle.tmc_base.specs.Told as told
 use Rattle.tmc_base.specs.Told.{in_bytes, out_bytes}
 use Rattle.tmc_law.specs.State.{State, start}
 use Rattle.tmc_law.specs.Put.{Put}
-use Rattle.tmc_law.specs.Run.{Entry, Runs, TakesAll, outputs, SpellAll, SpellsPut, IsFront}
+use Rattle.tmc_law.specs.Run.{TakesAll, outputs, SpellAll, SpellsPut, IsFront}
 use Rattle.tmc_law.specs.Told.{Means, Tells}
 use Rattle.usbip_export.specs.Identity.{devid}
-use Rattle.usbip_export.specs.Seen.{Seen, standing}
+use Rattle.usbip_export.specs.Seen.{standing}
 use Rattle.usbip_export.specs.TakenIn.{IsSpelled}
 use Rattle.usbip_export.specs.Serving.{Works}
-use Rattle.tmc_world.specs.Crossing.{Crossing, uncrossed, IsOpen, IsSound, before, heard, said}
+use Rattle.tmc_world.specs.Crossing.{Crossing, uncrossed, IsSound, before}
 use Rattle.tmc_world.specs.Telling.{since, told_on, told_of, Follows, IsTelling}
 use Rattle.tmc_world.proofs.Joining.{runs_more, takes_more, outputs_more, spelled_more, serves_of}
 
@@ -132,7 +132,7 @@ tells_on run now sound follows = by now.late refl where
   }
   by false is =
       let outs : out_bytes (run ++ since run now ∷ []) ≡ now.taken ++ now.node.out =
-          out_more run (since run now) ∙ (ap (λ (l : List ℕ). out_bytes run ++ l) put ∙ follows.out) in
+      out_more run (since run now) ∙ (ap (λ (l : List ℕ). out_bytes run ++ l) put ∙ follows.out) in
       record {
         sound = sound;
         follows = record {
@@ -174,10 +174,10 @@ pub tells_taken : (run : List RunStep) (old : Crossing) (count : ℕ) → old.la
 tells_taken run old count unlate telling =
     let follows = telling.follows in
     let all : (old.taken ++ take count old.node.out) ++ drop count old.node.out ≡ old.taken ++ old.node.out =
-        append_assoc old.taken (take count old.node.out) (drop count old.node.out)
-        ∙ ap (λ (l : List ℕ). old.taken ++ l) (take-append-drop count old.node.out) in
+    append_assoc old.taken (take count old.node.out) (drop count old.node.out)
+    ∙ ap (λ (l : List ℕ). old.taken ++ l) (take-append-drop count old.node.out) in
     let told : out_bytes run ≡ old.taken ++ old.node.out =
-        sym (append-nil (out_bytes run)) ∙ (ap (λ (l : List ℕ). out_bytes run ++ l) (sym (telling.none_answered unlate)) ∙ follows.out) in
+    sym (append-nil (out_bytes run)) ∙ (ap (λ (l : List ℕ). out_bytes run ++ l) (sym (telling.none_answered unlate)) ∙ follows.out) in
     record {
       sound = record { imported = telling.sound.imported; within = telling.sound.within; opened = telling.sound.opened; spelled = telling.sound.spelled };
       follows = record {

@@ -1,15 +1,15 @@
 -- a link whose node moved on, and which tells it
-use Rattle.std.proofs.Common.{◌≡◌, ◌∙◌, ℕ, Bool, true, false, List, [], ◌∷◌, ◌++◌, take, drop, Result, Ok, Err, OnOk, OnErr, is_err, refl, sym, ap, subst, append-nil}
+use Rattle.std.proofs.Common.{◌≡◌, ◌∙◌, ℕ, Bool, true, false, List, [], ◌∷◌, ◌++◌, take, Result, Ok, Err, OnErr, is_err, refl, sym, ap, subst, append-nil}
 use Rattle.tmc_base.specs.declared.memory.Memory.{Memory}
 use Rattle.tmc_base.specs.declared.run_step.RunStep.{RunStep}
 use Rattle.tmc_base.specs.Link.{Counts}
 use Rattle.tmc_law.specs.Run.{IsFront}
 use Rattle.tmc_device.specs.Seen.{is_closed}
-use Rattle.usbip_export.specs.Seen.{Seen, standing}
+use Rattle.usbip_export.specs.Seen.{standing}
 use Rattle.usbip_export.specs.Serving.{Works}
 use Rattle.tmc_world.specs.declared.pace.Pace.{Pace}
-use Rattle.tmc_world.specs.Crossing.{Crossing, uncrossed, IsOpen, IsShut, IsSound, HasFed, Hears}
-use Rattle.tmc_world.specs.Telling.{told_on, told_of, Follows, IsTelling}
+use Rattle.tmc_world.specs.Crossing.{Crossing, uncrossed, IsSound, HasFed, Hears}
+use Rattle.tmc_world.specs.Telling.{told_on, told_of, IsTelling}
 use Rattle.tmc_world.specs.LoopLink.{Looped}
 use Rattle.tmc_world.proofs.Following.{told_last, front_on, begins, follows_on, tells_on, tells_taken, taken_from}
 

@@ -1,5 +1,5 @@
 -- what a link shows of its told run, and what its calls say by their relations
-use Rattle.std.proofs.Common.{◌≡◌, ◌∙◌, ℕ, ◌<◌, ◌≤◌, min, Bool, true, false, List, [], ◌∷◌, ◌++◌, length, take, drop, inl, inr, refl, sym, ap, subst, append_assoc, append-nil, arith}
+use Rattle.std.proofs.Common.{◌≡◌, ◌∙◌, ℕ, ◌≤◌, Bool, true, false, List, [], ◌++◌, length, take, drop, inl, inr, sym, ap, subst, append_assoc, append-nil, arith}
 use Rattle.std.proofs.lemmas.List.{take-append-drop, take_all}
 use Rattle.tmc_base.specs.declared.run_step.RunStep.{RunStep}
 use Rattle.tmc_base.specs.declared.link.SendStep.{SendStep}
@@ -8,20 +8,19 @@ use Rattle.tmc_base.specs.declared.link.PollStep.{PollStep}
 use Rattle.tmc_base.specs.declared.link.PollStep.TheVariants as poll
 use Rattle.tmc_base.specs.declared.link.TendStep.{TendStep}
 use Rattle.tmc_base.specs.declared.link.TendStep.TheVariants as tend
-use Rattle.tmc_base.specs.Link.{Counts, took_count, got_count, SendsWithin, PollsWithin}
-use Rattle.tmc_base.specs.Told.{Told, Peer, WentOut, CameIn, Fits, in_bytes, out_bytes}
-use Rattle.tmc_law.specs.State.{State}
+use Rattle.tmc_base.specs.Link.{Counts, took_count, got_count, SendsWithin}
+use Rattle.tmc_base.specs.Told.{Peer, WentOut, CameIn, Fits, in_bytes, out_bytes}
 use Rattle.tmc_law.specs.Run.{Entry, Runs, IsFront}
-use Rattle.usbip_export.specs.Seen.{Seen, standing}
+use Rattle.usbip_export.specs.Seen.{standing}
 use Rattle.tmc_world.specs.declared.pace.Pace.{Pace}
 use Rattle.tmc_world.specs.declared.pace.Pace.TheVariants.{Calm, Paced}
 use Rattle.tmc_world.specs.declared.loop_act.LoopAct.{LoopAct}
 use Rattle.tmc_world.specs.declared.loop_act.LoopAct.TheVariants as act
-use Rattle.tmc_world.specs.Crossing.{Crossing, IsOpen}
+use Rattle.tmc_world.specs.Crossing.{Crossing}
 use Rattle.tmc_world.specs.Telling.{IsTelling}
-use Rattle.tmc_world.specs.Pacing.{send_room, poll_room}
+use Rattle.tmc_world.specs.Pacing.{send_room}
 use Rattle.tmc_world.proofs.Moving.{shown}
-use Rattle.tmc_world.specs.LoopLink.{Looped, IsTold, Sends, Polls, Tends, HasMoved, Readies, MayHaveMoved, PollEnds, PollBegins}
+use Rattle.tmc_world.specs.LoopLink.{Looped, IsTold, Sends, Polls, Tends, HasMoved, Readies, MayHaveMoved}
 
 pub telling_told : (pace : Pace) (send_fails poll_fails : Bool) (counts : Counts) (run : List RunStep) (now : Crossing) → IsTelling run now
     → IsTold (shown pace send_fails poll_fails counts run now)

@@ -1,6 +1,5 @@
 use Rattle.std.proofs.Common.{[]}
 use Rattle.tmc_world.specs.Telling.{told_of}
-use Rattle.tmc_device.specs.declared.drove.Drove.TheVariants as drove
 use Rattle.tmc_world.proofs.Joining.{works_then}
 use Rattle.tmc_world.proofs.Moving.{telling_same, telling_on, front_told, shown_moved}
 use Rattle.tmc_world.proofs.loop_link.LoopLink.act.Goals as goal
@@ -29,6 +28,6 @@ returns-in-Applied c =
         settles = acted.2;
         tells = front_told _ _ _ c.and-self-inside.ensures;
         is = shown_moved c.self.inside.pace c.self.inside.send_fails c.self.inside.poll_fails c.self.inside.tally (told_of [] c.self.inside.history.moments)
-          (told_of [] c.and-self-inside.result.moments) c.self.inside.line c.act.new.self c.act.ensures.is;
+            (told_of [] c.and-self-inside.result.moments) c.self.inside.line c.act.new.self c.act.ensures.is;
       });
     }

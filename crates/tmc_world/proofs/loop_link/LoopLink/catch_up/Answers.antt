@@ -9,9 +9,11 @@ invariant_of-self c =
 
 pub returns : goal.returns
 returns c =
-    record { moved = rw (← c.self.view_is) (record {
-      works = c.catch_up.ensures.works;
-      tells = front_told _ _ _ c.and-self-inside.ensures;
-      is = shown_moved c.self.inside.pace c.self.inside.send_fails c.self.inside.poll_fails c.self.inside.tally (told_of [] c.self.inside.history.moments)
-          (told_of [] c.and-self-inside.result.moments) c.self.inside.line c.catch_up.new.self c.catch_up.ensures.is;
-    }) }
+    record {
+      moved = rw (← c.self.view_is) (record {
+        works = c.catch_up.ensures.works;
+        tells = front_told _ _ _ c.and-self-inside.ensures;
+        is = shown_moved c.self.inside.pace c.self.inside.send_fails c.self.inside.poll_fails c.self.inside.tally (told_of [] c.self.inside.history.moments)
+            (told_of [] c.and-self-inside.result.moments) c.self.inside.line c.catch_up.new.self c.catch_up.ensures.is;
+      });
+    }

@@ -1,4 +1,4 @@
-use Rattle.std.proofs.Common.{◌≡◌, ◌∙◌, ◌<◌, ℕ, false, List, [], take, sym, ap, arith}
+use Rattle.std.proofs.Common.{◌∙◌, [], take, sym, ap, arith}
 use Rattle.tmc_world.specs.declared.pace.Pace.{Pace}
 use Rattle.tmc_world.specs.Pacing.{send_shut}
 use Rattle.tmc_world.specs.Telling.{told_of}
