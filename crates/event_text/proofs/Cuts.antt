@@ -1,11 +1,17 @@
 -- a text is cut at its first NL, and a bus id at its first zero
-use Rattle.std.proofs.Common.{⊎_elim, suc, ◌-◌, ◌≡◌, ℕ, ◌+◌, ◌<◌, ◌≤◌, Bool, true, false, eqb, Some, None, List, [], ◌∷◌, length, take, drop, refl, sym, ap, ◌∙◌, subst, arith}
+use Rattle.std.proofs.Common.{⊎_elim, suc, ◌-◌, ◌≡◌, ℕ, ◌+◌, ◌<◌, ◌≤◌, Bool, true, false, eqb, Option, Some, None, List, [], ◌∷◌, length, get_or, take, drop, refl, sym, ap, ◌∙◌, subst, arith}
 use Rattle.std.proofs.lemmas.Bool.{cases_lt, cond_below, cond_above}
 use Rattle.std.proofs.lemmas.List.{take_all, take_rest}
 use Rattle.std.proofs.lemmas.List.Splits.{slice_split_first}
+use Rattle.std.proofs.lemmas.List.Sums.{position_or_len_is}
 use Rattle.std.specs.List.{position_or_len, position, before_first, onto_first}
-use Rattle.event_text.specs.EventLine.{if_none}
+use Rattle.memchr.specs.Find.{IsFirstByte}
+use Rattle.event_text.specs.Script.{if_none}
 use Rattle.event_text.specs.Words.{lines_of, words_of}
+
+not_true : (b : Bool) → (b ≡ true → ⊥) → b ≡ false
+not_true true never = absurd (never refl)
+not_true false never = refl
 
 abbrev at_nl : List ℕ → ℕ
 at_nl bytes = position_or_len (λ byte. eqb byte 10) bytes
@@ -40,6 +46,20 @@ uncut_by b (d ∷ bs) false e again h =
 whole : (bytes : List ℕ) → length bytes ≤ at_nl bytes → 0 < length bytes → lines_of bytes ≡ bytes ∷ []
 whole [] h some = absurd (omega (arith, some))
 whole (b ∷ bs) h some = uncut_by b bs (eqb b 10) refl (whole bs) h
+
+-- a search for the first byte that passes answers its place
+pub place_found : (p : ℕ → Bool) (bytes : List ℕ) (place : Option ℕ) → IsFirstByte p bytes place → place ≡ position p bytes
+place_found p bytes None nowhere =
+    let all : position_or_len p bytes ≡ length bytes =
+    position_or_len_is p bytes (length bytes) 0 (omega arith) (λ k within. not_true (p (get_or bytes k 0)) (nowhere k (omega arith) within)) (λ past. absurd (omega (arith, past))) in
+    let past : length bytes ≤ position_or_len p bytes = omega (arith, all) in
+    cond_above _ _ _ _ None past refl
+place_found p bytes (Some n) (first, passes) =
+    let high : n < length bytes = first.high in
+    let at : position_or_len p bytes ≡ n =
+    position_or_len_is p bytes n 0 (omega (arith, high)) (λ k before. not_true (p (get_or bytes k 0)) (first.before k (omega arith) before)) (λ _. passes) in
+    let within : position_or_len p bytes < length bytes = omega (arith, at, high) in
+    ap Some (sym at) ∙ cond_below _ _ _ _ within
 
 -- the place of a first byte that passes
 placed : (p : ℕ → Bool) (bytes : List ℕ) (n : ℕ) → position p bytes ≡ Some n → (position_or_len p bytes ≡ n) × (n < length bytes)
