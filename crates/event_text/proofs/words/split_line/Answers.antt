@@ -1,4 +1,4 @@
-use Rattle.event_text.proofs.Cuts.{nl_none, nl_some}
+use Rattle.event_text.proofs.Cuts.{nl_some}
 use Rattle.event_text.proofs.words.split_line.Goals as goal
 
 pub returns : goal.returns
