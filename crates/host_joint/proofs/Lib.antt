@@ -49,3 +49,4 @@ mod Gone
 mod Hitting
 mod Turning
 mod AheadOf
+mod InLine

@@ -27,6 +27,7 @@ pub mod Turns
 -- examples
 pub mod WorkedAsks
 pub mod WorkedTies
+pub mod WorkedLines
 pub mod WorkedAhead
 pub mod WorkedPieces
 pub mod WorkedRecoveries
