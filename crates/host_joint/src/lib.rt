@@ -58,6 +58,7 @@ pub use worked_ahead::worked_asks_are_written_ahead;
 pub use worked_lines::{worked_lines_are_kept, worked_numbers_rise};
 pub use worked_pieces::{worked_pieces_are_asked, worked_pieces_are_read};
 pub use worked_recoveries::{
-    worked_cancels_are_recovered, worked_halts_are_recovered, worked_unlinks_tell_hits,
+    worked_cancels_are_recovered, worked_halts_are_asked, worked_halts_are_recovered,
+    worked_unlinks_tell_hits,
 };
 pub use worked_unplugging::worked_hosts_are_unplugged;
