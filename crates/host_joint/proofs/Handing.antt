@@ -18,7 +18,7 @@ use Rattle.host_joint.specs.Positions.{IsAt, rests, in_begun, out_begun, out_fir
 use Rattle.host_joint.proofs.Listing.{last_more}
 use Rattle.host_joint.proofs.Counting.{all_past, not_inner, not_final, not_unasked}
 use Rattle.host_joint.proofs.Parts.{ask_of}
-use Rattle.host_joint.proofs.Hosting.{inner_final, final_request, no_mix}
+use Rattle.host_joint.proofs.Sending.{inner_final, final_request, no_mix}
 
 -- no transfer is in progress where none is to be taken
 pub no_transfer : (shut gone : Bool) (todo : List Job) (coming : List OnWay) (queue : List Pending) (transfer : Option Transfer) → todo ≡ [] → OutLine shut gone todo coming queue transfer → transfer ≡ None

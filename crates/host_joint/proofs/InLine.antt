@@ -1,5 +1,5 @@
 -- example lists of submits, as a host keeps them
-use Rattle.std.proofs.Common.{◌≡◌, ◌≢◌, ◌∙◌, ℕ, false, true, List, [], ◌∷◌, ◌++◌, refl, sym, ap}
+use Rattle.std.proofs.Common.{◌≡◌, ◌≢◌, ℕ, List, [], ◌∷◌, ◌++◌, refl}
 use Rattle.usbip_wire.specs.declared.submit.SubmitHead.{SubmitHead}
 use Rattle.instr_plain.specs.declared.log.LogEntry.{LogEntry}
 use Rattle.instr_plain.specs.declared.log.LogEntry.TheVariants as entry
@@ -7,7 +7,7 @@ use Rattle.usbip_wire.specs.Up as up
 use Rattle.tmc_law.specs.Endpoint.{Endpoint, Control, BulkOut, BulkIn, InterruptIn}
 use Rattle.tmc_law.specs.State.{start}
 use Rattle.tmc_law.specs.WorkedQuery.{query_submit, request_submit, response_submit, query_log}
-use Rattle.tmc_law.specs.WorkedSession.{out_submit, in_submit}
+use Rattle.tmc_law.specs.WorkedSession.{out_submit}
 use Rattle.host_joint.specs.Lines.{Line, Lines, NoneNumbered}
 use Rattle.host_joint.specs.Unlinking.{AllHeads, Rising, AreApart}
 use Rattle.host_joint.specs.WorkedTies.{told_to, last_request}

@@ -12,6 +12,7 @@ mod Falling
 mod Owning
 mod Counting
 mod Hosting
+mod Sending
 mod Starting
 mod Numbered
 mod Resting

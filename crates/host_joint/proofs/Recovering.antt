@@ -23,7 +23,8 @@ use Rattle.host_joint.specs.Bond.{IsFit, Bond, Place, Resting, ToAbortIn, WantsP
 use Rattle.host_joint.proofs.Flows.{all_answered}
 use Rattle.host_joint.proofs.Booking.{submit_written}
 use Rattle.host_joint.proofs.Numbered.{rises_written}
-use Rattle.host_joint.proofs.Hosting.{sent-append, own_event}
+use Rattle.host_joint.proofs.Hosting.{own_event}
+use Rattle.host_joint.proofs.Sending.{sent-append}
 use Rattle.host_joint.proofs.Resting.{rests_closed, in_begun_closed, in_wants_closed, in_ended_closed, out_begun_closed, out_first_closed, out_unfinished_closed, out_aborted_closed, anything_closed, clears_closed, cleared_closed}
 use Rattle.host_joint.proofs.Tying.{TieLaws, none_unlinked}
 use Rattle.host_joint.proofs.Writing.{own_asked, other_asked, fitting_more}

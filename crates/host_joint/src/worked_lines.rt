@@ -26,8 +26,8 @@ use crate::{
     no_submit_is_refused, nothing_comes_unasked, what_is_answered_is_over, what_ran_is_kept,
     worked_pieces_are_asked, worked_pieces_are_read,
 };
-use tmc_law::worked::a_query_is_answered;
 use tmc_law::runs_join;
+use tmc_law::worked::a_query_is_answered;
 
 /// The submits of a query are in line from where the host wrote them, and its last answer leaves none. The read of a piece is, until Bulk-IN
 /// halts and its answer was taken. A host that still lists the submits of a query, though no answer is on its way, is in line

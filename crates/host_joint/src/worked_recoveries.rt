@@ -23,9 +23,10 @@ ghost use Rattle.host_joint.specs.Positions.{IsAt, in_begun};
 ghost use Rattle.host_joint.specs.WorkedRecoveries.{reading_rest, halting_second, halted_inside, aborting_none, freeing, usable_again, clearing_halted, checking_clear, freeing_out, freeing_in, cleared_log, cleared_at_last, cancelling_second, cancelled_inside, aborting_second, draining, checking_second};
 
 use crate::{
-    answers_are_taken, asking_stays, asks_hand_over, bonds_stay, cancelled_answers_are_taken, cancelled_asks_own, cancels_begin, recoveries_end, messages_are_written, what_is_read_is_owned, worked_pieces_are_asked,
-    recoveries_go_on, unlinks_tell_hits, worked_cancels_are_bound, worked_pieces_are_read,
-    writes_keep_ties,
+    answers_are_taken, asking_stays, asks_hand_over, bonds_stay, cancelled_answers_are_taken,
+    cancelled_asks_own, cancels_begin, messages_are_written, recoveries_end, recoveries_go_on,
+    unlinks_tell_hits, what_is_read_is_owned, worked_cancels_are_bound, worked_pieces_are_asked,
+    worked_pieces_are_read, writes_keep_ties,
 };
 use tmc_law::runs_join;
 

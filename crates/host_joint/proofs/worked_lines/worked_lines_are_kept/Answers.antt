@@ -11,7 +11,6 @@ use Rattle.host_joint.specs.WorkedAsks.{query_asked}
 use Rattle.host_joint.specs.WorkedLines.{none_asked, one_asked}
 use Rattle.host_joint.specs.WorkedPieces.{requesting_first, giving_first, requesting_second, requested_second}
 use Rattle.host_joint.specs.WorkedRecoveries.{halting_second, halted_inside}
-use Rattle.host_joint.specs.WorkedTies.{told_to}
 use Rattle.host_joint.proofs.Examples.{query_fits}
 use Rattle.host_joint.proofs.Stopping.{halts_second}
 use Rattle.host_joint.proofs.InLine.{query_one, query_two, request_left, response_left, first_others, second_others, third_others, request_others, response_others, none_others, one_others, none_pending, rest_of, forgotten}
@@ -32,9 +31,9 @@ pub returns-clause-over : goal.returns-clause-over
 returns-clause-over c =
     let one = c.hosts_keep_lines.ensures.answer query_asked [] [] query_submit (record { seqnum = 1; status = success; actual = 20 }) [] (answered request_submit success 12 [] ∷ answered response_submit success 32 response_text ∷ []) (record start { log = query_log }) BulkOut refl (returns-clause-answered c) in
     let two = c.hosts_keep_lines.ensures.answer request_left [] [] request_submit (record { seqnum = 2; status = success; actual = 12 }) [] (answered response_submit success 32 response_text ∷ []) (record start { log = query_log }) BulkOut refl
-        (one.2 request_left (rest_of query_submit (request_submit ∷ []) one.0 one.1) request_others) in
+    (one.2 request_left (rest_of query_submit (request_submit ∷ []) one.0 one.1) request_others) in
     let three = c.hosts_keep_lines.ensures.answer response_left [] [] response_submit (record { seqnum = 3; status = success; actual = 32 }) response_text [] (record start { log = query_log }) BulkIn refl
-        (two.2 response_left (rest_of request_submit [] two.0 two.1) response_others) in
+    (two.2 response_left (rest_of request_submit [] two.0 two.1) response_others) in
     let over = three.2 none_asked (rest_of response_submit [] three.0 three.1) none_others in
     (over, c.what_is_answered_is_over.ensures none_asked BulkIn [] [] (record start { log = query_log }) over refl)
 

@@ -1,15 +1,14 @@
-use Rattle.std.proofs.Common.{◌≡◌, ◌≢◌, ◌∙◌, ℕ, Bool, List, true, false, Some, None, [], ◌∷◌, ◌++◌, refl, sym, subst, lit<, lit≤}
-use Rattle.usbip_wire.specs.Up as up
+use Rattle.std.proofs.Common.{◌≡◌, Bool, List, true, false, [], ◌∷◌, refl, subst, lit<, lit≤}
 use Rattle.instr_plain.specs.declared.log.LogEntry.{LogEntry}
 use Rattle.tmc_law.specs.Endpoint.{BulkOut, BulkIn}
 use Rattle.tmc_law.specs.State.{is_halted}
 use Rattle.tmc_law.specs.Put.{success, stalled}
-use Rattle.tmc_law.specs.Step.{Move, Answer, Begin, Halt}
+use Rattle.tmc_law.specs.Step.{Answer, Begin, Halt}
 use Rattle.tmc_law.specs.WorkedQuery.{identity}
 use Rattle.tmc_law.specs.WorkedParts.{spaced}
 use Rattle.tmc_law.specs.WorkedSession.{out_submit, in_submit, answered}
 use Rattle.host_joint.specs.Stage.{NoExec}
-use Rattle.host_joint.specs.WorkedPieces.{requested_second, behind_second, first_data, second_piece, second_log, next_job, asked_with}
+use Rattle.host_joint.specs.WorkedPieces.{requested_second, behind_second, first_data, second_piece, next_job, asked_with}
 use Rattle.host_joint.specs.WorkedRecoveries.{clear_submit, halted_inside}
 use Rattle.host_joint.specs.WorkedTies.{told_to, last_request}
 use Rattle.host_joint.proofs.Stopping.{with_control, clears_second, clear_answers}

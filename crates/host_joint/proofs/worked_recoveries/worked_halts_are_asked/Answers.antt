@@ -1,11 +1,8 @@
-use Rattle.std.proofs.Common.{◌≡◌, [], ◌∷◌, ◌++◌, refl}
+use Rattle.std.proofs.Common.{[], ◌∷◌, ◌++◌, refl}
 use Rattle.tmc_law.specs.Endpoint.{BulkIn}
-use Rattle.tmc_law.specs.Put.{success, stalled}
+use Rattle.tmc_law.specs.Put.{stalled}
 use Rattle.tmc_law.specs.WorkedParts.{sending_parts}
 use Rattle.tmc_law.specs.WorkedSession.{in_submit}
-use Rattle.host_joint.specs.Lines.{Gives}
-use Rattle.host_joint.specs.Asking.{Asking}
-use Rattle.host_joint.specs.Hosted.{InAnswered, TookFull, TookEnd, TookHalt}
 use Rattle.host_joint.specs.WorkedPieces.{first_data, requesting_first, giving_first, requesting_second, requested_second, next_job, asked_with}
 use Rattle.host_joint.specs.WorkedRecoveries.{halting_second, halted_inside}
 use Rattle.host_joint.proofs.Stopping.{halts_second}
@@ -21,7 +18,7 @@ returns-clause-halted c =
 pub returns-clause-taken : goal.returns-clause-taken
 returns-clause-taken c =
     let asks = not_answered (asked_with 4 (next_job ∷ []) 1 first_data) [] (in_submit 6 4096) (record { seqnum = 6; status = stalled; actual = 0 }) [] [] halted_inside refl
-        (c.answers_are_taken.ensures.ins (asked_with 4 (next_job ∷ []) 1 first_data) [] (in_submit 6 4096) (record { seqnum = 6; status = stalled; actual = 0 }) [] [] halted_inside refl (returns-clause-halted c)) in
+    (c.answers_are_taken.ensures.ins (asked_with 4 (next_job ∷ []) 1 first_data) [] (in_submit 6 4096) (record { seqnum = 6; status = stalled; actual = 0 }) [] [] halted_inside refl (returns-clause-halted c)) in
     (asks, c.what_is_read_is_owned.ensures.in_hand (asked_with 4 (next_job ∷ []) 1 first_data) [] [] halted_inside asks)
 
 pub returns-clause-left : goal.returns-clause-left
