@@ -51,3 +51,4 @@ mod Hitting
 mod Turning
 mod AheadOf
 mod InLine
+mod Operating

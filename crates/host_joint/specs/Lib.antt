@@ -20,6 +20,7 @@ pub mod Tie
 -- a host that cancels, and recovers
 pub mod Bond
 -- both over a link
+pub mod Remotes
 pub mod Joint
 pub mod Unplugged
 pub mod Hits
