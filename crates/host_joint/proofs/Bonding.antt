@@ -128,7 +128,7 @@ plugged_of : (move : Move) → move ≢ Unplug → IsPlugged move
 plugged_of Unplug h = h refl
 plugged_of _ h = tt
 
-control_only : (head : SubmitHead) (ups : List up.Message) (downs : List Put) (s : State) → head.ep ≡ 0 → Lines (asked_of (Some head)) [] ups downs s → NoBulk ups
+pub control_only : (head : SubmitHead) (ups : List up.Message) (downs : List Put) (s : State) → head.ep ≡ 0 → Lines (asked_of (Some head)) [] ups downs s → NoBulk ups
 control_only head ups downs s own lines = record {
   outs = (empty_at (asked_of (Some head)) ups downs s BulkOut lines (other_asked Control BulkOut head own (λ e. cc))).sent;
   ins = (empty_at (asked_of (Some head)) ups downs s BulkIn lines (other_asked Control BulkIn head own (λ e. cc))).sent;

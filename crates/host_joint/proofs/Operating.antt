@@ -21,15 +21,28 @@ use Rattle.tmc_law.specs.Control.{Asks, control_answer}
 use Rattle.tmc_law.specs.Aborts.{Served}
 use Rattle.tmc_law.specs.LogStep.{MayLog, Adds, LogsNothing, LogsOne}
 use Rattle.tmc_law.specs.Step.{Move, Comes, Refuses, Take, Exec, Begin, Fill, Answer, Pend, Poll, Notify, Halt, Unplug, Leads}
-use Rattle.tmc_law.specs.Run.{taken}
+use Rattle.tmc_law.specs.Run.{Entry, Runs, taken, inputs, outputs}
 use Rattle.host_joint.specs.Lines.{Sent, sent_to, Event, Gives, events_of, unlinks_in, Fitting, AllFitting}
 use Rattle.host_joint.specs.Positions.{IsAt, rests}
 use Rattle.host_joint.specs.Requests.{NoBulk, IsPlugged, IsClass}
 use Rattle.host_joint.specs.Remotes.{request_of, NoAct, NoneSince, OneSince, ActAt, ActComes, ActPends, ActDone}
+use Rattle.host_joint.specs.Lines.{InOrder}
+use Rattle.host_joint.specs.Asking.{StaysPlugged}
+use Rattle.host_joint.specs.Hand.{Free}
+use Rattle.host_joint.specs.Tie.{Tie, asked_of}
+use Rattle.host_joint.specs.Bond.{Bond, Bound, Holds, Stands, Resting}
+use Rattle.host_joint.specs.Remotes.{Operating}
 use Rattle.host_joint.proofs.Queues.{IsSound}
+use Rattle.host_joint.proofs.Running.{sound}
+use Rattle.host_joint.proofs.Tying.{TieLaws}
+use Rattle.host_joint.proofs.Bonding.{Keeps, bond_run, none_linked, control_only}
+use Rattle.host_joint.proofs.Cancelling.{empty, after, same_head, good_fits}
+use Rattle.host_joint.proofs.Recovering.{write, coming, no_event, one_event}
+use Rattle.host_joint.proofs.Hosting.{own_event}
+use Rattle.host_joint.proofs.Joining.{IsKept, Never, plugged-append, plugged_front, rising_asked, apart_asked, few_total}
 use Rattle.host_joint.proofs.Flows.{events-append}
 use Rattle.host_joint.proofs.Resting.{LeavesControl, rest_goes, rest_is, none_first, no_take, no_fill, rests_closed}
-use Rattle.host_joint.proofs.Requesting.{OnlyClass, Apart, Came, CameHere, CameElsewhere, came, executes, begins, notifies, halts_itself, events_same, one_sent, no_sent, one_pending, answer_event, no_answer, no_pend, no_first_poll}
+use Rattle.host_joint.proofs.Requesting.{Meaning, only_class, OnlyClass, Apart, Came, CameHere, CameElsewhere, came, executes, begins, notifies, halts_itself, events_same, one_sent, no_sent, one_pending, answer_event, no_answer, no_pend, no_first_poll}
 
 -- ---- what is logged meanwhile
 
@@ -221,3 +234,81 @@ act_goes a since head downs puts ups s t Poll is sound none fit plugged h adds (
 act_goes a since head downs puts ups s t Notify is sound none fit plugged h adds at = stays a since head _ _ downs puts ups s t Notify none tt h (others s t Notify (λ e. cc) adds) (notifies s t puts sound h) refl at
 act_goes a since head downs puts ups s t (Halt e) is sound none fit plugged h adds at = stays a since head _ _ downs puts ups s t (Halt e) none tt h (others s t (Halt e) (λ e. cc) adds) (halts_itself s t e puts sound h) refl at
 act_goes a since head downs puts ups s t Unplug is sound none fit plugged h adds at = absurd plugged
+
+-- ---- the tie
+
+plugged_of : (move : Move) → move ≢ Unplug → IsPlugged move
+plugged_of Unplug h = h refl
+plugged_of _ h = tt
+
+pub act_keeps : (laws : TieLaws) (meaning : Meaning) (a : RemoteAct) (since : List LogEntry) (head : SubmitHead) → IsClass head (request_of a)
+    → Keeps (λ ups downs s. ActAt a since head (sent_to Control ups) (events_of Control downs) s) (asked_of (Some head)) []
+act_keeps laws meaning a since head is run s t move ups downs puts reached step plugged fit order lines at =
+    act_goes a since head downs puts ups s t move (only_class meaning head (request_of a) is) (sound laws.ask run s reached) (control_only head (taken move ++ ups) downs s is.number lines) fit (plugged_of move plugged) step.leads
+    (laws.logs s t move puts step) at
+
+pub act_run : (laws : TieLaws) (meaning : Meaning) (a : RemoteAct) (since : List LogEntry) (head : SubmitHead) (run : List Entry) (next : ℕ) (ups : List up.Message) (downs : List Put) (s t : State)
+    → Runs s run t → StaysPlugged run → Operating a since head next (inputs run ++ ups) downs s → Operating a since head next ups (downs ++ outputs run) t
+act_run laws meaning a since head run next ups downs s t goes plugged o =
+    record { asks = o.asks; bond = bond_run laws _ (asked_of (Some head)) [] (act_keeps laws meaning a since head o.asks) run next ups downs s t goes plugged o.bond }
+
+since_now : (log : List LogEntry) → NoneSince log log
+since_now log = record { more = []; whole = sym (append-nil log); none = tt }
+
+pub act_begins : (a : RemoteAct) (head : SubmitHead) (next : ℕ) (ups : List up.Message) (downs : List Put) (s : State) → IsClass head (request_of a) → Fitting head → head.seqnum ≡ next → Bound (Stands Resting) None [] next ups downs s
+    → Operating a s.log head (next + 1) (ups ++ up.Submit head [] ∷ []) downs s
+act_begins a head next ups downs s is fits number bound =
+    let line = empty _ next ups downs s Control bound.bond in
+    record {
+      asks = is;
+      bond = write (Holds (Stands Resting)) (λ ups downs t. ActAt a s.log head (sent_to Control ups) (events_of Control downs) t) head next ups downs s Control fits is.number number bound.bond
+          (ActComes (coming Control head ups is.number line.sent) line.events line.queue bound.bond.held (since_now s.log));
+    }
+
+done_at : (a : RemoteAct) (since : List LogEntry) (head : SubmitHead) (b : RetSubmitHead) (transferred : List ℕ) (ups : List up.Message) (downs : List Put) (s : State) → head.ep ≡ 0
+    → ActAt a since head (sent_to Control ups) (events_of Control (Submitted head b transferred ∷ downs)) s
+    → (b ≡ record { seqnum = head.seqnum; status = success; actual = 1 }) × (transferred ≡ STATUS_SUCCESS ∷ []) × OneSince a since s.log × IsAt rests s
+done_at a since head b transferred ups downs s own (ActComes come none free rest nothing) = no_event _ _ (sym (own_event Control head b transferred downs own) ∙ none)
+done_at a since head b transferred ups downs s own (ActPends come none pends rest nothing) = no_event _ _ (sym (own_event Control head b transferred downs own) ∙ none)
+done_at a since head b transferred ups downs s own (ActDone come one free rest logged) =
+    let same = one_event head head b _ transferred (STATUS_SUCCESS ∷ []) _ (sym (own_event Control head b transferred downs own) ∙ one) in
+    (same.0, same.1, logged, rest)
+
+pub act_answered : (a : RemoteAct) (since : List LogEntry) (head : SubmitHead) (next : ℕ) (asked : SubmitHead) (b : RetSubmitHead) (transferred : List ℕ) (ups : List up.Message) (downs : List Put) (s : State)
+    → Operating a since head next ups (Submitted asked b transferred ∷ downs) s
+    → (asked ≡ head) × (b ≡ record { seqnum = head.seqnum; status = success; actual = 1 }) × (transferred ≡ STATUS_SUCCESS ∷ []) × OneSince a since s.log × Bound (Stands Resting) None [] next ups downs s
+act_answered a since head next asked b transferred ups downs s o =
+    let same = same_head _ head asked b transferred [] next ups downs s o.bond in
+    let own : Bond (λ ups downs s. ActAt a since head (sent_to Control ups) (events_of Control downs) s) (asked_of (Some head)) [] next ups (Submitted head b transferred ∷ downs) s =
+    subst (λ (x : SubmitHead). Bond (λ ups downs s. ActAt a since head (sent_to Control ups) (events_of Control downs) s) (asked_of (Some head)) [] next ups (Submitted x b transferred ∷ downs) s) same o.bond in
+    let over = done_at a since head b transferred ups downs s o.asks.number own.held in
+    (same, over.0, over.1, over.2, record { bond = after _ (Holds (Stands Resting)) head b transferred [] next ups downs s own over.3; awaited = (refl, refl) })
+
+pub stands : (next : ℕ) (ups : List up.Message) (downs : List Put) (s : State) → Tie Free None next ups downs s → Bound (Stands Resting) None [] next ups downs s
+stands next ups downs s tie = record {
+  bond = record {
+    run = tie.run;
+    reached = tie.reached;
+    lines = tie.lines;
+    fitting = tie.fitting;
+    order = in_order ups (none_linked (asked_of None) ups downs s tie.lines);
+    fits = good_fits downs tie.good;
+    rises = tie.rises;
+    below = tie.below;
+    held = tie.held.1;
+  };
+  awaited = (refl, refl);
+}
+  where
+    in_order : (l : List up.Message) → unlinks_in l ≡ [] → InOrder l
+    in_order [] none = tt
+    in_order (up.Submit x transferred ∷ l) none = in_order l none
+    in_order (up.Unlink x ∷ l) none = absurd (cc)
+
+pub act_kept : (laws : TieLaws) (meaning : Meaning) → Never → (a : RemoteAct) (since : List LogEntry) (head : SubmitHead) (next : ℕ) → IsKept StaysPlugged (λ ups downs t. Operating a since head next ups downs t)
+act_kept laws meaning never a since head next = record {
+  kind = record { more = plugged-append; front = plugged_front };
+  goes = λ run ups downs s t goes plugged o. act_run laws meaning a since head run next ups downs s t goes plugged o;
+  taken = λ x transferred ups downs s f o over.
+      never (asked_of (Some head)) [] x transferred ups downs s f o.bond.fitting.0 (record { rising = rising_asked (Some head); apart = apart_asked (Some head) }) (few_total (Some head)) o.bond.lines over;
+}

@@ -92,7 +92,7 @@ order_more [] head bytes none = tt
 order_more (up.Submit x transferred ∷ ups) head bytes none = order_more ups head bytes none
 order_more (up.Unlink x ∷ ups) head bytes none = absurd (cc)
 
-write : (Before After : List up.Message → List Put → State → Type 0) (head : SubmitHead) (next : ℕ) (ups : List up.Message) (downs : List Put) (s : State) (e : Endpoint) → Fitting head → head.ep ≡ number_of e → head.seqnum ≡ next
+pub write : (Before After : List up.Message → List Put → State → Type 0) (head : SubmitHead) (next : ℕ) (ups : List up.Message) (downs : List Put) (s : State) (e : Endpoint) → Fitting head → head.ep ≡ number_of e → head.seqnum ≡ next
     → Bond Before (asked_of None) [] next ups downs s → After (ups ++ up.Submit head [] ∷ []) downs s → Bond After (asked_of (Some head)) [] (next + 1) (ups ++ up.Submit head [] ∷ []) downs s
 write Before After head next ups downs s e fits number is bond held =
     subst (λ (n : ℕ). Bond After (asked_of (Some head)) [] (n + 1) (ups ++ up.Submit head [] ∷ []) downs s) is
@@ -115,7 +115,7 @@ write Before After head next ups downs s e fits number is bond held =
           held = held;
         }
 
-coming : (e : Endpoint) (head : SubmitHead) (ups : List up.Message) → head.ep ≡ number_of e → sent_to e ups ≡ [] → sent_to e (ups ++ up.Submit head [] ∷ []) ≡ record { head = head; transferred = [] } ∷ []
+pub coming : (e : Endpoint) (head : SubmitHead) (ups : List up.Message) → head.ep ≡ number_of e → sent_to e ups ≡ [] → sent_to e (ups ++ up.Submit head [] ∷ []) ≡ record { head = head; transferred = [] } ∷ []
 coming e head ups is none =
     let one : sent_to e (up.Submit head [] ∷ []) ≡ record { head = head; transferred = [] } ∷ [] = rw (eq-eqb head.ep (number_of e) is) refl in
     sent-append e ups (up.Submit head [] ∷ []) ∙ ap (λ (l : List Sent). l ++ sent_to e (up.Submit head [] ∷ [])) none ∙ one
@@ -154,10 +154,10 @@ drain_written head next ups downs s is number bound =
 
 -- ---- its answer is taken
 
-no_event : {B : Type 0} (x : Event) (l : List Event) → x ∷ l ≡ [] → B
+pub no_event : {B : Type 0} (x : Event) (l : List Event) → x ∷ l ≡ [] → B
 no_event x l e = absurd (cc)
 
-one_event : (head other : SubmitHead) (a b : RetSubmitHead) (x y : List ℕ) (l : List Event) → Gives head a x ∷ l ≡ Gives other b y ∷ [] → (a ≡ b) × (x ≡ y)
+pub one_event : (head other : SubmitHead) (a b : RetSubmitHead) (x y : List ℕ) (l : List Event) → Gives head a x ∷ l ≡ Gives other b y ∷ [] → (a ≡ b) × (x ≡ y)
 one_event head other a b x y l e = (cc, cc)
 
 -- where an answer leaves the device is the place that its letter names

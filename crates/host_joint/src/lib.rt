@@ -15,6 +15,7 @@ mod lines;
 mod numbers;
 mod owned;
 mod recovery;
+mod remotes;
 mod ties;
 mod turns;
 mod unplugged;
@@ -43,6 +44,7 @@ pub use lines::{hosts_keep_lines, lines_stay, what_is_answered_is_over};
 pub use numbers::{new_numbers_are_unused, new_numbers_rise, what_ran_is_kept, what_ran_is_one};
 pub use owned::what_is_read_is_owned;
 pub use recovery::{asks_hand_over, devices_rest, drains_stay, requests_stay};
+pub use remotes::remote_tickets_are_tied;
 pub use ties::{
     answers_are_the_expected, pieces_have_no_fault, tickets_end, ties_begin, ties_own, ties_stay,
     writes_keep_ties,
