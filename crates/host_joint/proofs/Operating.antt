@@ -1,5 +1,5 @@
 -- the request of a remote ticket, under each step
-use Rattle.std.proofs.Common.{◌≡◌, ◌≢◌, ◌∙◌, ◌⊎◌, inl, inr, ℕ, ◌+◌, true, false, Some, None, List, [], ◌∷◌, ◌++◌, refl, ap, sym, subst, append_assoc, append-nil, length}
+use Rattle.std.proofs.Common.{◌≡◌, ◌≢◌, ◌∙◌, ℕ, ◌+◌, Some, None, List, [], ◌∷◌, ◌++◌, refl, ap, sym, subst, append_assoc, append-nil, length}
 use Rattle.usbip_wire.specs.declared.submit.SubmitHead.{SubmitHead}
 use Rattle.usbip_wire.specs.declared.ret_submit.RetSubmitHead.{RetSubmitHead}
 use Rattle.usbip_wire.specs.Up as up
@@ -12,8 +12,8 @@ use Rattle.instr_plain.specs.declared.log.LogEntry.{LogEntry}
 use Rattle.instr_plain.specs.declared.log.LogEntry.TheVariants as entry
 use Rattle.instr_plain.specs.declared.remote.RemoteAct.{RemoteAct}
 use Rattle.instr_plain.specs.declared.remote.RemoteAct.TheVariants as act
-use Rattle.tmc_law.specs.Endpoint.{Endpoint, Control, BulkOut, BulkIn}
-use Rattle.tmc_law.specs.State.{State, Pending, Running, Nothing, start, arrived}
+use Rattle.tmc_law.specs.Endpoint.{Control}
+use Rattle.tmc_law.specs.State.{State, Pending, Running, Nothing, arrived}
 use Rattle.tmc_law.specs.Put.{Put, Submitted, success}
 use Rattle.tmc_law.specs.Class as class
 use Rattle.tmc_law.specs.Class.{Serves, StaysPending, Operates}
@@ -22,7 +22,7 @@ use Rattle.tmc_law.specs.Aborts.{Served}
 use Rattle.tmc_law.specs.LogStep.{MayLog, Adds, LogsNothing, LogsOne}
 use Rattle.tmc_law.specs.Step.{Move, Comes, Refuses, Take, Exec, Begin, Fill, Answer, Pend, Poll, Notify, Halt, Unplug, Leads}
 use Rattle.tmc_law.specs.Run.{Entry, Runs, taken, inputs, outputs}
-use Rattle.host_joint.specs.Lines.{Sent, sent_to, Event, Gives, events_of, unlinks_in, Fitting, AllFitting}
+use Rattle.host_joint.specs.Lines.{Sent, sent_to, Event, events_of, unlinks_in, Fitting, AllFitting}
 use Rattle.host_joint.specs.Positions.{IsAt, rests}
 use Rattle.host_joint.specs.Requests.{NoBulk, IsPlugged, IsClass}
 use Rattle.host_joint.specs.Remotes.{request_of, NoAct, NoneSince, OneSince, ActAt, ActComes, ActPends, ActDone}
@@ -41,7 +41,7 @@ use Rattle.host_joint.proofs.Recovering.{write, coming, no_event, one_event}
 use Rattle.host_joint.proofs.Hosting.{own_event}
 use Rattle.host_joint.proofs.Joining.{IsKept, Never, plugged-append, plugged_front, rising_asked, apart_asked, few_total}
 use Rattle.host_joint.proofs.Flows.{events-append}
-use Rattle.host_joint.proofs.Resting.{LeavesControl, rest_goes, rest_is, none_first, no_take, no_fill, rests_closed}
+use Rattle.host_joint.proofs.Resting.{LeavesControl, rest_goes, rest_is, no_take, no_fill, rests_closed}
 use Rattle.host_joint.proofs.Requesting.{Meaning, only_class, OnlyClass, Apart, Came, CameHere, CameElsewhere, came, executes, begins, notifies, halts_itself, events_same, one_sent, no_sent, one_pending, answer_event, no_answer, no_pend, no_first_poll}
 
 -- ---- what is logged meanwhile
@@ -156,7 +156,7 @@ done : (a : RemoteAct) (since : List LogEntry) (head : SubmitHead) (coming : Lis
 done a since head coming downs puts setup s t served is asks (class.DoesOperate w logs made) put to come empty rest nothing =
     let layout : served.layout ≡ STATUS_SUCCESS ∷ [] = ap (λ (v : Served). v.layout) made in
     let alone : puts ≡ control_answer (arrived head []) setup (STATUS_SUCCESS ∷ []) ∷ [] =
-        put ∙ ap (λ (v : Served). control_answer (arrived head []) setup v.layout ∷ v.behind) made in
+    put ∙ ap (λ (v : Served). control_answer (arrived head []) setup v.layout ∷ v.behind) made in
     let w_is : t ≡ w = to ∙ ap (λ (v : Served). v.state) made in
     ActDone come
     (events-append Control downs puts ∙ ap (λ (l : List Event). l ++ events_of Control puts) empty ∙ ap (λ (p : List Put). events_of Control p) alone

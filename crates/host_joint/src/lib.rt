@@ -24,6 +24,7 @@ mod worked_ahead;
 mod worked_lines;
 mod worked_pieces;
 mod worked_recoveries;
+mod worked_remotes;
 mod worked_unplugging;
 
 pub use accepted::{asks_halt_nothing, no_submit_is_refused};
@@ -63,4 +64,5 @@ pub use worked_recoveries::{
     worked_cancels_are_recovered, worked_halts_are_asked, worked_halts_are_recovered,
     worked_unlinks_tell_hits,
 };
+pub use worked_remotes::worked_remote_tickets_are_tied;
 pub use worked_unplugging::worked_hosts_are_unplugged;
