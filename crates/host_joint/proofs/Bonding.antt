@@ -115,7 +115,7 @@ read_keeps laws last message sofar asked unlinks unlinking run s t move ups down
   some = h.some;
 }
 
-empty_at : (asked : Endpoint → List SubmitHead) (ups : List up.Message) (downs : List Put) (s : State) (e : Endpoint) → Lines asked [] ups downs s → asked e ≡ [] → EmptyLine e ups downs s
+pub empty_at : (asked : Endpoint → List SubmitHead) (ups : List up.Message) (downs : List Put) (s : State) (e : Endpoint) → Lines asked [] ups downs s → asked e ≡ [] → EmptyLine e ups downs s
 empty_at asked ups downs s e lines none = all_answered asked e ups downs s lines none
 
 pub stands_keeps : (position : Position) → IsClosed position → Keeps (λ ups downs s. IsAt position s) (asked_of None) []

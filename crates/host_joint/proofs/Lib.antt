@@ -52,3 +52,4 @@ mod Turning
 mod AheadOf
 mod InLine
 mod Operating
+mod Triggering

@@ -21,6 +21,7 @@ pub mod Tie
 pub mod Bond
 -- both over a link
 pub mod Remotes
+pub mod Triggers
 pub mod Joint
 pub mod Unplugged
 pub mod Hits
