@@ -53,3 +53,4 @@ mod AheadOf
 mod InLine
 mod Operating
 mod Triggering
+mod TriggerTied

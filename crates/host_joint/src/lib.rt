@@ -17,6 +17,7 @@ mod owned;
 mod recovery;
 mod remotes;
 mod ties;
+mod triggers;
 mod turns;
 mod unplugged;
 mod worked;
@@ -50,6 +51,7 @@ pub use ties::{
     answers_are_the_expected, pieces_have_no_fault, tickets_end, ties_begin, ties_own, ties_stay,
     writes_keep_ties,
 };
+pub use triggers::trigger_tickets_are_tied;
 pub use turns::{answers_come_in_turn, asks_ahead_hand_over};
 pub use unplugged::{
     answers_come_until_unplugged, hosts_go_on_until_unplugged, joints_stay_until_unplugged,
