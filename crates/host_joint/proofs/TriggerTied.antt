@@ -1,15 +1,14 @@
 -- a host whose trigger is not answered is tied to a lawful device
-use Rattle.std.proofs.Common.{◌≡◌, ◌≢◌, ◌∙◌, ◌⊎◌, inl, inr, ℕ, ◌+◌, true, false, Some, None, List, [], ◌∷◌, ◌++◌, refl, ap, sym, subst, arith}
+use Rattle.std.proofs.Common.{◌≡◌, ◌∙◌, ◌⊎◌, inl, inr, ℕ, ◌+◌, true, Some, None, List, [], ◌∷◌, ◌++◌, refl, ap, sym, subst}
 use Rattle.std.proofs.lemmas.Bool.{eq-eqb}
 use Rattle.usbip_wire.specs.declared.submit.SubmitHead.{SubmitHead}
 use Rattle.usbip_wire.specs.declared.ret_submit.RetSubmitHead.{RetSubmitHead}
 use Rattle.usbip_wire.specs.Up as up
-use Rattle.tmc_law.specs.Endpoint.{Endpoint, Control, BulkOut, BulkIn, InterruptIn, number_of}
+use Rattle.tmc_law.specs.Endpoint.{Control, BulkOut, BulkIn, InterruptIn}
 use Rattle.tmc_law.specs.State.{State}
 use Rattle.tmc_law.specs.Put.{Put, Submitted, success, stalled}
-use Rattle.tmc_law.specs.Step.{Move, Unplug}
 use Rattle.tmc_law.specs.Run.{Entry, Runs, taken, inputs, outputs}
-use Rattle.host_joint.specs.Lines.{Sent, sent_to, Event, Gives, events_of, Lines}
+use Rattle.host_joint.specs.Lines.{Sent, sent_to, events_of, Lines}
 use Rattle.host_joint.specs.Jobs.{Job}
 use Rattle.host_joint.specs.Asking.{StaysPlugged}
 use Rattle.host_joint.specs.Positions.{IsAt, rests}

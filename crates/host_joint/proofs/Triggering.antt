@@ -1,8 +1,7 @@
 -- the transfer of a trigger ticket, under each step
-use Rattle.std.proofs.Common.{◌≡◌, ◌≢◌, ◌∙◌, ◌⊎◌, inl, inr, ℕ, ◌+◌, ◌*◌, ◌<◌, ◌≤◌, Bool, true, false, Option, Some, None, List, [], ◌∷◌, ◌++◌, length, take, drop, slice_index, refl, ap, sym, subst, append_assoc, append-nil, take_all, arith}
+use Rattle.std.proofs.Common.{◌≡◌, ◌≢◌, ◌∙◌, ℕ, ◌*◌, ◌≤◌, Bool, true, false, None, List, [], ◌∷◌, ◌++◌, length, take, drop, slice_index, refl, ap, sym, subst, append_assoc, take_all, arith}
 use Rattle.std.proofs.lemmas.Bool.{eq-eqb}
 use Rattle.usbip_wire.specs.declared.submit.SubmitHead.{SubmitHead}
-use Rattle.usbip_wire.specs.declared.ret_submit.RetSubmitHead.{RetSubmitHead}
 use Rattle.usbip_wire.specs.declared.urb.Dir.{Dir}
 use Rattle.usbip_wire.specs.declared.urb.Dir.TheVariants.{In, Out}
 use Rattle.usbip_wire.specs.Up as up
@@ -12,8 +11,8 @@ use Rattle.tmc_wire.specs.Transfer.{data_size}
 use Rattle.instr_plain.specs.declared.log.LogEntry.{LogEntry}
 use Rattle.instr_plain.specs.declared.log.LogEntry.TheVariants as entry
 use Rattle.tmc_law.specs.Endpoint.{Endpoint, Control, BulkOut, BulkIn, InterruptIn, number_of, way_of, packet_size}
-use Rattle.tmc_law.specs.State.{State, Pending, Transfer, Idle, Owed, Nothing, arrived, start, is_halted, transfer_size}
-use Rattle.tmc_law.specs.Put.{Put, Submitted, answer_of, ended, success, stalled, returned}
+use Rattle.tmc_law.specs.State.{State, Pending, Transfer, Idle, Owed, Nothing, arrived, transfer_size}
+use Rattle.tmc_law.specs.Put.{Put, answer_of, ended, success, stalled, returned}
 use Rattle.tmc_law.specs.Halts.{all_ended, HaltsItself, DoesHalt}
 use Rattle.tmc_law.specs.Queues.{Arrives, Queued, TurnedAway, IsTaken}
 use Rattle.tmc_law.specs.BulkOut as out
@@ -23,28 +22,19 @@ use Rattle.tmc_law.specs.Status as status
 use Rattle.tmc_law.specs.Logging.{Logs}
 use Rattle.tmc_law.specs.LogStep.{MayLog, Adds, LogsNothing, LogsOne}
 use Rattle.tmc_law.specs.Numbers.{AllBelow, effects}
-use Rattle.tmc_law.specs.Step.{Move, Comes, Refuses, Take, Exec, Begin, Fill, Answer, Pend, Poll, Notify, Halt, Unplug, Steps, Leads}
-use Rattle.tmc_law.specs.Run.{Entry, Runs, taken, inputs, outputs}
-use Rattle.host_joint.specs.Lines.{Sent, sent_to, Event, Gives, events_of, unlinks_in, Lines, Fitting, AllFitting}
-use Rattle.host_joint.specs.Jobs.{Job, IsJob, partly, transfer_of}
-use Rattle.host_joint.specs.Asking.{StaysPlugged}
+use Rattle.tmc_law.specs.Step.{Move, Comes, Refuses, Take, Exec, Begin, Fill, Answer, Pend, Poll, Notify, Halt, Unplug, Leads}
+use Rattle.tmc_law.specs.Run.{taken}
+use Rattle.host_joint.specs.Lines.{Sent, sent_to, Event, Gives, events_of, unlinks_in, Fitting, AllFitting}
+use Rattle.host_joint.specs.Jobs.{Job, partly, transfer_of}
 use Rattle.host_joint.specs.Positions.{IsAt, rests}
 use Rattle.host_joint.specs.Requests.{NoBulk}
-use Rattle.host_joint.specs.Tie.{asked_of}
-use Rattle.host_joint.specs.Bond.{Bond, Bound, Holds, Stands, Resting}
-use Rattle.host_joint.specs.Triggers.{IsTrigger, NoTrigger, OneTrigger, untaken_state, TriggerAt, TriggerComes, TriggerPends, TriggerTaken, TriggerShut, Triggering, Triggered}
+use Rattle.host_joint.specs.Triggers.{IsTrigger, NoTrigger, OneTrigger, untaken_state, TriggerAt, TriggerComes, TriggerPends, TriggerTaken, TriggerShut}
 use Rattle.host_joint.proofs.Flows.{events-append}
 use Rattle.host_joint.proofs.Taking.{OneHeader, MayBegin, Suits, Owns, owns_fresh, drop_all, moved_on}
-use Rattle.host_joint.proofs.Resting.{rest_goes, rest_is, none_first, no_take, no_fill, rests_closed}
-use Rattle.host_joint.proofs.Requesting.{events_same, one_sent, no_sent, one_pending, no_answer, no_pend, no_first_poll}
+use Rattle.host_joint.proofs.Resting.{rest_is, none_first, no_take, no_fill}
+use Rattle.host_joint.proofs.Requesting.{events_same, no_sent, one_pending, no_answer, no_pend, no_first_poll}
 use Rattle.host_joint.proofs.Hosting.{own_event}
-use Rattle.host_joint.proofs.Sending.{sent-append}
-use Rattle.host_joint.proofs.Tying.{TieLaws}
-use Rattle.host_joint.proofs.Bonding.{Keeps, bond_run, none_linked, empty_at}
-use Rattle.host_joint.proofs.Cancelling.{empty, after, same_head}
-use Rattle.host_joint.proofs.Recovering.{write_bytes, no_event, one_event}
-use Rattle.host_joint.proofs.Writing.{other_asked}
-use Rattle.host_joint.proofs.Joining.{IsKept, Never, plugged-append, plugged_front, rising_asked, apart_asked, few_total}
+use Rattle.host_joint.proofs.Cancelling.{after}
 
 -- ---- the log
 

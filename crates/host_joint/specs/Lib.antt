@@ -34,3 +34,4 @@ pub mod WorkedAhead
 pub mod WorkedPieces
 pub mod WorkedRecoveries
 pub mod WorkedUnplugging
+pub mod WorkedTriggers

@@ -26,6 +26,7 @@ mod worked_lines;
 mod worked_pieces;
 mod worked_recoveries;
 mod worked_remotes;
+mod worked_triggers;
 mod worked_unplugging;
 
 pub use accepted::{asks_halt_nothing, no_submit_is_refused};
@@ -67,4 +68,5 @@ pub use worked_recoveries::{
     worked_unlinks_tell_hits,
 };
 pub use worked_remotes::worked_remote_tickets_are_tied;
+pub use worked_triggers::worked_trigger_tickets_are_tied;
 pub use worked_unplugging::worked_hosts_are_unplugged;
