@@ -48,12 +48,12 @@ pub use lines::{hosts_keep_lines, lines_stay, what_is_answered_is_over};
 pub use numbers::{new_numbers_are_unused, new_numbers_rise, what_ran_is_kept, what_ran_is_one};
 pub use owned::what_is_read_is_owned;
 pub use recovery::{asks_hand_over, devices_rest, drains_stay, requests_stay};
-pub use remotes::remote_tickets_are_tied;
+pub use remotes::{remote_tickets_are_read, remote_tickets_are_tied};
 pub use ties::{
     answers_are_the_expected, pieces_have_no_fault, tickets_end, ties_begin, ties_own, ties_stay,
     writes_keep_ties,
 };
-pub use triggers::trigger_tickets_are_tied;
+pub use triggers::{trigger_tickets_are_read, trigger_tickets_are_tied};
 pub use turns::{answers_come_in_turn, asks_ahead_hand_over};
 pub use unplugged::{
     answers_come_until_unplugged, hosts_go_on_until_unplugged, joints_stay_until_unplugged,
