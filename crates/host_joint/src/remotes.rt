@@ -27,7 +27,7 @@ ghost use Rattle.host_joint.specs.Asking.{StaysPlugged};
 ghost use Rattle.host_joint.specs.Hand.{Free};
 ghost use Rattle.host_joint.specs.Tie.{Tie};
 ghost use Rattle.host_joint.specs.Bond.{Stands, Resting, Bound};
-ghost use Rattle.host_joint.specs.Joint.{TellsPlugged, JointBy};
+ghost use Rattle.host_joint.specs.Joint.{TellsPlugged, JointBy, Joint, Joined};
 ghost use Rattle.host_joint.specs.Remotes.{request_of, OneSince, Operating};
 
 use crate::no_submit_is_refused;
@@ -79,8 +79,15 @@ pub fn remote_tickets_are_tied()
     urbs_are_determined();
 }
 
-/// What such a host reads next is the answer to its request, and no field of its bytes is bad. The tie holds until the device is unplugged.
+/// Over a link, such a host stands at rest where it has nothing in hand, and is joined while its request, in any spelling, is not answered. What it reads
+/// next is the answer to its request, and no field of its bytes is bad. The tie holds until the device is unplugged.
 pub fn remote_tickets_are_read()
+    ensures stands { (devid next : ℕ) (written read : List ℕ) (steps : List RunStep) (s : State) → Joint devid Free None next written read steps s
+        → Joined devid (Stands Resting) None [] next written read steps s }
+    ensures written { (devid : ℕ) (act : RemoteAct) (head : SubmitHead) (next : ℕ) (text written read : List ℕ) (steps : List RunStep) (s : State)
+        → IsClass head (request_of act) → Fitting head → head.seqnum ≡ next → up.Spells devid (up.Submit head []) text
+        → Joined devid (Stands Resting) None [] next written read steps s
+        → JointBy (λ ups downs t. Operating act s.log head (next + 1) ups downs t) devid (written ++ text) read steps s }
     ensures next { (devid : ℕ) (act : RemoteAct) (since : List LogEntry) (head : SubmitHead) (next : ℕ) (written read this more : List ℕ) (message : down.Message) (steps : List RunStep) (s : State)
         → JointBy (λ ups downs t. Operating act since head next ups downs t) devid written read steps s → out_bytes steps ≡ read ++ (this ++ more)
         → SpellsAnswer (entries_for (Some head)) message this → IsNextIn (λ ups downs t. Operating act since head next ups downs t) devid message next written read this steps s }

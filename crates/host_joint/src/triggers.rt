@@ -21,7 +21,7 @@ ghost use Rattle.tmc_law.specs.Run.{Entry, Runs, inputs, outputs};
 ghost use Rattle.host_joint.specs.Jobs.{Job};
 ghost use Rattle.host_joint.specs.Asking.{StaysPlugged};
 ghost use Rattle.host_joint.specs.Bond.{Stands, Resting, Bound};
-ghost use Rattle.host_joint.specs.Joint.{TellsPlugged, JointBy};
+ghost use Rattle.host_joint.specs.Joint.{TellsPlugged, JointBy, Joined};
 ghost use Rattle.host_joint.specs.Triggers.{IsTrigger, Triggering, Triggered};
 
 use crate::no_submit_is_refused;
@@ -69,8 +69,13 @@ pub fn trigger_tickets_are_tied()
     urbs_are_determined();
 }
 
-/// What such a host reads next is the answer to its transfer, and no field of its bytes is bad. The tie holds until the device is unplugged.
+/// Over a link, such a host is joined while its transfer, in any spelling, is not answered. What it reads next is the answer to its transfer, and no field
+/// of its bytes is bad. The tie holds until the device is unplugged.
 pub fn trigger_tickets_are_read()
+    ensures written { (devid : ℕ) (job : Job) (next : ℕ) (text written read : List ℕ) (steps : List RunStep) (s : State)
+        → IsTrigger job → job.head.seqnum ≡ next → up.Spells devid (up.Submit job.head job.bytes) text
+        → Joined devid (Stands Resting) None [] next written read steps s
+        → JointBy (λ ups downs t. Triggering job (next + 1) ups downs t) devid (written ++ text) read steps s }
     ensures next { (devid : ℕ) (job : Job) (next : ℕ) (written read this more : List ℕ) (message : down.Message) (steps : List RunStep) (s : State)
         → JointBy (λ ups downs t. Triggering job next ups downs t) devid written read steps s → out_bytes steps ≡ read ++ (this ++ more)
         → SpellsAnswer (entries_for (Some job.head)) message this → IsNextIn (λ ups downs t. Triggering job next ups downs t) devid message next written read this steps s }

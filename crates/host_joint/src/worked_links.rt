@@ -13,9 +13,7 @@ ghost use Rattle.host_joint.specs.Hand.{Free};
 ghost use Rattle.host_joint.specs.Joint.{Joint, IsNextAnswer};
 ghost use Rattle.host_joint.specs.WorkedTies.{telling};
 
-use crate::{
-    joints_begin, joints_stay, the_next_answer_is_read, writes_keep_joints,
-};
+use crate::{joints_begin, joints_stay, the_next_answer_is_read, writes_keep_joints};
 use tmc_law::runs_join;
 use tmc_law::worked::a_message_comes_in_parts;
 

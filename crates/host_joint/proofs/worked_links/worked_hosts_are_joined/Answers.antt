@@ -1,4 +1,4 @@
-use Rattle.std.proofs.Common.{◌≡◌, ◌∙◌, ℕ, List, [], ◌∷◌, ◌++◌, take, drop, replicate, codes, Some, None, refl, sym, ap, subst, append-nil, lit≤}
+use Rattle.std.proofs.Common.{◌≡◌, ◌∙◌, ℕ, List, [], ◌∷◌, ◌++◌, take, drop, replicate, codes, Some, refl, sym, append-nil, lit≤}
 use Rattle.usbip_wire.specs.Up as up
 use Rattle.usbip_wire.specs.Down as down
 use Rattle.tmc_law.specs.State.{State, start}
@@ -42,8 +42,7 @@ returns-clause-told c text bytes spelled put =
     let three = c.runs_join.ensures.apart (take 3 sending_parts) (drop 3 sending_parts) start told_to c.a_message_comes_in_parts.ensures in
     let split = c.runs_join.ensures.apart (take 1 sending_parts) (take 2 (drop 1 sending_parts)) start three.0 three.1 in
     let joint = c.joints_stay.ensures.joint devid telling (Some (out_submit 1 112)) 2 text [] [] (takes_in text ∷ puts_out bytes ∷ []) start three.0
-        (told_steps text bytes split.0 three.0 split.1 split.2 spelled put) ([], sym (append-nil (text ++ []) ∙ append-nil text)) (returns-clause-written c text spelled) in
-    (
+    (told_steps text bytes split.0 three.0 split.1 split.2 spelled put) ([], sym (append-nil (text ++ []) ∙ append-nil text)) (returns-clause-written c text spelled) in (
       three.0,
       three.1,
       joint,
