@@ -114,6 +114,7 @@ impl HubCore {
         requires settled { is_open outcome ≡ false }
         ensures goes { (s : Setting) (past : Past) (sent : List ℕ) → active past ≡ Some self.old.active → Knows s past sent self.old
             → Knows s (Settled self.old.active outcome ∷ past) sent self.new }
+        ensures births { self.new.notes.births ≡ self.old.notes.births }
         ensures rest { self.new ≡ record self.old { book = self.new.book; notes = self.new.notes; active = self.old.active + 1 } }
     {
         let mark = self.mark();
