@@ -52,5 +52,7 @@ pub mod Polls
 pub mod Plain
 pub mod InHand
 pub mod Joining
+pub mod Answering
+pub mod Makes
 pub mod Going
 pub mod Owns
