@@ -163,10 +163,10 @@ unmade_part kind.Trigger limit tag text bytes now = refl
 unmade_part kind.Status limit tag text bytes now = refl
 unmade_part (kind.Remote act) limit tag text bytes now = refl
 
-whole_out : (asked actual : ℕ) → asked ≤ actual → out_fault asked actual ≡ None
+pub whole_out : (asked actual : ℕ) → asked ≤ actual → out_fault asked actual ≡ None
 whole_out asked actual h = rw (le-ltb actual asked h) refl
 
-short_out : (asked actual : ℕ) → actual < asked → out_fault asked actual ≡ Some (record { layer = layer.Urb; name = name.ActualLength; offset = 24 })
+pub short_out : (asked actual : ℕ) → actual < asked → out_fault asked actual ≡ Some (record { layer = layer.Urb; name = name.ActualLength; offset = 24 })
 short_out asked actual h = rw (lt-ltb actual asked h) refl
 
 module _ (s : Setting) (past : Past) (all : List ℕ) (core : HubCore) (head : RetSubmitHead) (bytes : List ℕ) (h : HearsOut s past all core head bytes) (m : IsInMessage s past core)
