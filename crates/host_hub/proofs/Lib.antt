@@ -54,6 +54,7 @@ pub mod InHand
 pub mod Joining
 pub mod Answering
 pub mod Makes
+pub mod Readings
 pub mod Failed
 pub mod Requested
 pub mod Going

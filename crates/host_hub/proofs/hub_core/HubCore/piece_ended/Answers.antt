@@ -1,47 +1,51 @@
-use Rattle.std.proofs.Common.{rules, ◌≡◌, ◌≢◌, ◌+◌, ◌-◌, ◌++◌, ◌∷◌, ◌≤◌, ℕ, List, Some, None, true, false, pos, length, slice_range, ◌*◌, ◌<◌, ◌/◌, ◌%◌, Bool, nat_eq, nat_lt, [], slice_index_or, slice_set, bit_and, bit_or, Fits, w8, w32, w64, Bor, MutBor}
-use Rattle.usbip_wire.specs.Down as down
-use Rattle.usbip_wire.specs.DownFed.{data_of}
-use Rattle.host_urbs.specs.Held.{Follows}
-use Rattle.host_urbs.specs.Law.{MayTake}
-use Rattle.host_urbs.specs.Record as urbs
-use Rattle.host_hub.specs.declared.hub_core.Phase.TheVariants as phase
-use Rattle.host_hub.specs.BookChanges.{with_seen}
-use Rattle.host_hub.specs.BookRoom.{is_open}
-use Rattle.host_hub.specs.BookSeen.{IsTicket, Seen, ticket_of}
-use Rattle.host_hub.specs.Crossings.{crossings}
-use Rattle.host_hub.specs.Ends.{ends_by, is_gone}
-use Rattle.host_hub.specs.Law.{Kept}
-use Rattle.host_hub.specs.Leaves.{Leaves}
-use Rattle.host_hub.specs.Order.{Setting}
-use Rattle.host_hub.specs.Record.{Past}
-use Rattle.host_hub.specs.Pieces.{got}
-use Rattle.host_hub.specs.Stands.{GoesTo}
-use Rattle.host_hub.specs.Steps.{took}
-use Rattle.host_hub.specs.Hears.{GoesByAnswer, Hears, HearsOut, IsHeard, IsHeardOut, IsPieceEnd, IsTicketEnd, PieceEnds, TicketEnds, failed_as}
-use Rattle.host_hub.specs.Knows.{Knows}
-use Rattle.host_hub.specs.OneOut.{OneOut}
+use Rattle.std.proofs.Common.{◌∙◌, ℕ, List, length, sym, ap}
+use Rattle.host_hub.proofs.Makes.{no_ticket}
+use Rattle.host_hub.proofs.Readings.{piece_completes, piece_fills, piece_requests}
 use Rattle.host_hub.proofs.hub_core.HubCore.piece_ended.Goals as goal
 
--- src/hearing.rt:189:13
 pub finish-requires-clause-ends : goal.finish-requires-clause-ends
-finish-requires-clause-ends c = ?
+finish-requires-clause-ends c =
+    let k = c.requires in
+    record { setting = k.setting; past = k.past; sent = k.sent; ends = piece_completes k.setting k.past k.sent c.args.self.now c.args.eom k.ends c.if-eom.true }
 
--- src/hearing.rt:193:13
+pub returns-then-eom-clause-goes : goal.returns-then-eom-clause-goes
+returns-then-eom-clause-goes c = λ s past sent p. c.finish.ensures.goes s past sent (piece_completes s past sent c.args.self.now c.args.eom p c.if-eom.true)
+
 pub unreachable-requires : goal.unreachable-requires
-unreachable-requires c = ?
+unreachable-requires c = no_ticket c.requires.setting c.requires.past c.requires.sent c.args.self.now c.requires.ends.knows c.requires.ends.turn c.in_default.ensures
 
--- src/hearing.rt:196:13
 pub finish-requires-then-view-clause-ends : goal.finish-requires-then-view-clause-ends
-finish-requires-then-view-clause-ends c = ?
+finish-requires-then-view-clause-ends c =
+    let k = c.requires in
+    let v = c.in-Some.ensures in
+    record {
+      setting = k.setting;
+      past = k.past;
+      sent = k.sent;
+      ends = piece_fills k.setting k.past k.sent c.args.self.now c.args.eom v.seen k.ends c.if-eom.false v.found
+          (sym (ap (λ (l : List ℕ). length l) v.shows.bytes) ∙ (c.if-view.true ∙ v.shows.limit));
+    }
 
--- src/hearing.rt:197:13
 pub returns-then-view-clause-goes : goal.returns-then-view-clause-goes
-returns-then-view-clause-goes c = ?
+returns-then-view-clause-goes c = λ s past sent p.
+    let v = c.in-Some.ensures in
+    c.finish-then-view.ensures.goes s past sent (piece_fills s past sent c.args.self.now c.args.eom v.seen p c.if-eom.false v.found
+    (sym (ap (λ (l : List ℕ). length l) v.shows.bytes) ∙ (c.if-view.true ∙ v.shows.limit)))
 
--- src/hearing.rt:199:9
 pub request-requires : goal.request-requires
-request-requires c = ?
+request-requires c =
+    let k = c.requires in
+    let v = c.in-Some.ensures in
+    record {
+      setting = k.setting;
+      past = k.past;
+      sent = k.sent;
+      is = piece_requests k.setting k.past k.sent c.args.self.now c.args.eom v.seen k.ends c.if-eom.false v.found
+          (λ e. c.if-view.false (ap (λ (l : List ℕ). length l) v.shows.bytes ∙ (e ∙ sym v.shows.limit)));
+    }
 
--- src/hearing.rt:183:5
 pub returns-clause-goes : goal.returns-clause-goes
-returns-clause-goes c = ?
+returns-clause-goes c = λ s past sent p.
+    let v = c.in-Some.ensures in
+    c.request.ensures.goes s past sent (piece_requests s past sent c.args.self.now c.args.eom v.seen p c.if-eom.false v.found
+    (λ e. c.if-view.false (ap (λ (l : List ℕ). length l) v.shows.bytes ∙ (e ∙ sym v.shows.limit))))
