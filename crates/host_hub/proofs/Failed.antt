@@ -40,7 +40,7 @@ use Rattle.host_hub.specs.Law.{IsHandOver, Kept, Lawful}
 use Rattle.host_hub.specs.Steps.{Comes, settle_all, took}
 use Rattle.host_hub.specs.Knows.{HasActive, HasBook, Knows}
 use Rattle.host_hub.specs.OneOut.{OneOut}
-use Rattle.host_hub.specs.Stands.{IsInMessage, IsInRequest, IsInResponse, IsOut, Rests, Stands}
+use Rattle.host_hub.specs.Stands.{IsIdle, IsInMessage, IsInRequest, IsInResponse, IsOut, Rests, Stands}
 use Rattle.host_hub.specs.Writes.{Done, GoesOn, PartIsNext, RequestIsNext}
 use Rattle.host_hub.specs.Hears.{GoesByAnswer, Hears, HearsOut, IsBehind, endpoint_out, failed_as}
 use Rattle.host_hub.proofs.Answering.{HeardOut, answered_out, ends_failed, ends_gone, heard_out, hears_out, plain_submit}
@@ -77,7 +77,7 @@ pub record OutNow (s : Setting) (past : Past) (core : HubCore) : Type 0 where
   pub bulk : is_bulk order ≡ true
   pub endpoint : endpoint_of s.ends order ≡ endpoint_out s.ends core.phase
 
-none_sent : (s : Setting) (past : Past) (all : List ℕ) (core : HubCore) (head : RetSubmitHead) (bytes : List ℕ) → HearsOut s past all core head bytes → outstanding past ≡ [] → ⊥
+pub none_sent : (s : Setting) (past : Past) (all : List ℕ) (core : HubCore) (head : RetSubmitHead) (bytes : List ℕ) → HearsOut s past all core head bytes → outstanding past ≡ [] → ⊥
 none_sent s past all core head bytes h none =
     let is : core.urbs.entries ≡ [] = none_entries s past all core h.rests.kept.lawful h.rests.knows none in
     let e : None ≡ Some (h.spelled.0.dir, h.spelled.0.size) =
@@ -283,3 +283,10 @@ module _ (core : HubCore) (head : RetSubmitHead) (failed : head.status ≢ pos 0
       failed_goes new e same stops ended_by =
           failed_goes_by new
           (λ s past sent keeps k. subst (λ (x : End). Knows s (settle_all x (live past) (Stopped x ∷ past)) sent new) same (stops s past sent keeps k)) (ended_by ∙ ap Some same)
+
+-- ---- no ticket is live, and nothing is out
+
+pub idle_hears : (s : Setting) (past : Past) (all : List ℕ) (core : HubCore) (head : RetSubmitHead) (bytes : List ℕ) → HearsOut s past all core head bytes → core.phase ≡ phase.Idle → ⊥
+idle_hears s past all core head bytes h is =
+    let i : IsIdle past core = subst (λ (p : Phase). Stands p s past core) is (h.rests.stands h.running) in
+    none_sent s past all core head bytes h i.nothing
