@@ -50,7 +50,7 @@ use Rattle.host_hub.proofs.Lawful.{lawful_book}
 use Rattle.host_hub.proofs.Makes.{made_fine}
 use Rattle.host_hub.proofs.Begins.{ended_rests, none_entries}
 use Rattle.host_hub.proofs.Failing.{failed_kept}
-use Rattle.host_hub.proofs.Falls.{AllEnds, all_ends, behind_added}
+use Rattle.host_hub.proofs.Falls.{AllEnds, all_added, all_ends, settling_all}
 use Rattle.host_hub.proofs.Knowing.{known_ticket, seen_there}
 use Rattle.host_hub.proofs.Begins.{asking_seen}
 use Rattle.host_hub.proofs.Lists.{clash, and_false, own}
@@ -267,7 +267,8 @@ module _ (core : HubCore) (head : RetSubmitHead) (failed : head.status ≢ pos 0
             first = Took (down.RetSubmit head bytes);
             takes = refl;
             more = (a.more ++ Stopped e ∷ []) ++ Settled core.active (failed_as core.ends core.phase head.status) ∷ [];
-            behind = behind_added (a.more ++ Stopped e ∷ []) (Settled core.active (failed_as core.ends core.phase head.status)) (behind_added a.more (Stopped e) a.behind tt) tt;
+            behind = all_added IsBehind (a.more ++ Stopped e ∷ []) (Settled core.active (failed_as core.ends core.phase head.status))
+                (all_added IsBehind a.more (Stopped e) (settling_all IsBehind (λ t o. tt) a.more a.settling) tt) tt;
             rests = subst (λ (p : Past). Rests s p all new)
                 (a.same ∙ (sym (append_assoc a.more (Stopped e ∷ []) settled_past)
                 ∙ sym (append_assoc (a.more ++ Stopped e ∷ []) (Settled core.active (failed_as core.ends core.phase head.status) ∷ []) (took past head bytes))))
