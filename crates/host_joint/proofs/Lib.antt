@@ -51,3 +51,6 @@ mod Hitting
 mod Turning
 mod AheadOf
 mod InLine
+mod Operating
+mod Triggering
+mod TriggerTied

@@ -20,6 +20,8 @@ pub mod Tie
 -- a host that cancels, and recovers
 pub mod Bond
 -- both over a link
+pub mod Remotes
+pub mod Triggers
 pub mod Joint
 pub mod Unplugged
 pub mod Hits
@@ -32,3 +34,4 @@ pub mod WorkedAhead
 pub mod WorkedPieces
 pub mod WorkedRecoveries
 pub mod WorkedUnplugging
+pub mod WorkedTriggers
