@@ -1,5 +1,7 @@
 pub mod Words
+pub mod Way
 pub mod Script
+pub mod Fault
 pub mod Message
 pub mod Printed
 pub mod Shown

@@ -9,7 +9,8 @@ ghost use Rattle.event_text.specs.declared.event.Event.{Event};
 ghost use Rattle.event_text.specs.EventLine.{dev_said, event_said};
 ghost use Rattle.event_text.specs.EventSpelled.{dev_line, event_line, DevMayStand, MayStand};
 ghost use Rattle.usbip_wire.specs.declared.urb.Dir.{Dir};
-ghost use Rattle.usbip_wire.specs.declared.urb.Dir.TheVariants.{Out};
+ghost use Rattle.event_text.specs.declared.way.Way.{Way};
+ghost use Rattle.event_text.specs.declared.way.Way.TheVariants.{Up};
 ghost use Rattle.event_text.specs.declared.line_fault.LineWhat.{LineWhat};
 ghost use Rattle.event_text.specs.declared.script.Line.{Line};
 ghost use Rattle.event_text.specs.declared.script.Line.TheVariants.{Bytes};
@@ -71,12 +72,12 @@ pub fn event_scripts_are_determined()
 pub fn pieces_are_one_text()
     ensures joined { (old middle new : Standing) (piece more text other : List ℕ)
         → Prints old (Bytes piece) text middle → Prints middle (Bytes more) other new → Prints old (Bytes (piece ++ more)) (text ++ other) new }
-    ensures cuts { (way : Dir) (phase : Phase) (lines others : List Line) (text : List ℕ)
+    ensures cuts { (way : Way) (phase : Phase) (lines others : List Line) (text : List ℕ)
         → merged lines ≡ merged others → Shown way phase lines text → Shown way phase others text }
-    ensures one { (way : Dir) (phase : Phase) (lines others : List Line) (text other : List ℕ)
+    ensures one { (way : Way) (phase : Phase) (lines others : List Line) (text other : List ℕ)
         → merged lines ≡ merged others → Shown way phase lines text → Shown way phase others other → text ≡ other }
-    ensures client { (phase : Phase) (lines : List Line) (text : List ℕ) → Shown Out phase lines text
-        → IsTextOf (stream_of Out phase) (bytes_in lines) text }
+    ensures client { (phase : Phase) (lines : List Line) (text : List ℕ) → Shown Up phase lines text
+        → IsTextOf (stream_of Up phase) (bytes_in lines) text }
 {
     requests_are_determined();
     urbs_are_determined();

@@ -32,6 +32,7 @@ mod stream;
 #[cfg(test)]
 mod tests;
 mod text;
+mod way;
 mod words;
 
 pub use answer::EventAnswer;
