@@ -6,8 +6,10 @@ ghost use Rattle.hex.specs.Hex.{IsBytes};
 ghost use Rattle.event_text.specs.Words.{number_of, bytes_of, hex_word, words_of};
 ghost use Rattle.tmc_law.specs.declared.dev_event.DevEvent.{DevEvent};
 ghost use Rattle.event_text.specs.declared.event.Event.{Event};
-ghost use Rattle.event_text.specs.EventLine.{dev_said, event_said};
-ghost use Rattle.event_text.specs.EventSpelled.{dev_line, event_line, DevMayStand, MayStand};
+ghost use Rattle.event_text.specs.EventLine.{dev_said, event_said, line_words};
+ghost use Rattle.event_text.specs.EventSpelled.{dev_line, event_line, said_line, DevMayStand, MayStand, SaidMayStand};
+ghost use Rattle.event_text.specs.declared.event_line.Place.{Place};
+ghost use Rattle.event_text.specs.declared.event_line.Said.{Said};
 ghost use Rattle.usbip_wire.specs.declared.urb.Dir.{Dir};
 ghost use Rattle.event_text.specs.declared.way.Way.{Way};
 ghost use Rattle.event_text.specs.declared.way.Way.TheVariants.{Up};
@@ -50,10 +52,13 @@ pub fn scripts_are_determined()
 }
 
 /// A line says an event of a device, or an event, exactly where it is the line that is written of the event, and the
-/// numbers of the event may stand in a line.
+/// numbers of the event may stand in a line. So it is with each line of a script, `first` and `depth` too, behind what
+/// was said before it.
 pub fn events_have_their_lines()
     ensures dev { (line : List ℕ) (event : DevEvent) → (dev_said (words_of line) ≡ Ok event) ↔ ((line ≡ dev_line event) × DevMayStand event) }
     ensures event { (line : List ℕ) (event : Event) → (event_said (words_of line) ≡ Ok event) ↔ ((line ≡ event_line event) × MayStand event) }
+    ensures line { (place : Place) (line : List ℕ) (said : Said)
+        → (line_words place (words_of line) ≡ Ok said) ↔ ((line ≡ said_line said) × SaidMayStand place said) }
 {}
 
 /// No text is both a script of events and refused. It is at most one script, and at most one line of it is refused, for
