@@ -28,14 +28,14 @@ use Rattle.host_joint.specs.Owned.{Owned, NothingRead, PiecesRead, PieceRead}
 use Rattle.host_joint.specs.WorkedAsks.{query_job, read_job, request_job, query_ask, read_ask, query_asked, foreign_ask}
 
 -- the bytes have no fault of a header
-record IsFine (bytes : List ℕ) : Type 0 where
+pub record IsFine (bytes : List ℕ) : Type 0 where
   pub long : 12 ≤ length bytes
   pub known : fault.is_out_message (fault.MsgID bytes) ≡ true
   pub tagged : fault.bTag bytes ≢ 0
   pub inverse : fault.bTagInverse bytes ≡ 255 - fault.bTag bytes
   pub counted : (fault.MsgID bytes ≡ trigger) ⊎ (fault.TransferSize bytes ≢ 0)
 
-no_fault : (bytes : List ℕ) (f : HeaderFault) → IsFine bytes → fault.HasFault fault.is_out_message bytes f → ⊥
+pub no_fault : (bytes : List ℕ) (f : HeaderFault) → IsFine bytes → fault.HasFault fault.is_out_message bytes f → ⊥
 no_fault bytes Length fine h = omega (arith, h, fine.long)
 no_fault bytes MsgId fine h = let e : true ≡ false = sym fine.known ∙ h in cc
 no_fault bytes Tag fine h = fine.tagged h
@@ -179,12 +179,12 @@ query_lines InterruptIn = refl
 
 -- ---- the answers of the query are taken
 
-good : (ask : Ask) (ups : List up.Message) (head : SubmitHead) (a : RetSubmitHead) (downs : List Put) (s : State) → a.status ≡ success → OutAnswered ask ups head a downs s
+pub good : (ask : Ask) (ups : List up.Message) (head : SubmitHead) (a : RetSubmitHead) (downs : List Put) (s : State) → a.status ≡ success → OutAnswered ask ups head a downs s
     → Asking (record ask { answered = ask.answered + 1 }) ups downs s
 good ask ups head a downs s ok (inl h) = h.2
 good ask ups head a downs s ok (inr e) = let f : success ≡ stalled = sym ok ∙ e.0 in absurd (cc)
 
-piece_ends : (ask : Ask) (ups : List up.Message) (head : SubmitHead) (a : RetSubmitHead) (transferred : List ℕ) (downs : List Put) (s : State) → length transferred < read_size
+pub piece_ends : (ask : Ask) (ups : List up.Message) (head : SubmitHead) (a : RetSubmitHead) (transferred : List ℕ) (downs : List Put) (s : State) → length transferred < read_size
     → s.halted.bulk_in ≡ false → InAnswered ask ups (Gives head a transferred) downs s → PieceEnd ask transferred ups downs s
 piece_ends ask ups head a transferred downs s short usable (TookFull x is full next) = let e : transferred ≡ x.bytes = cc in absurd (omega (arith, short, full, ap (λ (l : List ℕ). length l) e))
 piece_ends ask ups head a transferred downs s short usable (TookEnd x is small end) = let e : x.bytes ≡ transferred = cc in subst (λ (l : List ℕ). PieceEnd ask l ups downs s) e end

@@ -36,3 +36,14 @@ mod Bonding
 mod Cancelling
 mod Saying
 mod Recovering
+mod Coming
+mod Serving
+mod Exchanging
+mod Pausing
+mod TwoPieces
+mod Stopping
+mod Restoring
+mod Until
+mod UntilJoined
+mod Gone
+mod Hitting

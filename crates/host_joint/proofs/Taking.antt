@@ -51,7 +51,7 @@ inside_trigger part (Message t n e) tag is suits = absurd (cc)
 inside_trigger part (Request t n) tag is suits = suits
 inside_trigger part (Trigger t) tag is suits = suits
 
-not_refused : (one_header : OneHeader) (s : State) (job : Job) (rest todo : List Job) → todo ≡ job ∷ rest → IsJob job → MayBegin todo s → HeaderRefused s job.bytes → ⊥
+pub not_refused : (one_header : OneHeader) (s : State) (job : Job) (rest todo : List Job) → todo ≡ job ∷ rest → IsJob job → MayBegin todo s → HeaderRefused s job.bytes → ⊥
 not_refused one_header s job rest todo first is may (out.NoHeader f fault) = is.faultless f fault
 not_refused one_header s job rest todo first is may (out.BulkInBusy busy) = busy (may job rest first).0
 not_refused one_header s job rest todo first is may (out.RequestInside tag size headed some) =
@@ -80,7 +80,7 @@ pub record Owns (s : State) (job : Job) (moved left : List ℕ) : Type 0 where
   pub one : (transfer : Transfer) → Belongs s (partly job moved left) transfer → transfer ≡ transfer_of job moved
   pub unspoiled : Spoils s (partly job moved left) → ⊥
 
-owns_fresh : (one_header : OneHeader) (s : State) (job : Job) (rest todo : List Job) → todo ≡ job ∷ rest → IsJob job → MayBegin todo s → s.transfer ≡ None → Owns s job [] job.bytes
+pub owns_fresh : (one_header : OneHeader) (s : State) (job : Job) (rest todo : List Job) → todo ≡ job ∷ rest → IsJob job → MayBegin todo s → s.transfer ≡ None → Owns s job [] job.bytes
 owns_fresh one_header s job rest todo first is may none = record {
   one = one;
   unspoiled = unspoiled;

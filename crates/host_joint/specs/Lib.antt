@@ -21,6 +21,11 @@ pub mod Tie
 pub mod Bond
 -- both over a link
 pub mod Joint
+pub mod Unplugged
+pub mod Hits
 -- examples
 pub mod WorkedAsks
 pub mod WorkedTies
+pub mod WorkedPieces
+pub mod WorkedRecoveries
+pub mod WorkedUnplugging
