@@ -38,20 +38,20 @@ ok_is {A} x y e = cc
 
 -- ---- a word without a space is one word
 
-word_by : (c : ℕ) (cs : List ℕ) (b : Bool) → eqb c 32 ≡ b → b ≡ false → words_of cs ≡ cs ∷ [] → words_of (c ∷ cs) ≡ (c ∷ cs) ∷ []
+pub word_by : (c : ℕ) (cs : List ℕ) (b : Bool) → eqb c 32 ≡ b → b ≡ false → words_of cs ≡ cs ∷ [] → words_of (c ∷ cs) ≡ (c ∷ cs) ∷ []
 word_by c cs true e other again = absurd (cc other)
 word_by c cs false e other again =
     let words : words_of (c ∷ cs) ≡ onto_first c (words_of cs) = rw e refl in
     words ∙ ap (onto_first c) again
 
-digits_word : (ds : List ℕ) → AllDigits 10 ds → words_of ds ≡ ds ∷ []
+pub digits_word : (ds : List ℕ) → AllDigits 10 ds → words_of ds ≡ ds ∷ []
 digits_word [] all = refl
 digits_word (c ∷ cs) all =
     let d = digit_from_value c all.0 in
     let other : eqb c 32 ≡ false = ne_eqb _ _ (λ e. omega (arith, d, e)) in
     word_by c cs (eqb c 32) refl other (digits_word cs all.1)
 
-number_word : (n : ℕ) → n < 2 ^ 32 → words_of (decimal n) ≡ decimal n ∷ []
+pub number_word : (n : ℕ) → n < 2 ^ 32 → words_of (decimal n) ≡ decimal n ∷ []
 number_word n small = digits_word (decimal n) (decimal_is_IsNumeral n (omega (arith, small))).0.1
 
 index_all : (p : ℕ → Bool) (xs : List ℕ) (d : ℕ) → p 0 ≡ true → list_all p xs ≡ true → p (slice_index xs d) ≡ true
@@ -73,25 +73,37 @@ encoded_word (b ∷ bytes) =
     word_by (slice_index lower_digits (b / 16)) (slice_index lower_digits (b % 16) ∷ encode_lower bytes) _ refl (no_space (b / 16))
     (word_by (slice_index lower_digits (b % 16)) (encode_lower bytes) _ refl (no_space (b % 16)) (encoded_word bytes))
 
-hex_one : (bytes : List ℕ) → words_of (hex_word bytes) ≡ hex_word bytes ∷ []
+pub hex_one : (bytes : List ℕ) → words_of (hex_word bytes) ≡ hex_word bytes ∷ []
 hex_one [] = refl
 hex_one (b ∷ bytes) = encoded_word (b ∷ bytes)
 
 -- a number, a space, and more words
-then_by : (c : ℕ) (cs more : List ℕ) (b : Bool) → eqb c 32 ≡ b → b ≡ false → words_of (cs ++ 32 ∷ more) ≡ cs ∷ words_of more → words_of ((c ∷ cs) ++ 32 ∷ more) ≡ (c ∷ cs) ∷ words_of more
+pub then_by : (c : ℕ) (cs more : List ℕ) (b : Bool) → eqb c 32 ≡ b → b ≡ false → words_of (cs ++ 32 ∷ more) ≡ cs ∷ words_of more → words_of ((c ∷ cs) ++ 32 ∷ more) ≡ (c ∷ cs) ∷ words_of more
 then_by c cs more true e other again = absurd (cc other)
 then_by c cs more false e other again =
     let words : words_of ((c ∷ cs) ++ 32 ∷ more) ≡ onto_first c (words_of (cs ++ 32 ∷ more)) = rw e refl in
     words ∙ ap (onto_first c) again
 
-digits_then : (ds more : List ℕ) → AllDigits 10 ds → words_of (ds ++ 32 ∷ more) ≡ ds ∷ words_of more
+pub digits_then : (ds more : List ℕ) → AllDigits 10 ds → words_of (ds ++ 32 ∷ more) ≡ ds ∷ words_of more
 digits_then [] more all = refl
 digits_then (c ∷ cs) more all =
     let d = digit_from_value c all.0 in
     let other : eqb c 32 ≡ false = ne_eqb _ _ (λ e. omega (arith, d, e)) in
     then_by c cs more (eqb c 32) refl other (digits_then cs more all.1)
 
-number_then : (n : ℕ) (more : List ℕ) → n < 2 ^ 32 → words_of (decimal n ++ 32 ∷ more) ≡ decimal n ∷ words_of more
+-- HEX, a space, and more words
+encoded_then : (bytes more : List ℕ) → words_of (encode_lower bytes ++ 32 ∷ more) ≡ encode_lower bytes ∷ words_of more
+unfolding encode_with
+encoded_then [] more = refl
+encoded_then (b ∷ bytes) more =
+    then_by (slice_index lower_digits (b / 16)) (slice_index lower_digits (b % 16) ∷ encode_lower bytes) more _ refl (no_space (b / 16))
+    (then_by (slice_index lower_digits (b % 16)) (encode_lower bytes) more _ refl (no_space (b % 16)) (encoded_then bytes more))
+
+pub hex_then : (bytes more : List ℕ) → words_of (hex_word bytes ++ 32 ∷ more) ≡ hex_word bytes ∷ words_of more
+hex_then [] more = refl
+hex_then (b ∷ bytes) more = encoded_then (b ∷ bytes) more
+
+pub number_then : (n : ℕ) (more : List ℕ) → n < 2 ^ 32 → words_of (decimal n ++ 32 ∷ more) ≡ decimal n ∷ words_of more
 number_then n more small = digits_then (decimal n) more (decimal_is_IsNumeral n (omega (arith, small))).0.1
 
 -- ---- numbers in their ranges

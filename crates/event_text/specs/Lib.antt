@@ -13,3 +13,4 @@ pub mod EventScript
 pub mod EventSpelled
 pub mod Outcome
 pub mod Report
+pub mod Told

@@ -1,6 +1,6 @@
 //! What holds of scripts. No function does anything, and its contract is the law.
 
-ghost use Rattle.std.specs.Prelude.{◌≡◌, ◌↔◌, ◌<◌, ◌^◌, ◌++◌, ℕ, List, Some, Ok};
+ghost use Rattle.std.specs.Prelude.{◌≡◌, ◌↔◌, ◌<◌, ◌^◌, ◌++◌, ℕ, Option, List, Some, Ok};
 ghost use Rattle.std.specs.Fmt.{decimal};
 ghost use Rattle.hex.specs.Hex.{IsBytes};
 ghost use Rattle.event_text.specs.Words.{number_of, bytes_of, hex_word, words_of};
@@ -21,6 +21,12 @@ ghost use Rattle.event_text.specs.declared.event.Script.{Script};
 ghost use Rattle.event_text.specs.EventScript.{IsEventScript, IsRefusedEvent};
 ghost use Rattle.event_text.specs.Message.{stream_of};
 ghost use Rattle.event_text.specs.Pieces.{merged, bytes_in, IsTextOf};
+ghost use Rattle.host_hub.specs.BookSeen.{BookSeen};
+ghost use Rattle.host_hub.specs.declared.outcome.End.{End};
+ghost use Rattle.instr_plain.specs.declared.log.LogEntry.{LogEntry};
+ghost use Rattle.event_text.specs.declared.answer.EventAnswer.{EventAnswer};
+ghost use Rattle.event_text.specs.Report.{IsReport};
+ghost use Rattle.event_text.specs.Told.{MayBeReported, SuitAll};
 ghost use Rattle.event_text.specs.Shown.{Standing, Prints, Shown, ShownOf, IsRefused};
 
 use usbip_wire::{
@@ -91,3 +97,16 @@ pub fn pieces_are_one_text()
     bad_fields_are_alone();
     bad_fields_stay();
 }
+
+/// A report determines its book and whether the hub runs, its log, and the bytes sent and taken, where numbers and bytes
+/// are as their types hold them; and with its events, of which each answers what it may, its answers.
+pub fn reports_are_determined()
+    ensures told { (answers others : List (Option EventAnswer)) (end ending : Option End) (book second : BookSeen) (log entries : List LogEntry) (up sent down taken text : List ℕ)
+        → MayBeReported answers end book log up down → MayBeReported others ending second entries sent taken
+        → IsReport answers end book log up down text → IsReport others ending second entries sent taken text
+        → (end ≡ ending) × (book ≡ second) × (log ≡ entries) × (up ≡ sent) × (down ≡ taken) }
+    ensures answers { (events : List Event) (answers others : List (Option EventAnswer)) (end ending : Option End) (book second : BookSeen) (log entries : List LogEntry) (up sent down taken text : List ℕ)
+        → MayBeReported answers end book log up down → MayBeReported others ending second entries sent taken → SuitAll events answers → SuitAll events others
+        → IsReport answers end book log up down text → IsReport others ending second entries sent taken text
+        → answers ≡ others }
+{}
