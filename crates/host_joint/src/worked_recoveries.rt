@@ -26,9 +26,10 @@ ghost use Rattle.host_joint.specs.Drains.{DrainAt};
 ghost use Rattle.host_joint.specs.WorkedRecoveries.{reading_rest, halting_second, halted_inside, aborting_none, freeing, usable_again, clearing_halted, checking_clear, freeing_out, freeing_in, cleared_log, cleared_at_last, cancelling_second, cancelled_inside, aborting_second, draining, checking_second, abort_submit, wanting, drained};
 
 use crate::{
-    answers_are_taken, asks_are_settled_late, devices_rest, drains_stay, requests_stay, asking_stays, asks_hand_over, bonds_stay, cancelled_answers_are_taken,
-    cancelled_asks_own, cancels_begin, messages_are_written, recoveries_end, recoveries_go_on,
-    unlinks_tell_hits, what_is_read_is_owned, worked_cancels_are_bound, worked_pieces_are_asked,
+    answers_are_taken, asking_stays, asks_are_settled_late, asks_hand_over, bonds_stay,
+    cancelled_answers_are_taken, cancelled_asks_own, cancels_begin, devices_rest, drains_stay,
+    messages_are_written, recoveries_end, recoveries_go_on, requests_stay, unlinks_tell_hits,
+    what_is_read_is_owned, worked_cancels_are_bound, worked_pieces_are_asked,
     worked_pieces_are_read, writes_keep_ties,
 };
 use tmc_law::runs_join;

@@ -1,6 +1,5 @@
-use Rattle.std.proofs.Common.{◌≡◌, ℕ, true, List, [], ◌∷◌, ◌++◌, Some, refl, lit<, lit≤}
+use Rattle.std.proofs.Common.{List, [], ◌∷◌, ◌++◌, refl, lit<, lit≤}
 use Rattle.usbip_wire.specs.Up as up
-use Rattle.tmc_wire.specs.declared.header.OutHeader.TheVariants.{Message, Request}
 use Rattle.tmc_law.specs.Endpoint.{Control, BulkIn}
 use Rattle.tmc_law.specs.State.{start}
 use Rattle.tmc_law.specs.Put.{success}
@@ -8,7 +7,7 @@ use Rattle.tmc_law.specs.Run.{Entry, Runs}
 use Rattle.tmc_law.specs.Step.{Comes, Answer, Fill}
 use Rattle.tmc_law.specs.WorkedParts.{sending_parts}
 use Rattle.tmc_law.specs.WorkedSession.{in_submit, step, answered}
-use Rattle.host_joint.specs.Positions.{NoPiece, IsSent}
+use Rattle.host_joint.specs.Positions.{IsSent}
 use Rattle.host_joint.specs.Requests.{Comes as OnItsWay}
 use Rattle.host_joint.specs.Drains.{ReadComes}
 use Rattle.host_joint.specs.WorkedPieces.{requesting_first, giving_first, requesting_second, requested_second, asked_with, spaces_job, last_job}
@@ -24,8 +23,8 @@ returns-clause-abort c =
     let before : List Entry = (sending_parts ++ (requesting_first ++ (giving_first ++ requesting_second))) ++ cancelling_second in
     let reached : Runs start before cancelled_inside = join (sending_parts ++ (requesting_first ++ (giving_first ++ requesting_second))) cancelling_second start requested_second cancelled_inside c.worked_pieces_are_read.ensures.reached cancels_second in
     let pending = c.requests_stay.ensures.abort_in 4 before (abort_submit 8) [] [] [] cancelled_inside (with_control (abort_submit 8) cancelled_inside) (Comes (up.Submit (abort_submit 8) [])) reached (abort_is 8)
-        (record { outs = refl; ins = refl; unlinks = refl }) (record { endpoint = Control; number = refl; way = refl }, tt) tt abort_comes
-        (OnItsWay refl refl refl (record { bulk_out = refl; bulk_in = refl; running = refl; side = IsSent _ refl refl; out = (refl, refl); waits = tt; shut = tt })) in
+    (record { outs = refl; ins = refl; unlinks = refl }) (record { endpoint = Control; number = refl; way = refl }, tt) tt abort_comes
+    (OnItsWay refl refl refl (record { bulk_out = refl; bulk_in = refl; running = refl; side = IsSent _ refl refl; out = (refl, refl); waits = tt; shut = tt })) in
     c.requests_stay.ensures.abort_in 4 (before ++ step (Comes (up.Submit (abort_submit 8) [])) [] ∷ []) (abort_submit 8) [] [] (answered (abort_submit 8) success 2 (0x01 ∷ 0x04 ∷ []) ∷ []) (with_control (abort_submit 8) cancelled_inside) wants_packet Answer
     (join before (step (Comes (up.Submit (abort_submit 8) [])) [] ∷ []) start cancelled_inside (with_control (abort_submit 8) cancelled_inside) reached (with_control (abort_submit 8) cancelled_inside, abort_comes, refl)) (abort_is 8)
     (record { outs = refl; ins = refl; unlinks = refl }) tt tt abort_answers pending
@@ -35,11 +34,11 @@ returns-clause-drain c =
     let join = c.runs_join.ensures.together in
     let before : List Entry = ((sending_parts ++ (requesting_first ++ (giving_first ++ requesting_second))) ++ cancelling_second) ++ aborting_second in
     let reached : Runs start before wants_packet =
-        join ((sending_parts ++ (requesting_first ++ (giving_first ++ requesting_second))) ++ cancelling_second) aborting_second start cancelled_inside wants_packet
-        (join (sending_parts ++ (requesting_first ++ (giving_first ++ requesting_second))) cancelling_second start requested_second cancelled_inside c.worked_pieces_are_read.ensures.reached cancels_second) aborts_second in
+    join ((sending_parts ++ (requesting_first ++ (giving_first ++ requesting_second))) ++ cancelling_second) aborting_second start cancelled_inside wants_packet
+    (join (sending_parts ++ (requesting_first ++ (giving_first ++ requesting_second))) cancelling_second start requested_second cancelled_inside c.worked_pieces_are_read.ensures.reached cancels_second) aborts_second in
     let pending = c.drains_stay.ensures before (in_submit 9 4096) [] [] [] wants_packet drain_came (Comes (up.Submit (in_submit 9 4096) [])) reached (record { number = refl; way = refl; size = refl })
-        (record { controls = refl; outs = refl; unlinks = refl }) (record { endpoint = BulkIn; number = refl; way = refl }, tt) refl tt drain_comes
-        (ReadComes refl refl (record { bulk_out = refl; bulk_in = refl; running = (0, refl); side = tt; out = (refl, refl); waits = tt; shut = tt })) in
+    (record { controls = refl; outs = refl; unlinks = refl }) (record { endpoint = BulkIn; number = refl; way = refl }, tt) refl tt drain_comes
+    (ReadComes refl refl (record { bulk_out = refl; bulk_in = refl; running = (0, refl); side = tt; out = (refl, refl); waits = tt; shut = tt })) in
     c.drains_stay.ensures (before ++ step (Comes (up.Submit (in_submit 9 4096) [])) [] ∷ []) (in_submit 9 4096) [] [] (answered (in_submit 9 4096) success 0 [] ∷ []) drain_came gave_packet (Fill 1)
     (join before (step (Comes (up.Submit (in_submit 9 4096) [])) [] ∷ []) start wants_packet drain_came reached (drain_came, drain_comes, refl)) (record { number = refl; way = refl; size = refl })
     (record { controls = refl; outs = refl; unlinks = refl }) tt refl tt drain_fills pending
