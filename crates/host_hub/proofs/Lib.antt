@@ -52,3 +52,8 @@ pub mod InHand
 pub mod Joining
 pub mod Going
 pub mod Owns
+pub mod Exchanging
+pub mod Undisturbing
+pub mod Sendings
+pub mod Accounts
+pub mod Faultless

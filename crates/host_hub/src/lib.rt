@@ -10,6 +10,7 @@ mod book;
 mod ending;
 mod facts;
 mod hearing;
+mod hub;
 mod hub_core;
 mod kind;
 mod laws;
@@ -17,6 +18,7 @@ mod limits;
 mod notes;
 mod outcome;
 mod ownership;
+mod recorded;
 mod refusals;
 pub mod refused;
 mod sentences;
@@ -36,6 +38,7 @@ pub use facts::{
     books_are_kept, each_outcome_has_its_cause, recoveries_are_made, something_is_waited_for,
     traffic_is_planned, unlinks_are_due,
 };
+pub use hub::Hub;
 pub use kind::Kind;
 pub use laws::{
     a_settled_outcome_stays, answers_may_come, messages_are_crossings, messages_are_lawful,

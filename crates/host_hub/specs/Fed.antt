@@ -1,0 +1,69 @@
+-- bytes that came are taken
+use Rattle.std.specs.Prelude.{◌≡◌, ◌≤◌, ℕ, Some, None, List, [], ◌++◌}
+use Rattle.tmc_base.specs.declared.field.Field.{Field}
+use Rattle.usbip_wire.specs.declared.down.DownPhase.TheVariants.{Urbs}
+use Rattle.usbip_wire.specs.DownFed.{kept}
+use Rattle.host_hub.specs.declared.hub_core.HubCore.{HubCore}
+use Rattle.host_hub.specs.declared.outcome.End.{End}
+use Rattle.host_hub.specs.declared.outcome.End.TheVariants as end
+use Rattle.host_hub.specs.Calls.{All, IsOfTurn}
+use Rattle.host_hub.specs.Order.{Setting}
+use Rattle.host_hub.specs.Record.{Past}
+use Rattle.host_hub.specs.Stands.{Rests}
+use Rattle.host_hub.specs.Tied.{AllTaken, AreSent, IsDueIn, IsRefused, MovesNothing, NothingLies, Tied, stopped}
+
+-- the reader holds these bytes: of an answer that is not whole yet
+pub record Reads (left : List ℕ) (core : HubCore) : Type 0 where
+  pub urbs : core.reader.phase ≡ Urbs
+  pub held : kept core.reader ≡ left
+  pub good : core.reader.bad ≡ None
+
+-- what no step of the core changes but `feed` (reader) and `turn_begins` (turned)
+pub record Leaves (old new : HubCore) : Type 0 where
+  pub reader : new.reader ≡ old.reader
+  pub turned : new.turned ≡ old.turned
+
+-- A hub that runs may be fed: of the messages of this record so many were sent whole, and nothing lay in the rest by an
+-- earlier count
+pub record Feeds (s : Setting) (past : Past) (sent received rest : List ℕ) (count : ℕ) (core : HubCore) : Type 0 where
+  pub rests : Rests s past sent core
+  pub running : core.end ≡ None
+  pub tied : Tied s past sent core.urbs.outbox received rest
+  pub counted : AreSent s past sent count
+  pub before : ℕ
+  pub fewer : before ≤ count
+  pub lies : NothingLies s past before rest
+  pub reads : Reads rest core
+
+-- there is such a record
+pub record IsFed (core : HubCore) : Type 0 where
+  pub setting : Setting
+  pub past : Past
+  pub sent : List ℕ
+  pub received : List ℕ
+  pub rest : List ℕ
+  pub count : ℕ
+  pub feeds : Feeds setting past sent received rest count core
+
+-- these bytes were taken: the answers in them, or those up to the one or the field that ended the hub
+pub record Fed (s : Setting) (past : Past) (sent received : List ℕ) (count : ℕ) (bytes : List ℕ) (new : HubCore) : Type 0 where
+  pub more : Past
+  pub own : All IsOfTurn more
+  pub due : All (IsDueIn s count) more
+  pub fault : stopped more ≡ Some end.LinkFault → ⊥
+  pub closing : stopped more ≡ Some end.Unplugged → ⊥
+  pub left : List ℕ
+  pub refused : (f : Field) → stopped more ≡ Some (end.PeerFault f) → IsRefused s (more ++ past) count left f
+  pub rests : Rests s (more ++ past) sent new
+  pub tied : Tied s (more ++ past) sent new.urbs.outbox (received ++ bytes) left
+  pub counted : AreSent s (more ++ past) sent count
+  pub lies : AllTaken s (more ++ past) count left
+  pub reads : new.end ≡ None → Reads left new
+
+-- it ended otherwise than by an answer
+pub record IsStopped (s : Setting) (past : Past) (sent : List ℕ) (e : End) (core : HubCore) : Type 0 where
+  pub more : Past
+  pub own : All IsOfTurn more
+  pub still : All MovesNothing more
+  pub stop : stopped more ≡ Some e
+  pub rests : Rests s (more ++ past) sent core
