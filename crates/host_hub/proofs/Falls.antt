@@ -14,14 +14,14 @@ use Rattle.host_hub.specs.Crossings.{crossings}
 use Rattle.host_hub.specs.Hand.{ended}
 use Rattle.host_hub.specs.Book.{KeepsBook, live}
 use Rattle.host_hub.specs.Causes.{named}
-use Rattle.host_hub.specs.Calls.{All, IsOfTurn}
+use Rattle.host_hub.specs.Calls.{All}
 use Rattle.host_hub.specs.Ends.{ends_by}
 use Rattle.host_hub.specs.Law.{Kept}
 use Rattle.host_hub.specs.Shown.{ShowsTicket}
 use Rattle.host_hub.specs.Steps.{settle_all}
 use Rattle.host_hub.specs.Knows.{Knows}
 use Rattle.host_hub.specs.Stands.{Rests}
-use Rattle.host_hub.specs.Hears.{GoesByTurn, Hears}
+use Rattle.host_hub.specs.Hears.{GoesByAnswer, Hears, IsBehind}
 use Rattle.host_hub.proofs.Lawful.{lawful_book}
 use Rattle.host_hub.proofs.Endings.{fell_kept}
 use Rattle.host_hub.proofs.Begins.{ended_rests}
@@ -58,33 +58,34 @@ knows_fell s past all core m e u k running follows same = record {
 }
 
 -- the tickets that settle, in the record
-record Ends (e : End) (ts : List ℕ) (past : Past) : Type 0 where
+pub record Ends (e : End) (ts : List ℕ) (past : Past) : Type 0 where
   pub more : Past
-  pub turns : All IsOfTurn more
+  pub behind : All IsBehind more
   pub same : settle_all e ts past ≡ more ++ past
 
-turn_added : (past : Past) (x : Happening) → All IsOfTurn past → IsOfTurn x → All IsOfTurn (past ++ x ∷ [])
-turn_added [] x h i = (i, tt)
-turn_added (y ∷ ys) x h i = (h.0, turn_added ys x h.1 i)
+pub behind_added : (past : Past) (x : Happening) → All IsBehind past → IsBehind x → All IsBehind (past ++ x ∷ [])
+behind_added [] x h i = (i, tt)
+behind_added (y ∷ ys) x h i = (h.0, behind_added ys x h.1 i)
 
-all_ends : (e : End) (ts : List ℕ) (past : Past) → Ends e ts past
-all_ends e [] past = record { more = []; turns = tt; same = refl }
+pub all_ends : (e : End) (ts : List ℕ) (past : Past) → Ends e ts past
+all_ends e [] past = record { more = []; behind = tt; same = refl }
 all_ends e (t ∷ ts) past =
     let a : Ends e ts (Settled t (named e) ∷ past) = all_ends e ts (Settled t (named e) ∷ past) in
     record {
       more = a.more ++ Settled t (named e) ∷ [];
-      turns = turn_added a.more (Settled t (named e)) a.turns tt;
+      behind = behind_added a.more (Settled t (named e)) a.behind tt;
       same = a.same ∙ sym (append_assoc a.more (Settled t (named e) ∷ []) past);
     }
 
 pub fell_goes : (s : Setting) (past : Past) (all : List ℕ) (new : HubCore) (m : down.Message) (e : End) → Kept s past → ended past ≡ None → MayTake (crossings s past) m
-    → ends_by s past m ≡ Some e → new.end ≡ Some e → Knows s (settle_all e (live past) (Fell m e ∷ past)) all new → GoesByTurn s past all new
+    → ends_by s past m ≡ Some e → new.end ≡ Some e → Knows s (settle_all e (live past) (Fell m e ∷ past)) all new → GoesByAnswer s past all m new
 fell_goes s past all new m e kept running may ends is k =
     let a : Ends e (live past) (Fell m e ∷ past) = all_ends e (live past) (Fell m e ∷ past) in
-    let same : settle_all e (live past) (Fell m e ∷ past) ≡ (a.more ++ Fell m e ∷ []) ++ past = a.same ∙ sym (append_assoc a.more (Fell m e ∷ []) past) in
     record {
-      more = a.more ++ Fell m e ∷ [];
-      by_turn = turn_added a.more (Fell m e) a.turns tt;
-      rests = subst (λ (p : Past). Rests s p all new) same
+      first = Fell m e;
+      takes = refl;
+      more = a.more;
+      behind = a.behind;
+      rests = subst (λ (p : Past). Rests s p all new) a.same
           (ended_rests s (settle_all e (live past) (Fell m e ∷ past)) all new e is k (fell_kept s past m e kept running may ends));
     }

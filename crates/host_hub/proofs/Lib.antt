@@ -18,6 +18,8 @@ pub mod Dones
 pub mod Taken
 pub mod Heard
 pub mod Falls
+pub mod Failing
+pub mod Leaving
 pub mod Givings
 pub mod Lawful
 pub mod Numbers

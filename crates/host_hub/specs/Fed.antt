@@ -1,30 +1,25 @@
--- bytes that came are taken
-use Rattle.std.specs.Prelude.{◌≡◌, ◌≤◌, ℕ, Some, None, List, [], ◌++◌}
+-- a hub takes the bytes that came, and how it ends otherwise than by an answer
+use Rattle.std.specs.Prelude.{◌≡◌, ◌≤◌, ℕ, Some, None, List, ◌++◌}
 use Rattle.tmc_base.specs.declared.field.Field.{Field}
 use Rattle.usbip_wire.specs.declared.down.DownPhase.TheVariants.{Urbs}
 use Rattle.usbip_wire.specs.DownFed.{kept}
 use Rattle.host_hub.specs.declared.hub_core.HubCore.{HubCore}
 use Rattle.host_hub.specs.declared.outcome.End.{End}
 use Rattle.host_hub.specs.declared.outcome.End.TheVariants as end
-use Rattle.host_hub.specs.Calls.{All, IsOfTurn}
 use Rattle.host_hub.specs.Order.{Setting}
 use Rattle.host_hub.specs.Record.{Past}
-use Rattle.host_hub.specs.Stands.{Rests}
+use Rattle.host_hub.specs.Calls.{All, IsOfTurn}
 use Rattle.host_hub.specs.Tied.{AllTaken, AreSent, IsDueIn, IsRefused, MovesNothing, NothingLies, Tied, stopped}
+use Rattle.host_hub.specs.Stands.{Rests}
 
--- the reader holds these bytes: of an answer that is not whole yet
+-- the reader holds these bytes: the front of an answer that is not whole yet
 pub record Reads (left : List ℕ) (core : HubCore) : Type 0 where
   pub urbs : core.reader.phase ≡ Urbs
   pub held : kept core.reader ≡ left
   pub good : core.reader.bad ≡ None
 
--- what no step of the core changes but `feed` (reader) and `turn_begins` (turned)
-pub record Leaves (old new : HubCore) : Type 0 where
-  pub reader : new.reader ≡ old.reader
-  pub turned : new.turned ≡ old.turned
-
--- A hub that runs may be fed: of the messages of this record so many were sent whole, and nothing lay in the rest by an
--- earlier count
+-- A hub that runs may be fed: of the messages of this record so many were sent whole, and in what is left of the bytes that
+-- came nothing lay by an earlier such count.
 pub record Feeds (s : Setting) (past : Past) (sent received rest : List ℕ) (count : ℕ) (core : HubCore) : Type 0 where
   pub rests : Rests s past sent core
   pub running : core.end ≡ None
@@ -45,8 +40,9 @@ pub record IsFed (core : HubCore) : Type 0 where
   pub count : ℕ
   pub feeds : Feeds setting past sent received rest count core
 
--- these bytes were taken: the answers in them, or those up to the one or the field that ended the hub
-pub record Fed (s : Setting) (past : Past) (sent received : List ℕ) (count : ℕ) (bytes : List ℕ) (new : HubCore) : Type 0 where
+-- These bytes came, and what is left of them: the record goes on by the answers in them, up to the answer or the field that
+-- ended the hub, where one did.
+pub record Fed (s : Setting) (past : Past) (sent received : List ℕ) (count : ℕ) (bytes : List ℕ) (core : HubCore) : Type 0 where
   pub more : Past
   pub own : All IsOfTurn more
   pub due : All (IsDueIn s count) more
@@ -54,13 +50,13 @@ pub record Fed (s : Setting) (past : Past) (sent received : List ℕ) (count : �
   pub closing : stopped more ≡ Some end.Unplugged → ⊥
   pub left : List ℕ
   pub refused : (f : Field) → stopped more ≡ Some (end.PeerFault f) → IsRefused s (more ++ past) count left f
-  pub rests : Rests s (more ++ past) sent new
-  pub tied : Tied s (more ++ past) sent new.urbs.outbox (received ++ bytes) left
+  pub rests : Rests s (more ++ past) sent core
+  pub tied : Tied s (more ++ past) sent core.urbs.outbox (received ++ bytes) left
   pub counted : AreSent s (more ++ past) sent count
   pub lies : AllTaken s (more ++ past) count left
-  pub reads : new.end ≡ None → Reads left new
+  pub reads : core.end ≡ None → Reads left core
 
--- it ended otherwise than by an answer
+-- it ended by this, with no answer and no message
 pub record IsStopped (s : Setting) (past : Past) (sent : List ℕ) (e : End) (core : HubCore) : Type 0 where
   pub more : Past
   pub own : All IsOfTurn more

@@ -49,6 +49,7 @@ pub record Tied (s : Setting) (past : Past) (sent outbox received rest : List �
 
 -- so many of the messages were sent whole, and of the next one not all
 pub record AreSent (s : Setting) (past : Past) (sent : List ℕ) (count : ℕ) : Type 0 where
+  pub among : count ≤ length (written s past)
   pub part : List ℕ
   pub among : count ≤ length (written s past)
   pub sent_so_far : sent ≡ spelled (take count (written s past)) ++ part

@@ -70,7 +70,7 @@ returns-in-Idle c = λ s past sent r.
       none,
       c.in-Ok.ensures.number ∙ ap (λ (n : ℕ). n + 1) r.knows.shows.count,
       enters_begun s past sent (record { session = c.args.session; kind = c.args.kind; limit = c.args.limit; message = c.args.message.now }) c.begin.new.self
-          (c.begin.ensures s (asked past (record { session = c.args.session; kind = c.args.kind; limit = c.args.limit; message = c.args.message.now })) sent
+          (c.begin.ensures.goes s (asked past (record { session = c.args.session; kind = c.args.kind; limit = c.args.limit; message = c.args.message.now })) sent
           (ready_by s past sent c.args.self.now c.enter.new.self (record { session = c.args.session; kind = c.args.kind; limit = c.args.limit; message = c.args.message.now })
           r (r.knows.over ∙ u.running) (c.in-Ok.ensures.rest) c.in-Idle.is (c.in-Ok.ensures.goes s past sent r.kept.lawful r.knows))),
     )
