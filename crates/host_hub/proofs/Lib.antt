@@ -59,3 +59,5 @@ pub mod Undisturbing
 pub mod Sendings
 pub mod Accounts
 pub mod Faultless
+pub mod Viewing
+pub mod Entering

@@ -11,9 +11,10 @@ use Rattle.host_hub.specs.declared.answers.Turn.TheVariants as turn
 use Rattle.host_hub.specs.declared.outcome.End.{End}
 use Rattle.host_hub.specs.declared.refusals.AskFault.{AskFault}
 use Rattle.host_hub.specs.Asks.{IsWhy}
-use Rattle.host_hub.specs.Behind.{Behind, HubParts, births_of}
+use Rattle.host_hub.specs.declared.hub_core.HubCore.{HubCore}
+use Rattle.host_hub.specs.Behind.{Account, Behind, HubParts, births_of}
 use Rattle.host_hub.specs.BookSeen.{BookSeen, Seen, ticket_of}
-use Rattle.host_hub.specs.Calls.{AddsAsk, AddsGivingUp}
+use Rattle.host_hub.specs.Calls.{AddsAsk}
 use Rattle.host_hub.specs.Order.{Setting}
 use Rattle.host_hub.specs.Record.{Asking, Past}
 use Rattle.host_hub.specs.Book.{tickets}
@@ -24,18 +25,17 @@ use Rattle.host_hub.specs.Tied.{AddsTurn, Said, Went, Failed, Closed}
 -- ---- calls that move no byte
 
 -- the record goes on by what was added, and the bytes of the link stay
-pub record LeadsOn {A : Type 0} (tells : A → Told) (counts : A → Counts) (start : Told) (s : Setting) (past : Past) (sent received : List ℕ) (Adds : Past → Type 0) (new : HubParts A) : Type 0 where
+pub record LeadsOn (start now : Told) (counts : Counts) (s : Setting) (past : Past) (sent received : List ℕ) (Adds : Past → Type 0) (core : HubCore) : Type 0 where
   pub more : Past
   pub adds : Adds more
-  pub behind : Behind tells counts start s (more ++ past) sent received new
+  pub account : Account start now counts s (more ++ past) sent received core
 
--- Every record behind the hub before: a ticket has the next number, and is refused by the first cause that holds, and for want of
--- memory where none does.
-abbrev pub AsksOf : {A : Type 0} → (A → Told) → (A → Counts) → Told → Setting → Past → (sent received : List ℕ) → Asking → Result ℕ AskFault → (new : HubParts A) → Type 0
-AsksOf tells counts start s past sent received asking (Ok ticket) new =
-    (ask_fault s past asking ≡ None) × (ticket ≡ tickets past + 1) × LeadsOn tells counts start s past sent received (AddsAsk past asking) new
-AsksOf tells counts start s past sent received asking (Err why) new =
-    IsWhy (ask_fault s past asking) why × Behind tells counts start s past sent received new
+-- A ticket has the next number. It is refused by the first cause that holds, and for want of memory where none does.
+abbrev pub AsksOf : (start now : Told) → Counts → Setting → Past → (sent received : List ℕ) → Asking → Result ℕ AskFault → HubCore → Type 0
+AsksOf start now counts s past sent received asking (Ok ticket) core =
+    (ask_fault s past asking ≡ None) × (ticket ≡ tickets past + 1) × LeadsOn start now counts s past sent received (AddsAsk past asking) core
+AsksOf start now counts s past sent received asking (Err why) core =
+    IsWhy (ask_fault s past asking) why × Account start now counts s past sent received core
 
 -- the view of the ticket that was asked: the last one, behind those that there were
 pub record AddsView (asking : Asking) (ticket : ℕ) (old new : BookSeen) : Type 0 where
@@ -47,6 +47,11 @@ pub record AddsView (asking : Asking) (ticket : ℕ) (old new : BookSeen) : Type
   pub kind : seen.kind ≡ asking.kind
   pub limit : seen.limit ≡ asking.limit
   pub message : seen.message ≡ asking.message
+
+-- so of a call that asks: where nothing was asked, no view was added
+abbrev pub HasView : Asking → Result ℕ AskFault → (old new : BookSeen) → Type 0
+HasView asking (Ok ticket) old new = AddsView asking ticket old new
+HasView asking (Err why) old new = new ≡ old
 
 -- ---- a turn
 
@@ -103,10 +108,10 @@ IsAnswer turn.Memory ended sent came =
     (ended ≡ None) × (sent_count sent + came_count came ≡ 0) × ((sent ≡ Some send.Memory) ⊎ (came ≡ Some poll.Memory))
 
 -- The record goes on by what a turn adds, by the messages that were sent whole before it polled, and by what the link said.
-pub record TurnsOn {A : Type 0} (tells : A → Told) (counts : A → Counts) (start : Told) (s : Setting) (past : Past) (sent received out into : List ℕ) (said : Said) (new : HubParts A) : Type 0 where
+pub record TurnsOn (start now : Told) (counts : Counts) (s : Setting) (past : Past) (sent received out into : List ℕ) (said : Said) (core : HubCore) : Type 0 where
   pub more : Past
-  pub behind : Behind tells counts start s (more ++ past) (sent ++ out) (received ++ into) new
-  pub adds : AddsTurn s past behind.count behind.rest said more
+  pub account : Account start now counts s (more ++ past) (sent ++ out) (received ++ into) core
+  pub adds : AddsTurn s past account.count account.rest said more
 
 -- one turn of a hub that runs
 pub record Turns {A : Type 0} (tells : A → Told) (counts : A → Counts) (sends : A → List ℕ → SendStep → A → Type 0) (polls : A → ℕ → PollStep → List ℕ → A → Type 0) (answer : Turn) (old new : HubParts A) : Type 0 where
@@ -121,4 +126,4 @@ pub record Turns {A : Type 0} (tells : A → Told) (counts : A → Counts) (send
   pub answers : IsAnswer answer new.core.end sent came
   pub births : HasTurned (births_of old.core) (births_of new.core)
   pub turns : (start : Told) (s : Setting) (past : Past) (before received : List ℕ) → Behind tells counts start s past before received old
-      → TurnsOn tells counts start s past before received (take (sent_count sent) old.core.urbs.outbox) bytes (said_by sent came) new
+      → TurnsOn start (tells new.link) (counts new.link) s past before received (take (sent_count sent) old.core.urbs.outbox) bytes (said_by sent came) new.core

@@ -42,7 +42,6 @@ pub mod WorkedStatus
 pub mod WorkedWrong
 pub mod Sentences
 pub mod Joined
-pub mod Fed
 pub mod Undisturbed
 pub mod Behind
 pub mod HubCalls

@@ -51,7 +51,6 @@ pub record Tied (s : Setting) (past : Past) (sent outbox received rest : List �
 pub record AreSent (s : Setting) (past : Past) (sent : List ℕ) (count : ℕ) : Type 0 where
   pub among : count ≤ length (written s past)
   pub part : List ℕ
-  pub among : count ≤ length (written s past)
   pub sent_so_far : sent ≡ spelled (take count (written s past)) ++ part
   pub next : (message : up.Message) (more : List up.Message) → drop count (written s past) ≡ message ∷ more → length part < length (bytes_of message)
   pub none_left : drop count (written s past) ≡ [] → part ≡ []

@@ -8,13 +8,14 @@ ghost use Rattle.host_hub.specs.Asks.{IsUnchanged};
 ghost use Rattle.host_hub.specs.Behind.{Behind, Holds, IsRecorded, births_of};
 ghost use Rattle.host_hub.specs.BookSeen.{IsView, ticket_of};
 ghost use Rattle.host_hub.specs.Calls.{AddsGivingUp};
-ghost use Rattle.host_hub.specs.HubCalls.{AddsView, AsksOf, LeadsOn};
+ghost use Rattle.host_hub.specs.HubCalls.{AsksOf, HasView, LeadsOn};
 ghost use Rattle.host_hub.specs.Noted.{born_of};
 ghost use Rattle.host_hub.specs.Order.{Setting};
 ghost use Rattle.host_hub.specs.Record.{Past};
 ghost use Rattle.host_hub.specs.Shown.{IsBorn};
 
 use crate::hub_core::HubCore;
+use crate::recorded::{accounts_are_entered, accounts_are_tended, accounts_begin, hubs_hold};
 use crate::{AskFault, Book, End, Kind, View};
 use std::alloc::Global;
 use std::marker::Model;
@@ -61,6 +62,8 @@ impl<L: Link> Hub<L> {
         ensures holds { IfOk result (λ hub. Holds L.told L.counts hub) }
         ensures back { IfErr result (λ refused. refused.0 ≡ link) }
     {
+        hubs_hold();
+        accounts_begin();
         match HubCore::new(alloc, devid, ends, first) {
             Ok(core) => Ok(Hub { link, core }),
             Err(memory) => Err((link, memory)),
@@ -74,13 +77,15 @@ impl<L: Link> Hub<L> {
     /// The first cause that holds, as [`AskFault`] lists them. Then nothing has changed.
     pub fn ask(&mut self, session: u8, message: &[u8], limit: u32) -> Result<u32, AskFault>
         ensures asks { (start : Told) (s : Setting) (past : Past) (sent received : List ℕ) → Behind L.told L.counts start s past sent received self.old
-            → AsksOf L.told L.counts start s past sent received (record { session = session; kind = kind.Ask; limit = limit; message = message.now }) result self.new }
-        ensures view { IfOk result (λ ticket. AddsView (record { session = session; kind = kind.Ask; limit = limit; message = message.now }) ticket self.old.core.book self.new.core.book) }
+            → AsksOf start (L.told self.new.link) (L.counts self.new.link) s past sent received (record { session = session; kind = kind.Ask; limit = limit; message = message.now }) result self.new.core }
+        ensures view { HasView (record { session = session; kind = kind.Ask; limit = limit; message = message.now }) result self.old.core.book self.new.core.book }
         ensures born { OnOk result (IsBorn (births_of self.old.core) (births_of self.new.core)) }
         ensures unchanged { OnErr result (IsUnchanged self.old.core self.new.core) }
         ensures link { self.new.link ≡ self.old.link }
         ensures holds { Holds L.told L.counts self.new }
     {
+        hubs_hold();
+        accounts_are_entered();
         self.core.ask(session, Kind::Ask, message, limit)
     }
 
@@ -91,13 +96,15 @@ impl<L: Link> Hub<L> {
     /// The first cause that holds, as [`AskFault`] lists them. Then nothing has changed.
     pub fn tell(&mut self, session: u8, message: &[u8]) -> Result<u32, AskFault>
         ensures asks { (start : Told) (s : Setting) (past : Past) (sent received : List ℕ) → Behind L.told L.counts start s past sent received self.old
-            → AsksOf L.told L.counts start s past sent received (record { session = session; kind = kind.Tell; limit = 0; message = message.now }) result self.new }
-        ensures view { IfOk result (λ ticket. AddsView (record { session = session; kind = kind.Tell; limit = 0; message = message.now }) ticket self.old.core.book self.new.core.book) }
+            → AsksOf start (L.told self.new.link) (L.counts self.new.link) s past sent received (record { session = session; kind = kind.Tell; limit = 0; message = message.now }) result self.new.core }
+        ensures view { HasView (record { session = session; kind = kind.Tell; limit = 0; message = message.now }) result self.old.core.book self.new.core.book }
         ensures born { OnOk result (IsBorn (births_of self.old.core) (births_of self.new.core)) }
         ensures unchanged { OnErr result (IsUnchanged self.old.core self.new.core) }
         ensures link { self.new.link ≡ self.old.link }
         ensures holds { Holds L.told L.counts self.new }
     {
+        hubs_hold();
+        accounts_are_entered();
         self.core.ask(session, Kind::Tell, message, 0)
     }
 
@@ -106,19 +113,22 @@ impl<L: Link> Hub<L> {
         ensures view { MatchOption result (ticket_of ticket self.now.core.book.tickets ≡ None) (λ view. IsView ticket self.now.core.book.tickets view) }
         ensures holds { Holds L.told L.counts self.now }
     {
+        hubs_hold();
         self.core.book.view(ticket)
     }
 
     /// Gives a running hub up: enters that, and settles every live ticket by it. A hub that has ended stays as it is.
     pub fn give_up(&mut self)
         ensures given { self.old.core.end ≡ None → (start : Told) (s : Setting) (past : Past) (sent received : List ℕ) → Behind L.told L.counts start s past sent received self.old
-            → LeadsOn L.told L.counts start s past sent received AddsGivingUp self.new }
+            → LeadsOn start (L.told self.new.link) (L.counts self.new.link) s past sent received AddsGivingUp self.new.core }
         ensures again { (e : End) → self.old.core.end ≡ Some e → self.new ≡ self.old }
         ensures ended { self.old.core.end ≡ None → self.new.core.end ≡ Some End.GivenUp }
         ensures births { births_of self.new.core ≡ births_of self.old.core }
         ensures link { self.new.link ≡ self.old.link }
         ensures holds { Holds L.told L.counts self.new }
     {
+        hubs_hold();
+        accounts_are_entered();
         self.core.give_up();
     }
 
@@ -128,6 +138,7 @@ impl<L: Link> Hub<L> {
         ensures recorded { IsRecorded L.told L.counts self.now }
         ensures holds { Holds L.told L.counts self.now }
     {
+        hubs_hold();
         &self.core.book
     }
 
@@ -191,6 +202,8 @@ impl<L: Link> Hub<L> {
             → Behind L.told L.counts start s past sent received self.new }
         ensures holds { Holds L.told L.counts self.new }
     {
+        hubs_hold();
+        accounts_are_tended();
         self.link.tend(act)
     }
 
