@@ -543,7 +543,7 @@ front_stop (Cleared w ∷ more) past e f = front_stop more past e f
 front_stop (GaveUp ∷ more) past e f = front_stop more past e f
 front_stop (Settled t o ∷ more) past e f = front_stop more past e f
 
-back_stop : (more past : Past) (e : End) → stopped past ≡ None → stopped (more ++ past) ≡ Some e → stopped more ≡ Some e
+pub back_stop : (more past : Past) (e : End) → stopped past ≡ None → stopped (more ++ past) ≡ Some e → stopped more ≡ Some e
 back_stop [] past e none f = no_some e (sym none ∙ f)
 back_stop (Wrote n o k ∷ more) past e none f = back_stop more past e none f
 back_stop (Took m ∷ more) past e none f = back_stop more past e none f
@@ -621,7 +621,7 @@ account_stopped laws start now counts s past sent received core new e a running 
 
 -- ---- bytes are taken
 
-pub account_fed : Joins → (start now later : Told) (counts after : Counts) (s : Setting) (past : Past) (sent received bytes : List ℕ) (core new : HubCore)
+unfoldable pub account_fed : Joins → (start now later : Told) (counts after : Counts) (s : Setting) (past : Past) (sent received bytes : List ℕ) (core new : HubCore)
     → (a : Account start now counts s past sent received core) → ended past ≡ None → CameIn bytes now later → (fed : Fed s past sent received a.count bytes new)
     → Account start later after s (fed.more ++ past) sent (received ++ bytes) new
 account_fed laws start now later counts after s past sent received bytes core new a running came fed =

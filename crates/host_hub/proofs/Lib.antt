@@ -61,3 +61,4 @@ pub mod Accounts
 pub mod Faultless
 pub mod Viewing
 pub mod Entering
+pub mod Turns

@@ -4,11 +4,12 @@ use Rattle.tmc_base.specs.declared.link.PollStep.{PollStep}
 use Rattle.tmc_base.specs.declared.link.PollStep.TheVariants as poll
 use Rattle.tmc_base.specs.declared.link.SendStep.{SendStep}
 use Rattle.tmc_base.specs.declared.link.SendStep.TheVariants as send
-use Rattle.tmc_base.specs.Link.{Counts, PollCounts, SendCounts, got_count, took_count}
+use Rattle.tmc_base.specs.Link.{Counts, PollCounts, PollsWithin, SendCounts, SendsWithin, got_count, took_count}
 use Rattle.tmc_base.specs.Told.{Told}
 use Rattle.host_hub.specs.declared.answers.Turn.{Turn}
 use Rattle.host_hub.specs.declared.answers.Turn.TheVariants as turn
 use Rattle.host_hub.specs.declared.outcome.End.{End}
+use Rattle.host_hub.specs.declared.outcome.End.TheVariants as end
 use Rattle.host_hub.specs.declared.refusals.AskFault.{AskFault}
 use Rattle.host_hub.specs.Asks.{IsWhy}
 use Rattle.host_hub.specs.declared.hub_core.HubCore.{HubCore}
@@ -77,6 +78,11 @@ abbrev pub CountsPoll : Option PollStep → Counts → Counts → Type 0
 CountsPoll None old new = new ≡ old
 CountsPoll (Some step) old new = PollCounts step old new
 
+-- bytes went only where there are some, and at least one where the send says so
+abbrev pub WithinSend : Option SendStep → ℕ → Type 0
+WithinSend None offered = Unit {0}
+WithinSend (Some step) offered = SendsWithin step offered
+
 -- how many bytes went, and came
 abbrev pub sent_count : Option SendStep → ℕ
 sent_count None = 0
@@ -87,11 +93,15 @@ came_count None = 0
 came_count (Some step) = got_count step
 
 -- what the link said
+abbrev pub said_of : PollStep → Said
+said_of poll.Failed = Failed
+said_of poll.Closed = Closed
+said_of step = Went
+
 abbrev pub said_by : Option SendStep → Option PollStep → Said
 said_by (Some send.Failed) step = Failed
-said_by sent (Some poll.Failed) = Failed
-said_by sent (Some poll.Closed) = Closed
-said_by sent step = Went
+said_by sent None = Went
+said_by sent (Some step) = said_of step
 
 -- no byte went: there was none, or the link was idle
 abbrev pub IsIdleSend : Option SendStep → Type 0
@@ -107,11 +117,56 @@ IsAnswer (turn.Ended e) ended sent came = ended ≡ Some e
 IsAnswer turn.Memory ended sent came =
     (ended ≡ None) × (sent_count sent + came_count came ≡ 0) × ((sent ≡ Some send.Memory) ⊎ (came ≡ Some poll.Memory))
 
--- The record goes on by what a turn adds, by the messages that were sent whole before it polled, and by what the link said.
-pub record TurnsOn (start now : Told) (counts : Counts) (s : Setting) (past : Past) (sent received out into : List ℕ) (said : Said) (core : HubCore) : Type 0 where
+-- how the hub is behind a send, and behind a poll
+abbrev pub EndsSend : Option SendStep → Option End → Type 0
+EndsSend (Some send.Failed) ended = ended ≡ Some end.LinkFault
+EndsSend step ended = ended ≡ None
+
+abbrev pub EndsPoll : PollStep → Option End → Type 0
+EndsPoll poll.Failed ended = ended ≡ Some end.LinkFault
+EndsPoll poll.Closed ended = ended ≡ Some end.Unplugged
+EndsPoll (poll.Got n) ended = Unit {0}
+EndsPoll step ended = ended ≡ None
+
+-- where a hub runs behind its calls of the link, none of them failed or found the link closed; and each step says how much moved
+pub record CanAnswer (ended : Option End) (sent : Option SendStep) (came : PollStep) : Type 0 where
+  pub sending : EndsSend sent None
+  pub polling : EndsPoll came ended
+  pub went : (offered : ℕ) × WithinSend sent offered
+  pub got : PollsWithin came 8192
+
+-- The record goes on by what a turn adds, by the messages that were sent whole before it polled, and by what the link said; and
+-- these bytes are sent and taken then.
+pub record TurnsOn (start now : Told) (counts : Counts) (s : Setting) (past : Past) (sent received : List ℕ) (said : Said) (core : HubCore) : Type 0 where
   pub more : Past
-  pub account : Account start now counts s (more ++ past) (sent ++ out) (received ++ into) core
+  pub account : Account start now counts s (more ++ past) sent received core
   pub adds : AddsTurn s past account.count account.rest said more
+
+-- behind the send: the hub has ended, or it runs on, and the bytes that went are sent
+abbrev pub SendsOn : Option SendStep → (start now : Told) → Counts → Setting → Past → (sent received outbox : List ℕ) → HubCore → Type 0
+SendsOn (Some send.Failed) start now counts s past sent received outbox core = TurnsOn start now counts s past (sent ++ []) received Failed core
+SendsOn step start now counts s past sent received outbox core = Account start now counts s past (sent ++ take (sent_count step) outbox) received core
+
+-- one send of a hub that runs, where its outbox is not empty
+pub record Sends {A : Type 0} (tells : A → Told) (counts : A → Counts) (sends : A → List ℕ → SendStep → A → Type 0) (sent : Option SendStep) (old new : HubParts A) : Type 0 where
+  pub once : SendsOnce sends old.core.urbs.outbox sent old.link new.link
+  pub within : WithinSend sent (length old.core.urbs.outbox)
+  pub counted : CountsSend sent (counts old.link) (counts new.link)
+  pub ends : EndsSend sent new.core.end
+  pub births : births_of new.core ≡ births_of old.core
+  pub goes : (start : Told) (s : Setting) (past : Past) (before received : List ℕ) → Behind tells counts start s past before received old
+      → SendsOn sent start (tells new.link) (counts new.link) s past before received old.core.urbs.outbox new.core
+
+-- one poll
+pub record Polls {A : Type 0} (tells : A → Told) (counts : A → Counts) (polls : A → ℕ → PollStep → List ℕ → A → Type 0) (came : PollStep) (old new : HubParts A) : Type 0 where
+  pub bytes : List ℕ
+  pub once : polls old.link 8192 came bytes new.link
+  pub within : PollsWithin came 8192
+  pub counted : PollCounts came (counts old.link) (counts new.link)
+  pub ends : EndsPoll came new.core.end
+  pub births : births_of new.core ≡ births_of old.core
+  pub goes : (start : Told) (s : Setting) (past : Past) (before received : List ℕ) → Behind tells counts start s past before received old
+      → TurnsOn start (tells new.link) (counts new.link) s past before (received ++ bytes) (said_of came) new.core
 
 -- one turn of a hub that runs
 pub record Turns {A : Type 0} (tells : A → Told) (counts : A → Counts) (sends : A → List ℕ → SendStep → A → Type 0) (polls : A → ℕ → PollStep → List ℕ → A → Type 0) (answer : Turn) (old new : HubParts A) : Type 0 where
@@ -126,4 +181,4 @@ pub record Turns {A : Type 0} (tells : A → Told) (counts : A → Counts) (send
   pub answers : IsAnswer answer new.core.end sent came
   pub births : HasTurned (births_of old.core) (births_of new.core)
   pub turns : (start : Told) (s : Setting) (past : Past) (before received : List ℕ) → Behind tells counts start s past before received old
-      → TurnsOn start (tells new.link) (counts new.link) s past before received (take (sent_count sent) old.core.urbs.outbox) bytes (said_by sent came) new.core
+      → TurnsOn start (tells new.link) (counts new.link) s past (before ++ take (sent_count sent) old.core.urbs.outbox) (received ++ bytes) (said_by sent came) new.core

@@ -8,7 +8,7 @@ ghost use Rattle.host_hub.specs.Asks.{IsUnchanged};
 ghost use Rattle.host_hub.specs.Behind.{Behind, Holds, IsRecorded, births_of};
 ghost use Rattle.host_hub.specs.BookSeen.{IsView, ticket_of};
 ghost use Rattle.host_hub.specs.Calls.{AddsGivingUp};
-ghost use Rattle.host_hub.specs.HubCalls.{AsksOf, HasView, LeadsOn};
+ghost use Rattle.host_hub.specs.HubCalls.{AsksOf, HasView, LeadsOn, Turns};
 ghost use Rattle.host_hub.specs.Noted.{born_of};
 ghost use Rattle.host_hub.specs.Order.{Setting};
 ghost use Rattle.host_hub.specs.Record.{Past};
@@ -16,7 +16,8 @@ ghost use Rattle.host_hub.specs.Shown.{IsBorn};
 
 use crate::hub_core::HubCore;
 use crate::recorded::{accounts_are_entered, accounts_are_tended, accounts_begin, hubs_hold};
-use crate::{AskFault, Book, End, Kind, View};
+use crate::turning;
+use crate::{AskFault, Book, End, Kind, Turn, View};
 use std::alloc::Global;
 use std::marker::Model;
 use tmc_base::{Link, Memory, TendStep};
@@ -106,6 +107,20 @@ impl<L: Link> Hub<L> {
         hubs_hold();
         accounts_are_entered();
         self.core.ask(session, Kind::Tell, message, 0)
+    }
+
+    /// Sends once where the outbox is not empty, and then, unless that ended the hub, polls once, at most 8,192 bytes. A hub that
+    /// has ended leaves its link alone.
+    pub fn turn(&mut self) -> Turn
+        ensures ended { (e : End) → self.old.core.end ≡ Some e → (result ≡ Turn.Ended e) × (self.new ≡ self.old) }
+        ensures turns { self.old.core.end ≡ None → Turns L.told L.counts L.sends L.polls result self.old self.new }
+        ensures holds { Holds L.told L.counts self.new }
+    {
+        hubs_hold();
+        if let Some(end) = self.core.end {
+            return Turn::Ended(end);
+        }
+        turning::turn(&mut self.link, &mut self.core)
     }
 
     /// The view of this ticket, or `None` where there is no such ticket.

@@ -29,6 +29,7 @@ mod stops;
 mod ticket;
 mod ties;
 mod transfers;
+mod turning;
 mod view;
 pub mod worked;
 mod writing;
