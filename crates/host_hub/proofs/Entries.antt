@@ -80,7 +80,7 @@ found_there s past k h =
 
 -- ---- which answers may come
 
-as_submit : (s : Setting) (n : ℕ) (order : Order) → is_unlink order ≡ false
+pub as_submit : (s : Setting) (n : ℕ) (order : Order) → is_unlink order ≡ false
     → dirs.submit_of (Some (entry_of (sent_by (message_of s n order)))) ≡ Some (way_of order, size_of s.ends order)
 as_submit s n (Unlink target) h = clash (sym h)
 as_submit s n order h = refl

@@ -58,7 +58,7 @@ knows_fell s past all core m e u k running follows same = record {
 }
 
 -- the tickets that settle, in the record
-pub record Ends (e : End) (ts : List ℕ) (past : Past) : Type 0 where
+pub record AllEnds (e : End) (ts : List ℕ) (past : Past) : Type 0 where
   pub more : Past
   pub behind : All IsBehind more
   pub same : settle_all e ts past ≡ more ++ past
@@ -67,10 +67,10 @@ pub behind_added : (past : Past) (x : Happening) → All IsBehind past → IsBeh
 behind_added [] x h i = (i, tt)
 behind_added (y ∷ ys) x h i = (h.0, behind_added ys x h.1 i)
 
-pub all_ends : (e : End) (ts : List ℕ) (past : Past) → Ends e ts past
+pub all_ends : (e : End) (ts : List ℕ) (past : Past) → AllEnds e ts past
 all_ends e [] past = record { more = []; behind = tt; same = refl }
 all_ends e (t ∷ ts) past =
-    let a : Ends e ts (Settled t (named e) ∷ past) = all_ends e ts (Settled t (named e) ∷ past) in
+    let a : AllEnds e ts (Settled t (named e) ∷ past) = all_ends e ts (Settled t (named e) ∷ past) in
     record {
       more = a.more ++ Settled t (named e) ∷ [];
       behind = behind_added a.more (Settled t (named e)) a.behind tt;
@@ -80,7 +80,7 @@ all_ends e (t ∷ ts) past =
 pub fell_goes : (s : Setting) (past : Past) (all : List ℕ) (new : HubCore) (m : down.Message) (e : End) → Kept s past → ended past ≡ None → MayTake (crossings s past) m
     → ends_by s past m ≡ Some e → new.end ≡ Some e → Knows s (settle_all e (live past) (Fell m e ∷ past)) all new → GoesByAnswer s past all m new
 fell_goes s past all new m e kept running may ends is k =
-    let a : Ends e (live past) (Fell m e ∷ past) = all_ends e (live past) (Fell m e ∷ past) in
+    let a : AllEnds e (live past) (Fell m e ∷ past) = all_ends e (live past) (Fell m e ∷ past) in
     record {
       first = Fell m e;
       takes = refl;

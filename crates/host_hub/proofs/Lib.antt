@@ -52,6 +52,11 @@ pub mod Polls
 pub mod Plain
 pub mod InHand
 pub mod Joining
+pub mod Answering
+pub mod Makes
+pub mod Readings
+pub mod Failed
+pub mod Requested
 pub mod Going
 pub mod Owns
 pub mod Exchanging

@@ -25,7 +25,7 @@ use Rattle.host_hub.proofs.Nexts.{IsNext, behind, next_kept, next_knows, next_ou
 
 -- ---- what is seen of the ticket is what it asks for
 
-same_asking : (a b : Asking) → Some a ≡ Some b → a ≡ b
+pub same_asking : (a b : Asking) → Some a ≡ Some b → a ≡ b
 same_asking a b e = cc
 
 pub seen_asks : (s : Setting) (past : Past) (sent : List ℕ) (core : HubCore) (asking : Asking) (split : Bool) (seen : Seen) → GoesOn s past sent core asking split

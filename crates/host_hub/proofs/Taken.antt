@@ -37,7 +37,7 @@ pub one_found : (t n : ℕ) (k : Order) (m : ℕ) (xs : List Sent) → xs ≡ re
     → find m xs ≡ Some (record { number = n; owner = Of t; order = k })
 one_found t n k m xs is same = rw is (rw same (rw (own n) refl))
 
-none_left : (t n : ℕ) (k : Order) (m : ℕ) (xs : List Sent) → xs ≡ record { number = n; owner = Of t; order = k } ∷ [] → m ≡ n → others m xs ≡ []
+pub none_left : (t n : ℕ) (k : Order) (m : ℕ) (xs : List Sent) → xs ≡ record { number = n; owner = Of t; order = k } ∷ [] → m ≡ n → others m xs ≡ []
 none_left t n k m xs is same = rw is (rw same (rw (own n) refl))
 
 pub out_found : (s : Setting) (past : Past) (core : HubCore) (asking : Asking) (order : Order) (split : Bool) (m : ℕ) → (o : IsOut s past core asking order split) → m ≡ o.number

@@ -24,6 +24,7 @@ ghost use Rattle.host_hub.specs.Knows.{Knows};
 ghost use Rattle.host_hub.specs.OneOut.{OneOut};
 
 use crate::hub_core::{HubCore, Phase};
+use crate::transfers::pieces_are_assembled;
 use crate::{End, Kind, Outcome};
 use host_transfers::{PART_MAX, Piece};
 use tmc_base::{BULK_IN_SUBMIT, Field, Layer, Name};
@@ -123,6 +124,7 @@ impl HubCore {
             → GoesByAnswer s past sent (down.RetSubmit head (data_of self.old.reader)) self.new }
         ensures leaves { Leaves self.old self.new }
     {
+        pieces_are_assembled();
         let short = head.actual < BULK_IN_SUBMIT;
         match self.assembly.feed(self.reader.data(), short) {
             Piece::Bad(field) => self.fall(head, End::PeerFault(field)),
