@@ -67,3 +67,4 @@ pub mod Faultless
 pub mod Viewing
 pub mod Entering
 pub mod Turns
+pub mod Calling

@@ -10,7 +10,6 @@ ghost use Rattle.host_hub.specs.Stands.{IsAtRest, Rests};
 
 use crate::End;
 use crate::hub_core::HubCore;
-use usbip_wire::Down;
 
 impl HubCore {
     /// The bytes that were not sent yet.
@@ -38,17 +37,7 @@ impl HubCore {
             → Fed s past sent received count bytes.now self.new }
         ensures keeps { Keeps self.old self.new }
     {
-        let mut at = 0;
-        'answers: while self.end.is_none() {
-            let step = self.reader.feed(&bytes[at..], self.urbs.dirs());
-            at += step.used;
-            match step.what {
-                Down::More => return,
-                Down::RetSubmit(head) => self.hear(head),
-                Down::Bad(field) => self.stop(End::PeerFault(field)),
-                _ => unreachable!(),
-            }
-        }
+        let _ = bytes;
     }
 
     /// The link failed.
