@@ -40,7 +40,7 @@ use Rattle.host_hub.specs.Law.{IsHandOver, Kept, Lawful}
 use Rattle.host_hub.specs.Steps.{Comes, settle_all, took}
 use Rattle.host_hub.specs.Knows.{HasActive, HasBook, Knows}
 use Rattle.host_hub.specs.OneOut.{OneOut}
-use Rattle.host_hub.specs.Stands.{IsInMessage, IsInRequest, IsInResponse, IsOut, Rests, Stands}
+use Rattle.host_hub.specs.Stands.{IsIdle, IsInMessage, IsInRequest, IsInResponse, IsOut, Rests, Stands}
 use Rattle.host_hub.specs.Writes.{Done, GoesOn, PartIsNext, RequestIsNext}
 use Rattle.host_hub.specs.Hears.{GoesByAnswer, Hears, HearsOut, IsBehind, endpoint_out, failed_as}
 use Rattle.host_hub.proofs.Answering.{HeardOut, answered_out, ends_failed, ends_gone, heard_out, hears_out, plain_submit}
@@ -50,7 +50,7 @@ use Rattle.host_hub.proofs.Lawful.{lawful_book}
 use Rattle.host_hub.proofs.Makes.{made_fine}
 use Rattle.host_hub.proofs.Begins.{ended_rests, none_entries}
 use Rattle.host_hub.proofs.Failing.{failed_kept}
-use Rattle.host_hub.proofs.Falls.{AllEnds, all_ends, behind_added}
+use Rattle.host_hub.proofs.Falls.{AllEnds, all_added, all_ends, settling_all}
 use Rattle.host_hub.proofs.Knowing.{known_ticket, seen_there}
 use Rattle.host_hub.proofs.Begins.{asking_seen}
 use Rattle.host_hub.proofs.Lists.{clash, and_false, own}
@@ -77,7 +77,7 @@ pub record OutNow (s : Setting) (past : Past) (core : HubCore) : Type 0 where
   pub bulk : is_bulk order ≡ true
   pub endpoint : endpoint_of s.ends order ≡ endpoint_out s.ends core.phase
 
-none_sent : (s : Setting) (past : Past) (all : List ℕ) (core : HubCore) (head : RetSubmitHead) (bytes : List ℕ) → HearsOut s past all core head bytes → outstanding past ≡ [] → ⊥
+pub none_sent : (s : Setting) (past : Past) (all : List ℕ) (core : HubCore) (head : RetSubmitHead) (bytes : List ℕ) → HearsOut s past all core head bytes → outstanding past ≡ [] → ⊥
 none_sent s past all core head bytes h none =
     let is : core.urbs.entries ≡ [] = none_entries s past all core h.rests.kept.lawful h.rests.knows none in
     let e : None ≡ Some (h.spelled.0.dir, h.spelled.0.size) =
@@ -267,7 +267,8 @@ module _ (core : HubCore) (head : RetSubmitHead) (failed : head.status ≢ pos 0
             first = Took (down.RetSubmit head bytes);
             takes = refl;
             more = (a.more ++ Stopped e ∷ []) ++ Settled core.active (failed_as core.ends core.phase head.status) ∷ [];
-            behind = behind_added (a.more ++ Stopped e ∷ []) (Settled core.active (failed_as core.ends core.phase head.status)) (behind_added a.more (Stopped e) a.behind tt) tt;
+            behind = all_added IsBehind (a.more ++ Stopped e ∷ []) (Settled core.active (failed_as core.ends core.phase head.status))
+                (all_added IsBehind a.more (Stopped e) (settling_all IsBehind (λ t o. tt) a.more a.settling) tt) tt;
             rests = subst (λ (p : Past). Rests s p all new)
                 (a.same ∙ (sym (append_assoc a.more (Stopped e ∷ []) settled_past)
                 ∙ sym (append_assoc (a.more ++ Stopped e ∷ []) (Settled core.active (failed_as core.ends core.phase head.status) ∷ []) (took past head bytes))))
@@ -283,3 +284,10 @@ module _ (core : HubCore) (head : RetSubmitHead) (failed : head.status ≢ pos 0
       failed_goes new e same stops ended_by =
           failed_goes_by new
           (λ s past sent keeps k. subst (λ (x : End). Knows s (settle_all x (live past) (Stopped x ∷ past)) sent new) same (stops s past sent keeps k)) (ended_by ∙ ap Some same)
+
+-- ---- no ticket is live, and nothing is out
+
+pub idle_hears : (s : Setting) (past : Past) (all : List ℕ) (core : HubCore) (head : RetSubmitHead) (bytes : List ℕ) → HearsOut s past all core head bytes → core.phase ≡ phase.Idle → ⊥
+idle_hears s past all core head bytes h is =
+    let i : IsIdle past core = subst (λ (p : Phase). Stands p s past core) is (h.rests.stands h.running) in
+    none_sent s past all core head bytes h i.nothing

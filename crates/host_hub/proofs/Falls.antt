@@ -9,7 +9,9 @@ use Rattle.host_hub.specs.declared.hub_core.HubCore.{HubCore}
 use Rattle.host_hub.specs.declared.outcome.End.{End}
 use Rattle.host_hub.specs.BookSeen.{Seen}
 use Rattle.host_hub.specs.Order.{Setting}
-use Rattle.host_hub.specs.Record.{Past, Happening, Fell, Settled, taken}
+use Rattle.host_hub.specs.declared.outcome.Outcome.{Outcome}
+use Rattle.host_hub.specs.Tied.{stopped}
+use Rattle.host_hub.specs.Record.{Asked, Cancelled, Cleared, Fell, GaveUp, Happening, Past, Recovers, Settled, Stopped, Took, Wrote, taken}
 use Rattle.host_hub.specs.Crossings.{crossings}
 use Rattle.host_hub.specs.Hand.{ended}
 use Rattle.host_hub.specs.Book.{KeepsBook, live}
@@ -57,25 +59,62 @@ knows_fell s past all core m e u k running follows same = record {
   room = omega (arith, k.room);
 }
 
--- the tickets that settle, in the record
+-- ---- the tickets that settle, in the record
+
+abbrev pub IsSettling : Happening → Type 0
+IsSettling (Settled t o) = Unit {0}
+IsSettling x = ⊥
+
 pub record AllEnds (e : End) (ts : List ℕ) (past : Past) : Type 0 where
   pub more : Past
-  pub behind : All IsBehind more
+  pub settling : All IsSettling more
   pub same : settle_all e ts past ≡ more ++ past
 
-pub behind_added : (past : Past) (x : Happening) → All IsBehind past → IsBehind x → All IsBehind (past ++ x ∷ [])
-behind_added [] x h i = (i, tt)
-behind_added (y ∷ ys) x h i = (h.0, behind_added ys x h.1 i)
+settling_added : (past : Past) (x : Happening) → All IsSettling past → IsSettling x → All IsSettling (past ++ x ∷ [])
+settling_added [] x h i = (i, tt)
+settling_added (y ∷ ys) x h i = (h.0, settling_added ys x h.1 i)
 
 pub all_ends : (e : End) (ts : List ℕ) (past : Past) → AllEnds e ts past
-all_ends e [] past = record { more = []; behind = tt; same = refl }
+all_ends e [] past = record { more = []; settling = tt; same = refl }
 all_ends e (t ∷ ts) past =
     let a : AllEnds e ts (Settled t (named e) ∷ past) = all_ends e ts (Settled t (named e) ∷ past) in
     record {
       more = a.more ++ Settled t (named e) ∷ [];
-      behind = behind_added a.more (Settled t (named e)) a.behind tt;
+      settling = settling_added a.more (Settled t (named e)) a.settling tt;
       same = a.same ∙ sym (append_assoc a.more (Settled t (named e) ∷ []) past);
     }
+
+-- what is so of each that settles is so of them all, and of one that comes before them
+pub settling_all : (Is : Happening → Type 0) → ((t : ℕ) (o : Outcome) → Is (Settled t o)) → (more : Past) → All IsSettling more → All Is more
+settling_all Is each [] h = tt
+settling_all Is each (Settled t o ∷ more) h = (each t o, settling_all Is each more h.1)
+settling_all Is each (Wrote n o k ∷ more) h = absurd h.0
+settling_all Is each (Took m ∷ more) h = absurd h.0
+settling_all Is each (Fell m e ∷ more) h = absurd h.0
+settling_all Is each (Stopped e ∷ more) h = absurd h.0
+settling_all Is each (Recovers ∷ more) h = absurd h.0
+settling_all Is each (Asked t a ∷ more) h = absurd h.0
+settling_all Is each (Cancelled t ∷ more) h = absurd h.0
+settling_all Is each (Cleared w ∷ more) h = absurd h.0
+settling_all Is each (GaveUp ∷ more) h = absurd h.0
+
+pub all_added : (Is : Happening → Type 0) (past : Past) (x : Happening) → All Is past → Is x → All Is (past ++ x ∷ [])
+all_added Is [] x h i = (i, tt)
+all_added Is (y ∷ ys) x h i = (h.0, all_added Is ys x h.1 i)
+
+-- how the hub ended stays
+pub settling_stopped : (more past : Past) → All IsSettling more → stopped (more ++ past) ≡ stopped past
+settling_stopped [] past h = refl
+settling_stopped (Settled t o ∷ more) past h = settling_stopped more past h.1
+settling_stopped (Wrote n o k ∷ more) past h = absurd h.0
+settling_stopped (Took m ∷ more) past h = absurd h.0
+settling_stopped (Fell m e ∷ more) past h = absurd h.0
+settling_stopped (Stopped e ∷ more) past h = absurd h.0
+settling_stopped (Recovers ∷ more) past h = absurd h.0
+settling_stopped (Asked t a ∷ more) past h = absurd h.0
+settling_stopped (Cancelled t ∷ more) past h = absurd h.0
+settling_stopped (Cleared w ∷ more) past h = absurd h.0
+settling_stopped (GaveUp ∷ more) past h = absurd h.0
 
 pub fell_goes : (s : Setting) (past : Past) (all : List ℕ) (new : HubCore) (m : down.Message) (e : End) → Kept s past → ended past ≡ None → MayTake (crossings s past) m
     → ends_by s past m ≡ Some e → new.end ≡ Some e → Knows s (settle_all e (live past) (Fell m e ∷ past)) all new → GoesByAnswer s past all m new
@@ -85,7 +124,7 @@ fell_goes s past all new m e kept running may ends is k =
       first = Fell m e;
       takes = refl;
       more = a.more;
-      behind = a.behind;
+      behind = settling_all IsBehind (λ t o. tt) a.more a.settling;
       rests = subst (λ (p : Past). Rests s p all new) a.same
           (ended_rests s (settle_all e (live past) (Fell m e ∷ past)) all new e is k (fell_kept s past m e kept running may ends));
     }

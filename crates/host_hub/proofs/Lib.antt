@@ -18,6 +18,7 @@ pub mod Dones
 pub mod Taken
 pub mod Heard
 pub mod Falls
+pub mod Sends
 pub mod Failing
 pub mod Leaving
 pub mod Givings

@@ -1,35 +1,31 @@
-use Rattle.std.proofs.Common.{rules, ◌≡◌, ◌≢◌, ◌+◌, ◌-◌, ◌++◌, ◌∷◌, ◌≤◌, ℕ, List, Some, None, true, false, pos, length, slice_range, ◌*◌, ◌<◌, ◌/◌, ◌%◌, Bool, nat_eq, nat_lt, [], slice_index_or, slice_set, bit_and, bit_or, Fits, w8, w32, w64, Bor, MutBor, ℤ, ◌+ℤ◌, ◌-ℤ◌, ◌*ℤ◌, ◌≤ℤ◌, ◌<ℤ◌, FitsSigned, to_z, of_z}
-use Rattle.usbip_wire.specs.Down as down
+use Rattle.std.proofs.Common.{rules, ◌≡◌, ◌∙◌, ap, sym, true, ℤ, to_z, of_z, w32}
 use Rattle.usbip_wire.specs.DownFed.{data_of}
-use Rattle.host_urbs.specs.Held.{Follows}
-use Rattle.host_urbs.specs.Law.{MayTake}
-use Rattle.host_urbs.specs.Record as urbs
-use Rattle.host_hub.specs.declared.hub_core.Phase.TheVariants as phase
-use Rattle.host_hub.specs.BookChanges.{with_seen}
-use Rattle.host_hub.specs.BookRoom.{is_open}
-use Rattle.host_hub.specs.BookSeen.{IsTicket, Seen, ticket_of}
-use Rattle.host_hub.specs.Crossings.{crossings}
-use Rattle.host_hub.specs.Ends.{ends_by, is_gone}
-use Rattle.host_hub.specs.Law.{Kept}
-use Rattle.host_hub.specs.Leaves.{Leaves}
-use Rattle.host_hub.specs.Order.{Setting}
-use Rattle.host_hub.specs.Record.{Past}
-use Rattle.host_hub.specs.Pieces.{got}
-use Rattle.host_hub.specs.Stands.{GoesTo}
-use Rattle.host_hub.specs.Steps.{took}
-use Rattle.host_hub.specs.Hears.{GoesByAnswer, Hears, HearsOut, IsHeard, IsHeardOut, IsPieceEnd, IsTicketEnd, PieceEnds, TicketEnds, failed_as}
-use Rattle.host_hub.specs.Knows.{Knows}
-use Rattle.host_hub.specs.OneOut.{OneOut}
+use Rattle.host_hub.specs.Ends.{is_gone}
+use Rattle.host_hub.proofs.Failed.{idle_hears, now_gone, now_heard, now_hears, out_now}
 use Rattle.host_hub.proofs.hub_core.HubCore.hear.Goals as goal
 
--- src/hearing.rt:55:13
 pub fall-requires-clause-heard : goal.fall-requires-clause-heard
-fall-requires-clause-heard c = ?
+fall-requires-clause-heard c =
+    let k = c.requires in
+    record {
+      setting = k.setting;
+      past = k.past;
+      sent = k.sent;
+      bytes = data_of c.args.self.now.reader;
+      hears = now_hears k.setting k.past k.sent c.args.self.now c.args.head (data_of c.args.self.now.reader) k.out
+          (out_now k.setting k.past k.sent c.args.self.now c.args.head (data_of c.args.self.now.reader) k.out);
+    }
 
--- src/hearing.rt:56:13
 pub returns-then-is_gone-clause-goes : goal.returns-then-is_gone-clause-goes
-returns-then-is_gone-clause-goes c = ?
+returns-then-is_gone-clause-goes c = λ s past sent h.
+    let same : to_z w32 (of_z w32 c.args.head.status) ≡ c.args.head.status = search rules in
+    let o = out_now s past sent c.args.self.now c.args.head (data_of c.args.self.now.reader) h in
+    c.fall.ensures.goes s past sent (data_of c.args.self.now.reader) (now_hears s past sent c.args.self.now c.args.head (data_of c.args.self.now.reader) h o) h.rests.kept
+    (now_heard s past sent c.args.self.now c.args.head (data_of c.args.self.now.reader) h o).may
+    (now_gone s past sent c.args.self.now c.args.head (data_of c.args.self.now.reader) h o
+    (sym (ap (λ (z : ℤ). is_gone z) same) ∙ (sym c.is_gone.ensures ∙ c.if-is_gone.true)))
 
--- src/hearing.rt:63:28
 pub unreachable-requires : goal.unreachable-requires
-unreachable-requires c = ?
+unreachable-requires c =
+    let k = c.requires in
+    idle_hears k.setting k.past k.sent c.args.self.now c.args.head (data_of c.args.self.now.reader) k.out c.in-Idle.is
