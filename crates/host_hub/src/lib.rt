@@ -26,6 +26,8 @@ mod sentences;
 mod service;
 mod steps;
 mod stops;
+#[cfg(test)]
+mod tests;
 mod ticket;
 mod ties;
 mod transfers;
