@@ -10,6 +10,7 @@ ghost use Rattle.host_hub.specs.Stands.{IsAtRest, Rests};
 
 use crate::End;
 use crate::hub_core::HubCore;
+use usbip_wire::Down;
 
 impl HubCore {
     /// The bytes that were not sent yet.
@@ -37,7 +38,17 @@ impl HubCore {
             → Fed s past sent received count bytes.now self.new }
         ensures keeps { Keeps self.old self.new }
     {
-        let _ = bytes;
+        let mut at = 0;
+        'answers: while self.end.is_none() {
+            let step = self.reader.feed(&bytes[at..], self.urbs.dirs());
+            at += step.used;
+            match step.what {
+                Down::More => return,
+                Down::RetSubmit(head) => self.hear(head),
+                Down::Bad(field) => self.stop(End::PeerFault(field)),
+                _ => unreachable!(),
+            }
+        }
     }
 
     /// The link failed.
