@@ -55,6 +55,8 @@ pub mod InHand
 pub mod Joining
 pub mod Answering
 pub mod Makes
+pub mod Counts
+pub mod Takings
 pub mod Readings
 pub mod Failed
 pub mod Requested

@@ -1,5 +1,5 @@
 -- a hub takes the bytes that came, and how it ends otherwise than by an answer
-use Rattle.std.specs.Prelude.{◌≡◌, ◌≤◌, ℕ, Some, None, List, ◌++◌}
+use Rattle.std.specs.Prelude.{◌≡◌, ℕ, Some, None, List, ◌++◌}
 use Rattle.tmc_base.specs.declared.field.Field.{Field}
 use Rattle.usbip_wire.specs.declared.down.DownPhase.TheVariants.{Urbs}
 use Rattle.usbip_wire.specs.DownFed.{kept}
@@ -19,15 +19,13 @@ pub record Reads (left : List ℕ) (core : HubCore) : Type 0 where
   pub good : core.reader.bad ≡ None
 
 -- A hub that runs may be fed: of the messages of this record so many were sent whole, and in what is left of the bytes that
--- came nothing lay by an earlier such count.
+-- came nothing lies.
 pub record Feeds (s : Setting) (past : Past) (sent received rest : List ℕ) (count : ℕ) (core : HubCore) : Type 0 where
   pub rests : Rests s past sent core
   pub running : core.end ≡ None
   pub tied : Tied s past sent core.urbs.outbox received rest
   pub counted : AreSent s past sent count
-  pub before : ℕ
-  pub fewer : before ≤ count
-  pub lies : NothingLies s past before rest
+  pub lies : NothingLies s past count rest
   pub reads : Reads rest core
 
 -- there is such a record
@@ -55,6 +53,11 @@ pub record Fed (s : Setting) (past : Past) (sent received : List ℕ) (count : �
   pub counted : AreSent s (more ++ past) sent count
   pub lies : AllTaken s (more ++ past) count left
   pub reads : core.end ≡ None → Reads left core
+
+-- an answer came whole in these bytes, the last of which is its last one; by it and behind it the hub ends by no field
+pub record FedAnswer (s : Setting) (past : Past) (sent received : List ℕ) (count : ℕ) (bytes : List ℕ) (core : HubCore) : Type 0 where
+  pub fed : Fed s past sent received count bytes core
+  pub unrefused : (f : Field) → stopped fed.more ≡ Some (end.PeerFault f) → ⊥
 
 -- it ended by this, with no answer and no message
 pub record IsStopped (s : Setting) (past : Past) (sent : List ℕ) (e : End) (core : HubCore) : Type 0 where

@@ -1,8 +1,8 @@
 //! How a hub takes the bytes that come, and what it has sent.
 
-ghost use Rattle.std.specs.Prelude.{◌≡◌, ◌≤◌, ◌++◌, ℕ, List, Some, None, length, take, drop};
+ghost use Rattle.std.specs.Prelude.{◌≡◌, ◌≤◌, ◌<◌, ◌++◌, ℕ, List, Some, None, length, take, drop, IfSome};
 ghost use Rattle.host_hub.specs.declared.outcome.End.TheVariants as end;
-ghost use Rattle.host_hub.specs.Fed.{Fed, Feeds, IsFed, IsStopped};
+ghost use Rattle.host_hub.specs.Fed.{Fed, FedAnswer, Feeds, IsFed, IsStopped};
 ghost use Rattle.host_hub.specs.Leaves.{Keeps, Leaves};
 ghost use Rattle.host_hub.specs.Order.{Setting};
 ghost use Rattle.host_hub.specs.Record.{Past};
@@ -10,6 +10,7 @@ ghost use Rattle.host_hub.specs.Stands.{IsAtRest, Rests};
 
 use crate::End;
 use crate::hub_core::HubCore;
+use host_urbs::numbers_are_in_a_row;
 use usbip_wire::Down;
 
 impl HubCore {
@@ -38,16 +39,39 @@ impl HubCore {
             → Fed s past sent received count bytes.now self.new }
         ensures keeps { Keeps self.old self.new }
     {
-        let mut at = 0;
+        let mut rest = bytes;
         'answers: while self.end.is_none() {
-            let step = self.reader.feed(&bytes[at..], self.urbs.dirs());
-            at += step.used;
-            match step.what {
-                Down::More => return,
-                Down::RetSubmit(head) => self.hear(head),
-                Down::Bad(field) => self.stop(End::PeerFault(field)),
-                _ => unreachable!(),
+            match self.feed_one(rest) {
+                Some(used) => rest = &rest[used..],
+                None => return,
             }
+        }
+    }
+
+    /// Takes the bytes up to the end of the next answer, which it hears, and says how many these are. `None`: they hold no whole
+    /// answer, or a field that is refused, which ends the hub.
+    fn feed_one(&mut self, bytes: &[u8]) -> Option<usize>
+        requires { IsFed self.old }
+        ensures some { IfSome result (λ used. (0 < used) × (used ≤ length bytes.now)) }
+        ensures answer { IfSome result (λ used. (s : Setting) (past : Past) (sent received rest : List ℕ) (count : ℕ)
+            → Feeds s past sent received rest count self.old → FedAnswer s past sent received count (take used bytes.now) self.new) }
+        ensures all { result ≡ None → (s : Setting) (past : Past) (sent received rest : List ℕ) (count : ℕ)
+            → Feeds s past sent received rest count self.old → Fed s past sent received count bytes.now self.new }
+        ensures keeps { Keeps self.old self.new }
+    {
+        numbers_are_in_a_row();
+        let step = self.reader.feed(bytes, self.urbs.dirs());
+        match step.what {
+            Down::RetSubmit(head) => {
+                self.hear(head);
+                Some(step.used)
+            }
+            Down::Bad(field) => {
+                self.stop(End::PeerFault(field));
+                None
+            }
+            Down::More => None,
+            _ => unreachable!(),
         }
     }
 

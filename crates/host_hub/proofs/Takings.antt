@@ -1,0 +1,2 @@
+-- bytes come: the answers in them are heard
+use Rattle.host_hub.proofs.Counts.{entries_here}
