@@ -5,6 +5,7 @@ use Rattle.std.proofs.lemmas.Bool.{eqb-false, eqb-true, leb-true, ltb-false, ltb
 use Rattle.std.proofs.lemmas.List.{take-append-le, drop-append-le, length-drop}
 use Rattle.usbip_wire.specs.Awaited.{Awaited, entries_of, entry_of, number_of, sent_by}
 use Rattle.usbip_wire.specs.declared.dirs.Outstanding.{Outstanding}
+use Rattle.usbip_wire.specs.Awaited as wire
 use Rattle.usbip_wire.specs.Dirs as dirs
 use Rattle.usbip_wire.specs.Submit as submit
 use Rattle.usbip_wire.specs.Submit.{submit_bytes}
@@ -21,7 +22,7 @@ use Rattle.host_urbs.specs.Record as urbs
 use Rattle.host_urbs.specs.Unanswered.{AreInARow, seqnum_of}
 use Rattle.host_urbs.specs.Law as urbs_law
 use Rattle.host_hub.specs.declared.hub_core.HubCore.{HubCore}
-use Rattle.host_hub.specs.Order.{Setting, message_of}
+use Rattle.host_hub.specs.Order.{Setting, is_unlink, message_of}
 use Rattle.host_hub.specs.Record.{Asked, Cancelled, Cleared, Fell, GaveUp, Happening, Past, Recovers, Settled, Stopped, Took, Wrote, next, written}
 use Rattle.host_hub.specs.Crossings.{crossings}
 use Rattle.host_hub.specs.Outstanding.{Sent, awaited_by, outstanding}
@@ -30,6 +31,8 @@ use Rattle.host_hub.specs.Knows.{Knows}
 use Rattle.host_hub.specs.OneOut.{OneOut}
 use Rattle.host_hub.specs.Tied.{AreSent, below, bytes_of, entries_sent, spelled}
 use Rattle.host_hub.proofs.Begins.{none_entries}
+use Rattle.host_hub.proofs.Entries.{as_unlink}
+use Rattle.host_hub.proofs.Lists.{clash}
 use Rattle.host_hub.proofs.Heard.{one_entry}
 use Rattle.host_hub.proofs.Messages.{next_same, written_same}
 use Rattle.host_hub.proofs.Numbers.{Below, entry_number, outstanding_falls, same_outstanding}
@@ -147,14 +150,14 @@ one_same x y e = cc
 -- nothing is out, or one message
 pub data AtMost (past : Past) : Type 0 where
   Nothing : outstanding past ≡ [] → AtMost past
-  Single : (x : Sent) → outstanding past ≡ x ∷ [] → AtMost past
+  Single : (x : Sent) → is_unlink x.order ≡ false → outstanding past ≡ x ∷ [] → AtMost past
 
 pub entries_here : ((first : ℕ) (past : urbs.Past) → urbs_law.Lawful first past → AreInARow first (urbs.written past)) → (s : Setting) (past : Past) (sent : List ℕ) (core : HubCore) (count : ℕ)
     → Lawful s past → Knows s past sent core → OneOut core.urbs → AreSent s past sent count → AtMost past → entries_of (entries.sent core.urbs.entries) ≡ entries_sent s past count
 entries_here rows s past sent core count lawful k queue a (Nothing e) =
     ap (λ (es : List Entry). entries_of (entries.sent es)) (none_entries s past sent core lawful k e)
     ∙ ap (λ (xs : List Awaited). entries_of (below (s.first + count) xs)) (sym (ap (awaited_by s) e) ∙ same_outstanding s past lawful)
-entries_here rows s past sent core count lawful k queue a (Single x e) =
+entries_here rows s past sent core count lawful k queue a (Single x plain e) =
     ap (λ (es : List Entry). entries_of (entries.sent es)) one.1
     ∙ (by (one.0.unsent == 0) refl (nat_lt (number_of b) (s.first + count)) refl
     ∙ ap (λ (xs : List Awaited). entries_of (below (s.first + count) xs)) (sym (ap (awaited_by s) e) ∙ same_outstanding s past lawful))
@@ -203,3 +206,43 @@ entries_here rows s past sent core count lawful k queue a (Single x e) =
         ∙ ap (λ (n : ℕ). n + length a.part) (ap length (sym (all_spelled (take count (written s past)))) ∙ ap (λ (ms : List up.Message). length (held.all_bytes (take count ms))) (written_same s past))) in
         omega (arith, unsent_is, few, sent_so)))
     by false f false g = rw f (rw g refl)
+
+-- none of them is an unlink
+no_unlink : (s : Setting) (k : ℕ) (x : Sent) (n : ℕ) → is_unlink x.order ≡ false → dirs.is_unlink (dirs.find k (entries_of (below n (sent_by (message_of s x.number x.order) ∷ [])))) ≡ false
+no_unlink s k x n plain = step (nat_lt (number_of (sent_by (message_of s x.number x.order))) n)
+  where
+    b : Awaited
+    b = sent_by (message_of s x.number x.order)
+
+    step : (c : Bool) → dirs.is_unlink (dirs.find k (entries_of (if c then b ∷ [] else []))) ≡ false
+    step true = found (dirs.number_of (entry_of b) == k) where
+      found : (d : Bool) → dirs.is_unlink (if d then Some (entry_of b) else None) ≡ false
+      found true = as_unlink s x.number x.order ∙ plain
+      found false = refl
+    step false = refl
+
+pub none_unlinks : (s : Setting) (past : Past) (k count : ℕ) → Lawful s past → AtMost past → dirs.is_unlink (dirs.find k (entries_sent s past count)) ≡ false
+none_unlinks s past k count lawful (Nothing e) =
+    ap (λ (xs : List Awaited). dirs.is_unlink (dirs.find k (entries_of (below (s.first + count) xs)))) (sym (same_outstanding s past lawful) ∙ ap (awaited_by s) e)
+none_unlinks s past k count lawful (Single x plain e) =
+    ap (λ (xs : List Awaited). dirs.is_unlink (dirs.find k (entries_of (below (s.first + count) xs)))) (sym (same_outstanding s past lawful) ∙ ap (awaited_by s) e)
+    ∙ no_unlink s k x (s.first + count) plain
+
+entry_number_same : (a : Awaited) → dirs.number_of (entry_of a) ≡ number_of a
+entry_number_same (wire.Submit m dir size) = refl
+entry_number_same (wire.Unlink m target) = refl
+
+-- what is found of them has a number below
+pub low_found : (n k : ℕ) (xs : List Awaited) → is_some (dirs.submit_of (dirs.find k (entries_of (below n xs)))) ≡ true → k < n
+low_found n k [] h = clash h
+low_found n k (x ∷ xs) h = step (low_found n k xs) (nat_lt (number_of x) n) refl h
+  where
+    found : (is_some (dirs.submit_of (dirs.find k (entries_of (below n xs)))) ≡ true → k < n) → number_of x < n → (d : Bool) → (dirs.number_of (entry_of x) == k) ≡ d
+        → is_some (dirs.submit_of (if d then Some (entry_of x) else dirs.find k (entries_of (below n xs)))) ≡ true → k < n
+    found again f true p q = omega (arith, f, eqb-true (dirs.number_of (entry_of x)) k p, entry_number_same x)
+    found again f false p q = again q
+
+    step : (is_some (dirs.submit_of (dirs.find k (entries_of (below n xs)))) ≡ true → k < n) → (c : Bool) → nat_lt (number_of x) n ≡ c
+        → is_some (dirs.submit_of (dirs.find k (entries_of (if c then x ∷ below n xs else below n xs)))) ≡ true → k < n
+    step again true f g = found again (ltb-true (number_of x) n f) (dirs.number_of (entry_of x) == k) refl g
+    step again false f g = again g
