@@ -32,12 +32,15 @@ use Rattle.host_hub.specs.Calls.{AddsAsk, AddsGivingUp, All, IsOfGivingUp, IsOfT
 use Rattle.host_hub.specs.Crossings.{crossings}
 use Rattle.host_hub.specs.Fed.{Fed, IsStopped, Reads}
 use Rattle.host_hub.specs.Hand.{ended, ended_by}
-use Rattle.host_hub.specs.Joined.{IsJoined, ReadsOn}
+use Rattle.host_hub.specs.declared.kind.Kind.{Kind}
+use Rattle.host_hub.specs.declared.kind.Kind.TheVariants as kind
+use Rattle.host_hub.specs.Proper.{IsProper}
+use Rattle.host_hub.specs.Joined.{IsJoined, IsPlain, IsPlainAsking, IsPlainKind, ReadsOn}
 use Rattle.host_hub.specs.Law.{Lawful}
 use Rattle.host_hub.specs.Order.{Setting, message_of}
 use Rattle.host_hub.specs.Outstanding.{Sent, awaited_by, outstanding}
 use Rattle.host_hub.specs.Record.{Asked, Asking, Cancelled, Cleared, Fell, GaveUp, Happening, Past, Recovers, Settled, Stopped, Took, Wrote, next, written}
-use Rattle.host_hub.specs.Refusals.{limits}
+use Rattle.host_hub.specs.Refusals.{has_message, limits}
 use Rattle.host_hub.specs.Stands.{Rests, Stands}
 use Rattle.host_hub.specs.Tied.{AllTaken, AreSent, EndShows, IsRefused, MovesNothing, NothingLies, Received, Tied, below, bytes_of, entries_sent, spelled, stopped, takes_all, takes_all_by}
 use Rattle.host_hub.proofs.Exchanging.{exchanged_in, exchanged_none, exchanged_out}
@@ -168,6 +171,67 @@ ask_limits past asking more a =
 pub giving_limits : (past more : Past) → AddsGivingUp more → limits (more ++ past) ≡ limits past
 giving_limits past more a =
     ap (λ (l : Past). limits (l ++ past)) a.is ∙ ap limits (append_assoc a.own (GaveUp ∷ []) past) ∙ same_limits a.own _ (none_given a.own a.by_itself)
+
+-- ---- asks and tells alone
+
+pub plain_asking : (a : Asking) → IsProper a → IsPlainAsking a
+plain_asking a p = record { kind_is = by a.kind p.messages p.limited; some = p.some; few = p.short }
+  where
+    by : (k : Kind) → has_message k ≡ true → (k ≡ kind.Ask → 1 ≤ a.limit) → IsPlainKind k a.limit
+    by kind.Ask m l = l refl
+    by kind.Tell m l = tt
+    by kind.Trigger m l = let f : false ≡ true = m in cc
+    by kind.Status m l = let f : false ≡ true = m in cc
+    by (kind.Remote act) m l = let f : false ≡ true = m in cc
+
+plain_own : (more : Past) → All IsOwn more → All IsPlain more
+plain_own [] a = tt
+plain_own (Wrote n o k ∷ more) a = (a.0, plain_own more a.1)
+plain_own (Took m ∷ more) a = absurd a.0
+plain_own (Fell m e ∷ more) a = absurd a.0
+plain_own (Stopped e ∷ more) a = (tt, plain_own more a.1)
+plain_own (Recovers ∷ more) a = absurd a.0
+plain_own (Asked t b ∷ more) a = absurd a.0
+plain_own (Cancelled t ∷ more) a = absurd a.0
+plain_own (Cleared w ∷ more) a = absurd a.0
+plain_own (GaveUp ∷ more) a = absurd a.0
+plain_own (Settled t o ∷ more) a = (tt, plain_own more a.1)
+
+plain_given : (more : Past) → All IsOfGivingUp more → All IsPlain more
+plain_given [] a = tt
+plain_given (Wrote n o k ∷ more) a = absurd a.0
+plain_given (Took m ∷ more) a = absurd a.0
+plain_given (Fell m e ∷ more) a = absurd a.0
+plain_given (Stopped e ∷ more) a = (tt, plain_given more a.1)
+plain_given (Recovers ∷ more) a = absurd a.0
+plain_given (Asked t b ∷ more) a = absurd a.0
+plain_given (Cancelled t ∷ more) a = absurd a.0
+plain_given (Cleared w ∷ more) a = absurd a.0
+plain_given (GaveUp ∷ more) a = absurd a.0
+plain_given (Settled t o ∷ more) a = (tt, plain_given more a.1)
+
+pub plain_turn : (more : Past) → All IsOfTurn more → All IsPlain more
+plain_turn [] a = tt
+plain_turn (Wrote n o k ∷ more) a = (a.0, plain_turn more a.1)
+plain_turn (Took m ∷ more) a = (tt, plain_turn more a.1)
+plain_turn (Fell m e ∷ more) a = (tt, plain_turn more a.1)
+plain_turn (Stopped e ∷ more) a = (tt, plain_turn more a.1)
+plain_turn (Recovers ∷ more) a = absurd a.0
+plain_turn (Asked t b ∷ more) a = absurd a.0
+plain_turn (Cancelled t ∷ more) a = absurd a.0
+plain_turn (Cleared w ∷ more) a = absurd a.0
+plain_turn (GaveUp ∷ more) a = absurd a.0
+plain_turn (Settled t o ∷ more) a = (tt, plain_turn more a.1)
+
+pub all_joined : (Is : Happening → Type 0) (more past : Past) → All Is more → All Is past → All Is (more ++ past)
+all_joined Is [] past a b = b
+all_joined Is (x ∷ more) past a b = (a.0, all_joined Is more past a.1 b)
+
+pub plain_ask : (past : Past) (asking : Asking) (more : Past) → IsProper asking → AddsAsk past asking more → All IsPlain more
+plain_ask past asking more p a = subst (All IsPlain) (sym a.is) (all_joined IsPlain a.own (Asked _ asking ∷ []) (plain_own a.own a.by_itself) (plain_asking asking p, tt))
+
+pub plain_giving : (more : Past) → AddsGivingUp more → All IsPlain more
+plain_giving more a = subst (All IsPlain) (sym a.is) (all_joined IsPlain a.own (GaveUp ∷ []) (plain_given a.own a.by_itself) (tt, tt))
 
 -- ---- the end
 
@@ -311,9 +375,9 @@ pub stands_spelled : (s : Setting) (past : Past) (sent : List ℕ) (core : HubCo
 stands_spelled s past sent core r = r.knows.follows.stands ∙ spelled_all (urbs.written (crossings s past)) ∙ ap spelled (sym (written_same s past))
 
 pub account_entered : Joins → (start now : Told) (counts : Counts) (s : Setting) (past more : Past) (sent received : List ℕ) (core new : HubCore) → Account start now counts s past sent received core
-    → ended past ≡ None → All IsQuiet more → Rests s (more ++ past) sent new → limits (more ++ past) ≤ LIMITS_MAX → new.reader ≡ core.reader
+    → ended past ≡ None → All IsQuiet more → All IsPlain more → Rests s (more ++ past) sent new → limits (more ++ past) ≤ LIMITS_MAX → new.reader ≡ core.reader
     → Account start now counts s (more ++ past) sent received new
-account_entered laws start now counts s past more sent received core new a running quiet rests sum same = record {
+account_entered laws start now counts s past more sent received core new a running quiet plain rests sum same = record {
   told = a.told;
   rests = rests;
   rest = a.rest;
@@ -335,6 +399,7 @@ account_entered laws start now counts s past more sent received core new a runni
     refused = λ f e. absurd (quiet_stop more past (end.PeerFault f) quiet none e);
   };
   sum = sum;
+  plain = all_joined IsPlain more past plain a.plain;
   joined = subst (λ (l : List ℕ). StaysJoined s (more ++ past) start now l a.rest) (sym (outbox_more s more past sent core.urbs.outbox new.urbs.outbox received a.rest a.rest a.tied (stands_spelled s (more ++ past) sent new rests)))
       (joined_added laws s past more start now core.urbs.outbox a.rest [] a.rest rests.kept.lawful refl
       (λ read. subst (λ (l : List ℕ). ReadsOn s more past read l) (sym (append-nil read)) (quiet_reads s more past read (takes_quiet more quiet))) a.joined);
@@ -358,6 +423,7 @@ account_roomier start now counts s past sent received core room places a rests =
   taken = a.taken;
   shows = a.shows;
   sum = a.sum;
+  plain = a.plain;
   joined = a.joined;
 }
 
@@ -377,6 +443,7 @@ account_begins begins start counts s core rests reads = record {
   taken = λ all. record { none_whole = none_whole; none_bad = none_bad };
   shows = record { fault = λ e. no_some end.LinkFault e; closing = λ e. no_some end.Unplugged e; refused = λ f e. no_some (end.PeerFault f) e };
   sum = omega arith;
+  plain = tt;
   joined = subst (λ (l : List ℕ). StaysJoined s [] start start l []) (sym (stands_spelled s [] [] core rests)) (joined_start begins s start);
 }
   where
@@ -410,6 +477,7 @@ account_tended laws start now later counts s past sent received core a went = re
   taken = a.taken;
   shows = a.shows;
   sum = a.sum;
+  plain = a.plain;
   joined = joined_out laws s past start now later sent received [] core.urbs.outbox a.rest a.told went a.joined;
 }
 
@@ -426,6 +494,7 @@ account_unsent laws start now later counts after s past sent received core a run
   taken = a.taken;
   shows = shows_running s past a.count a.rest after.faults after.closings (unstopped past running);
   sum = a.sum;
+  plain = a.plain;
   joined = joined_out laws s past start now later sent received [] core.urbs.outbox a.rest a.told went a.joined;
 }
 
@@ -442,6 +511,7 @@ account_unpolled laws start now later counts after s past sent received core a r
   taken = a.taken;
   shows = shows_running s past a.count a.rest after.faults after.closings (unstopped past running);
   sum = a.sum;
+  plain = a.plain;
   joined = subst (λ (l : List ℕ). StaysJoined s past start later core.urbs.outbox l) (append-nil a.rest)
       (joined_in laws s past start now later sent received [] core.urbs.outbox a.rest a.told came a.joined);
 }
@@ -523,6 +593,7 @@ account_sent laws neither start now later counts after s past sent received core
       taken = λ all. later_lies neither s past sent core a.count on.later a.rest a.rests runs on.grows (a.taken all);
       shows = shows_running s past on.later a.rest after.faults after.closings (unstopped past (sym a.rests.knows.over ∙ runs));
       sum = a.sum;
+      plain = a.plain;
       joined = subst (λ (l : List ℕ). StaysJoined s past start later l a.rest) (sym left)
           (joined_out laws s past start now later sent received (take n core.urbs.outbox) (drop n core.urbs.outbox) a.rest a.told went
           (subst (λ (l : List ℕ). StaysJoined s past start now l a.rest) (sym (take-append-drop n core.urbs.outbox)) a.joined));
@@ -610,6 +681,7 @@ account_stopped laws start now counts s past sent received core new e a running 
   taken = λ all. quiet_lies s stop.more past a.count a.rest a.whole.among stop.rests.kept.lawful none (a.taken (ap (λ (o : Option End). takes_all_by o (stopped past)) running));
   shows = shows_at s (stop.more ++ past) a.count a.rest counts e shown (front_stop stop.more past e stop.stop);
   sum = subst (λ (n : ℕ). n ≤ LIMITS_MAX) (sym (same_limits stop.more past (none_turn stop.more stop.own))) a.sum;
+  plain = all_joined IsPlain stop.more past (plain_turn stop.more stop.own) a.plain;
   joined = subst (λ (l : List ℕ). StaysJoined s (stop.more ++ past) start now l a.rest)
       (sym (outbox_more s stop.more past sent core.urbs.outbox new.urbs.outbox received a.rest a.rest a.tied (stands_spelled s (stop.more ++ past) sent new stop.rests)))
       (joined_added laws s past stop.more start now core.urbs.outbox a.rest [] a.rest stop.rests.kept.lawful refl
@@ -644,6 +716,7 @@ account_fed laws start now later counts after s past sent received bytes core ne
         refused = λ f e. fed.refused f (back_stop fed.more past (end.PeerFault f) none e);
       };
       sum = subst (λ (n : ℕ). n ≤ LIMITS_MAX) (sym (same_limits fed.more past (none_turn fed.more fed.own))) a.sum;
+      plain = all_joined IsPlain fed.more past (plain_turn fed.more fed.own) a.plain;
       joined = subst (λ (l : List ℕ). StaysJoined s (fed.more ++ past) start later l fed.left)
           (sym (outbox_more s fed.more past sent core.urbs.outbox new.urbs.outbox received a.rest a.rest a.tied (stands_spelled s (fed.more ++ past) sent new fed.rests)))
           (joined_added laws s past fed.more start later core.urbs.outbox (a.rest ++ bytes) cut.answered fed.left fed.rests.kept.lawful one.1 cut.reads

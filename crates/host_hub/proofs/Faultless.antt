@@ -289,6 +289,7 @@ account_facts says start now counts s past sent received core a = record {
   traffic = traffic s past a.rests.kept;
   recovered = recovered s past a.rests.kept;
   waiting = waiting s past a.rests.kept;
+  plain = a.plain;
   bounded = record {
     unanswered = says.few s past a.rests.kept.lawful;
     asked = a.rests.knows.few;

@@ -122,6 +122,7 @@ account_counted start now counts s past sent received core n a = record {
   taken = a.taken;
   shows = a.shows;
   sum = a.sum;
+  plain = a.plain;
   joined = a.joined;
 }
 
@@ -234,8 +235,6 @@ feeds_on start now counts s past sent received core a runs = record {
   running = runs;
   tied = a.tied;
   counted = a.whole;
-  before = a.count;
-  fewer = omega arith;
   lies = a.taken (ap (λ (o : Option End). takes_all_by o (stopped past)) (sym a.rests.knows.over ∙ runs));
   reads = a.held runs;
 }

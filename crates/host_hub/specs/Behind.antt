@@ -7,6 +7,8 @@ use Rattle.tmc_law.specs.State.{State}
 use Rattle.host_hub.specs.declared.hub_core.HubCore.{HubCore}
 use Rattle.host_hub.specs.declared.limits.TheConstants.{LIMITS_MAX, MESSAGE_MAX, TICKETS_MAX}
 use Rattle.host_hub.specs.Fed.{Reads}
+use Rattle.host_hub.specs.Calls.{All}
+use Rattle.host_hub.specs.Joined.{IsPlain}
 use Rattle.host_hub.specs.Facts.{BookOk, Caused, Recovered, Traffic, Unlinked, Waiting}
 use Rattle.host_hub.specs.Outstanding.{outstanding}
 use Rattle.host_hub.specs.Order.{Setting}
@@ -46,6 +48,8 @@ pub record Account (start now : Told) (counts : Counts) (s : Setting) (past : Pa
   -- an end by the link, or by refused bytes, shows there
   pub shows : EndShows s past count rest counts.faults counts.closings
   pub sum : limits past ≤ LIMITS_MAX
+  -- asks and tells alone were asked, and nothing was cancelled or cleared: there is no call of that yet
+  pub plain : All IsPlain past
   -- over a lawful device that nothing disturbs, the two are joined
   pub joined : (state : State) → Undisturbed s past start now state → IsJoinedOver s past core.urbs.outbox rest now state
 
@@ -77,6 +81,8 @@ pub record HubFacts (start now : Told) (s : Setting) (past : Past) (core : HubCo
   pub traffic : Traffic s past
   pub recovered : Recovered past
   pub waiting : Waiting past
+  -- asks and tells alone were asked, and nothing was cancelled or cleared: there is no call of that yet
+  pub plain : All IsPlain past
   pub bounded : IsBounded past
   -- what the hub shows is what its record says
   pub shown : ShowsBook s past core.book

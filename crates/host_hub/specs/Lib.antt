@@ -17,6 +17,7 @@ pub mod Faults
 pub mod Ends
 pub mod Law
 pub mod Facts
+pub mod PlainOrders
 pub mod Calls
 pub mod Steps
 pub mod BookSeen
