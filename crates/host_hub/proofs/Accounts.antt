@@ -2,7 +2,6 @@
 use Rattle.std.proofs.Common.{◌≡◌, ◌≢◌, ◌∙◌, ◌≤◌, ◌<◌, ◌⊎◌, ◌+◌, ℕ, inl, inr, Bool, true, false, List, [], ◌∷◌, ◌++◌, length, take, drop, Option, Some, None, refl, sym, ap, subst, arith, append_assoc, append-nil, length-append, take-append-drop}
 use Rattle.std.proofs.lemmas.Bool.{le-ltb, lt-ltb, ltb-true}
 use Rattle.std.specs.Prelude.{nat_lt, if◌then◌else◌}
-use Rattle.tmc_base.specs.Faults.{Rose}
 use Rattle.tmc_base.specs.Link.{Counts}
 use Rattle.tmc_base.specs.Told.{Told, WentOut, CameIn, Exchanged}
 use Rattle.tmc_base.specs.declared.field.Field.{Field}
@@ -10,7 +9,7 @@ use Rattle.usbip_wire.specs.Awaited.{Awaited, entries_of, number_of, sent_by}
 use Rattle.usbip_wire.specs.Down as down
 use Rattle.usbip_wire.specs.Down.{SpellsAnswer}
 use Rattle.usbip_wire.specs.DownFed.{BadAt, Held, NoneWhole, kept}
-use Rattle.usbip_wire.specs.Laws.{AreNeither, ArePrefixFree}
+use Rattle.usbip_wire.specs.Laws.{AreNeither}
 use Rattle.usbip_wire.specs.Up as up
 use Rattle.usbip_wire.specs.declared.dirs.Outstanding as wire
 use Rattle.std.specs.Int.{w32, to_be_bytes}
@@ -31,7 +30,7 @@ use Rattle.host_hub.specs.Behind.{Account}
 use Rattle.host_hub.specs.Calls.{AddsAsk, AddsGivingUp, All, IsOfGivingUp, IsOfTurn, IsOwn}
 use Rattle.host_hub.specs.Crossings.{crossings}
 use Rattle.host_hub.specs.Fed.{Fed, IsStopped, Reads}
-use Rattle.host_hub.specs.Hand.{ended, ended_by}
+use Rattle.host_hub.specs.Hand.{ended}
 use Rattle.host_hub.specs.declared.kind.Kind.{Kind}
 use Rattle.host_hub.specs.declared.kind.Kind.TheVariants as kind
 use Rattle.host_hub.specs.Proper.{IsProper}
@@ -42,7 +41,7 @@ use Rattle.host_hub.specs.Outstanding.{Sent, awaited_by, outstanding}
 use Rattle.host_hub.specs.Record.{Asked, Asking, Cancelled, Cleared, Fell, GaveUp, Happening, Past, Recovers, Settled, Stopped, Took, Wrote, next, written}
 use Rattle.host_hub.specs.Refusals.{has_message, limits}
 use Rattle.host_hub.specs.Stands.{Rests, Stands}
-use Rattle.host_hub.specs.Tied.{AllTaken, AreSent, EndShows, IsRefused, MovesNothing, NothingLies, Received, Tied, below, bytes_of, entries_sent, spelled, stopped, takes_all, takes_all_by}
+use Rattle.host_hub.specs.Tied.{EndShows, MovesNothing, NothingLies, Received, below, bytes_of, entries_sent, spelled, stopped, takes_all_by}
 use Rattle.host_hub.proofs.Exchanging.{exchanged_in, exchanged_none, exchanged_out}
 use Rattle.host_hub.proofs.Messages.{next_same, written_same}
 use Rattle.host_hub.proofs.Numbers.{entry_number, may_next, same_outstanding}

@@ -1,10 +1,9 @@
 -- an answer to the one submit that is out: what it answers, and whether it ends the hub
-use Rattle.std.proofs.Common.{◌≡◌, ◌≢◌, ◌≤◌, ℕ, ℤ, pos, ◌&&◌, ◌||◌, Bool, true, false, List, [], ◌∷◌, Option, Some, None, refl, sym, subst, ◌∙◌, ap, arith}
+use Rattle.std.proofs.Common.{◌≡◌, ◌≤◌, ℕ, ℤ, pos, ◌&&◌, ◌||◌, Bool, true, false, List, [], ◌∷◌, Option, Some, None, refl, sym, subst, ◌∙◌, ap, arith}
 use Rattle.std.specs.Prelude.{◌==◌, is_some, if◌then◌else◌}
 use Rattle.std.specs.Ordering.{int_eq}
 use Rattle.std.proofs.lemmas.Bool.{eqb-true, le-ltb}
 use Rattle.usb_setup.specs.declared.ends.Ends.{Ends}
-use Rattle.usbip_wire.specs.declared.dirs.Outstanding.{Outstanding}
 use Rattle.usbip_wire.specs.declared.urb.Dir.{Dir}
 use Rattle.usbip_wire.specs.declared.ret_submit.RetSubmitHead.{RetSubmitHead}
 use Rattle.usbip_wire.specs.Awaited.{Awaited, entries_of}
@@ -17,14 +16,13 @@ use Rattle.host_urbs.specs.Entries.{awaited, sent}
 use Rattle.host_urbs.specs.Law.{MayTake}
 use Rattle.host_urbs.specs.Record as urbs
 use Rattle.host_hub.specs.declared.hub_core.HubCore.{HubCore}
-use Rattle.host_hub.specs.declared.outcome.End.{End}
 use Rattle.host_hub.specs.declared.outcome.End.TheVariants as end
 use Rattle.host_hub.specs.Order.{Order, Part, Request, Trigger, Read, Listen, Class, ClearHalt, Unlink, Setting, is_bulk, is_listen, is_unlink, size_of, way_of}
 use Rattle.host_hub.specs.Record.{Asking, Past, Of}
 use Rattle.host_hub.specs.Crossings.{crossings}
 use Rattle.host_hub.specs.Hand.{is_of}
 use Rattle.host_hub.specs.Outstanding.{Sent, awaited_by, find, outstanding}
-use Rattle.host_hub.specs.Book.{active, live}
+use Rattle.host_hub.specs.Book.{live}
 use Rattle.host_hub.specs.Ends.{as_end, comes_early, ends_by, is_before, is_gone, owned_ends, same_endpoint, submit_ends}
 use Rattle.host_hub.specs.Faults.{number_field, refused}
 use Rattle.host_hub.specs.Joined.{IsPlainOrder}

@@ -1,5 +1,5 @@
 -- the calls of a link in a turn
-use Rattle.std.proofs.Common.{◌≡◌, ◌≢◌, ◌∙◌, ◌⊎◌, ◌≤◌, ◌<◌, ◌+◌, ℕ, inl, inr, Bool, true, false, List, [], ◌∷◌, ◌++◌, length, take, drop, Option, Some, None, refl, sym, ap, subst, arith, append-nil, append_assoc}
+use Rattle.std.proofs.Common.{◌≡◌, ◌≢◌, ◌∙◌, ◌⊎◌, ◌<◌, ℕ, inl, inr, true, false, List, [], ◌∷◌, ◌++◌, length, take, Option, Some, None, refl, sym, subst, arith, append-nil}
 use Rattle.std.specs.Prelude.{◌==◌}
 use Rattle.tmc_base.specs.declared.link.PollStep.{PollStep}
 use Rattle.tmc_base.specs.declared.link.PollStep.TheVariants as poll

@@ -1,11 +1,11 @@
 -- accounts go on by a call that asks, and as the hub is given up
-use Rattle.std.proofs.Common.{◌≡◌, ◌∙◌, ◌≤◌, ◌+◌, ℕ, true, List, [], ◌∷◌, ◌++◌, Option, Some, None, Result, Ok, Err, refl, sym, ap, subst, arith}
+use Rattle.std.proofs.Common.{◌≡◌, ◌∙◌, ◌≤◌, ℕ, true, List, [], ◌∷◌, ◌++◌, Option, Some, None, Result, Ok, Err, refl, sym, ap, subst}
 use Rattle.tmc_base.specs.Link.{Counts}
 use Rattle.tmc_base.specs.Told.{Told}
 use Rattle.host_hub.specs.declared.hub_core.HubCore.{HubCore}
 use Rattle.host_hub.specs.declared.limits.TheConstants.{LIMITS_MAX}
 use Rattle.host_hub.specs.declared.refusals.AskFault.{AskFault}
-use Rattle.host_hub.specs.Asks.{Asks, IsUnchanged}
+use Rattle.host_hub.specs.Asks.{Asks}
 use Rattle.std.specs.Prelude.{OnOk}
 use Rattle.host_hub.specs.Behind.{Account, births_of}
 use Rattle.host_hub.specs.Shown.{Births, IsBorn}
@@ -15,7 +15,7 @@ use Rattle.host_hub.specs.HubCalls.{AsksOf, LeadsOn}
 use Rattle.host_hub.specs.Leaves.{Keeps}
 use Rattle.host_hub.specs.Order.{Setting}
 use Rattle.host_hub.specs.Record.{Asking, Past}
-use Rattle.host_hub.specs.Refusals.{has_message, limits}
+use Rattle.host_hub.specs.Refusals.{has_message}
 use Rattle.host_hub.specs.Stands.{IsGivenUp, Rests}
 use Rattle.host_hub.proofs.Accounts.{account_entered, account_roomier, ask_limits, giving_limits, plain_ask, plain_giving, quiet_ask, quiet_giving}
 use Rattle.host_hub.proofs.Asks.{unrefused}
@@ -26,8 +26,7 @@ pub account_asked : Joins → (start now : Told) (counts : Counts) (s : Setting)
     → AsksOf start now counts s past sent received asking result new
 account_asked laws start now counts s past sent received asking (Ok ticket) core new a message asks same =
     let u = unrefused s past asking message asks.0 in
-    let e = asks.2 in
-    (
+    let e = asks.2 in (
       asks.0,
       asks.1,
       record {

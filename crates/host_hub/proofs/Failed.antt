@@ -1,62 +1,39 @@
 -- an answer ends the hub by its status, whatever is out
-use Rattle.std.proofs.Common.{◌≡◌, ◌≢◌, ◌≤◌, ◌<◌, ℕ, ℤ, pos, ◌+◌, ◌*◌, ◌&&◌, not, Bool, true, false, List, [], ◌∷◌, ◌++◌, length, Option, Some, None, refl, sym, subst, ◌∙◌, ap, arith, append_assoc}
-use Rattle.std.specs.Prelude.{◌==◌, is_some, nat_le, nat_lt, if◌then◌else◌}
+use Rattle.std.proofs.Common.{◌≡◌, ◌≢◌, ℕ, ℤ, pos, ◌+◌, Bool, true, false, List, [], ◌∷◌, ◌++◌, Option, Some, None, refl, sym, subst, ◌∙◌, ap, append_assoc}
+use Rattle.std.specs.Prelude.{is_some, if◌then◌else◌}
 use Rattle.std.specs.Ordering.{int_eq}
-use Rattle.std.proofs.lemmas.Bool.{le-leb, le-ltb, lt-leb, lt-ltb}
 use Rattle.usbip_wire.specs.declared.ret_submit.RetSubmitHead.{RetSubmitHead}
 use Rattle.usbip_wire.specs.Down as down
-use Rattle.host_urbs.specs.Held.{Held, Follows}
-use Rattle.host_urbs.specs.Record as urbs
 use Rattle.host_hub.specs.declared.hub_core.HubCore.{HubCore}
 use Rattle.host_hub.specs.declared.hub_core.Phase.{Phase}
 use Rattle.host_hub.specs.declared.hub_core.Phase.TheVariants as phase
 use Rattle.host_hub.specs.declared.outcome.End.{End}
 use Rattle.host_hub.specs.declared.outcome.End.TheVariants as end
 use Rattle.host_hub.specs.declared.outcome.Outcome.TheVariants as outcome
-use Rattle.host_hub.specs.declared.kind.Kind.{Kind}
-use Rattle.host_hub.specs.declared.kind.Kind.TheVariants as kind
-use Rattle.tmc_base.specs.declared.field.Layer.TheVariants as layer
-use Rattle.tmc_base.specs.declared.field.Name.TheVariants as name
-use Rattle.host_transfers.specs.declared.limits.TheConstants.{PART_MAX}
 use Rattle.host_hub.specs.declared.outcome.Outcome.{Outcome}
-use Rattle.host_hub.specs.BookSeen.{BookSeen, Seen, ticket_of}
-use Rattle.host_hub.specs.Order.{Order, Part, Request, Trigger, Read, Listen, Class, ClearHalt, Unlink, Setting, endpoint_of, is_bulk, number_of}
-use Rattle.host_hub.specs.Record.{Asked, Asking, Cancelled, Cleared, Fell, GaveUp, Happening, Past, Of, Recovers, Took, Settled, Stopped, Wrote}
-use Rattle.host_hub.specs.Crossings.{crossings}
-use Rattle.host_hub.specs.Hand.{ended, in_hand}
+use Rattle.host_hub.specs.Order.{Order, Part, Request, Trigger, Read, Listen, Class, ClearHalt, Unlink, Setting, endpoint_of, is_bulk}
+use Rattle.host_hub.specs.Record.{Asking, Past, Took, Settled, Stopped}
+use Rattle.host_hub.specs.Hand.{ended}
 use Rattle.host_hub.specs.Outstanding.{Sent, find, outstanding}
-use Rattle.host_hub.specs.Book.{KeepsBook, active, asking_of, has, live, or_else}
-use Rattle.host_hub.specs.Calls.{All, IsOwn}
+use Rattle.host_hub.specs.Book.{KeepsBook, active, live, or_else}
 use Rattle.host_hub.specs.Pieces.{Piece, answered, answered_for, data_in, got, least, pieces, read_by, shut_at}
-use Rattle.host_hub.specs.Made.{Standing, judged, made_at, served, stalled, standing}
-use Rattle.host_hub.specs.Needs.{overs, owed, split_at}
-use Rattle.host_hub.specs.Recovery.{AreRecovered}
-use Rattle.host_hub.specs.Ends.{as_end, end_due, ends_by, fault_end}
-use Rattle.host_hub.specs.Faults.{out_fault}
-use Rattle.host_hub.specs.Plan.{behind_message, follows, next_tag, parts}
-use Rattle.host_hub.specs.Refusals.{has_message}
+use Rattle.host_hub.specs.Made.{made_at, served, stalled, standing}
+use Rattle.host_hub.specs.Ends.{end_due, ends_by, fault_end}
 use Rattle.host_hub.specs.Joined.{IsPlainOrder}
-use Rattle.host_hub.specs.Law.{IsHandOver, Kept, Lawful}
+use Rattle.host_hub.specs.Law.{Lawful}
 use Rattle.host_hub.specs.Steps.{Comes, settle_all, took}
 use Rattle.host_hub.specs.Knows.{HasActive, HasBook, Knows}
-use Rattle.host_hub.specs.OneOut.{OneOut}
-use Rattle.host_hub.specs.Stands.{IsIdle, IsInMessage, IsInRequest, IsInResponse, IsOut, Rests, Stands}
-use Rattle.host_hub.specs.Writes.{Done, GoesOn, PartIsNext, RequestIsNext}
+use Rattle.host_hub.specs.Stands.{IsIdle, IsOut, Rests, Stands}
 use Rattle.host_hub.specs.Hears.{GoesByAnswer, Hears, HearsOut, IsBehind, endpoint_out, failed_as}
 use Rattle.host_hub.proofs.Answering.{HeardOut, answered_out, ends_failed, ends_gone, heard_out, hears_out, plain_submit}
-use Rattle.host_hub.proofs.Plain.{Answered, pieces_out, pieces_took}
-use Rattle.host_hub.proofs.Clean.{clean_answers, clean_recovered, clean_settles}
+use Rattle.host_hub.proofs.Plain.{Answered}
 use Rattle.host_hub.proofs.Lawful.{lawful_book}
-use Rattle.host_hub.proofs.Makes.{made_fine}
 use Rattle.host_hub.proofs.Begins.{ended_rests, none_entries}
 use Rattle.host_hub.proofs.Failing.{failed_kept}
 use Rattle.host_hub.proofs.Falls.{AllEnds, all_added, all_ends, settling_all}
-use Rattle.host_hub.proofs.Knowing.{known_ticket, seen_there}
-use Rattle.host_hub.proofs.Begins.{asking_seen}
-use Rattle.host_hub.proofs.Lists.{clash, and_false, own}
+use Rattle.host_hub.proofs.Lists.{own}
 use Rattle.host_hub.proofs.Stepping.{made_of, settles_lawful}
-use Rattle.host_hub.proofs.Taken.{none_left, one_found, out_comes, out_goes_on}
-
+use Rattle.host_hub.proofs.Taken.{out_comes}
 use Rattle.host_urbs.specs.declared.entry.Entry.{Entry}
 use Rattle.host_urbs.specs.Entries.{sent}
 use Rattle.usb_setup.specs.declared.ends.Ends.{Ends}
@@ -64,7 +41,6 @@ use Rattle.usbip_wire.specs.Awaited.{entries_of}
 use Rattle.usbip_wire.specs.Dirs as dirs
 use Rattle.std.proofs.lemmas.Bool.Decides.{Decides-int_eq}
 use Rattle.host_hub.specs.Ends.{is_gone}
-use Rattle.host_urbs.specs.Law.{MayTake}
 
 -- ---- what is out
 

@@ -1,5 +1,5 @@
 -- a submit is answered with a status from which the hub does not recover
-use Rattle.std.proofs.Common.{◌≡◌, ℕ, List, [], ◌∷◌, Option, Some, None}
+use Rattle.std.proofs.Common.{◌≡◌, ℕ, List, ◌∷◌, Some, None}
 use Rattle.usbip_wire.specs.declared.ret_submit.RetSubmitHead.{RetSubmitHead}
 use Rattle.usbip_wire.specs.Down as down
 use Rattle.host_hub.specs.declared.outcome.End.{End}

@@ -1,6 +1,5 @@
 -- an answer ends the hub
-use Rattle.std.proofs.Common.{◌≡◌, ℕ, ◌+◌, List, [], ◌∷◌, ◌++◌, length, Option, Some, None, refl, sym, subst, ◌∙◌, ap, arith, append_assoc}
-use Rattle.usbip_wire.specs.declared.ret_submit.RetSubmitHead.{RetSubmitHead}
+use Rattle.std.proofs.Common.{◌≡◌, ℕ, ◌+◌, List, [], ◌∷◌, ◌++◌, Some, None, refl, sym, subst, ◌∙◌, ap, arith, append_assoc}
 use Rattle.usbip_wire.specs.Down as down
 use Rattle.host_urbs.specs.Held.{Held, Follows}
 use Rattle.host_urbs.specs.Law.{MayTake}
@@ -14,7 +13,7 @@ use Rattle.host_hub.specs.Tied.{stopped}
 use Rattle.host_hub.specs.Record.{Asked, Cancelled, Cleared, Fell, GaveUp, Happening, Past, Recovers, Settled, Stopped, Took, Wrote, taken}
 use Rattle.host_hub.specs.Crossings.{crossings}
 use Rattle.host_hub.specs.Hand.{ended}
-use Rattle.host_hub.specs.Book.{KeepsBook, live}
+use Rattle.host_hub.specs.Book.{live}
 use Rattle.host_hub.specs.Causes.{named}
 use Rattle.host_hub.specs.Calls.{All}
 use Rattle.host_hub.specs.Ends.{ends_by}
@@ -23,8 +22,7 @@ use Rattle.host_hub.specs.Shown.{ShowsTicket}
 use Rattle.host_hub.specs.Steps.{settle_all}
 use Rattle.host_hub.specs.Knows.{Knows}
 use Rattle.host_hub.specs.Stands.{Rests}
-use Rattle.host_hub.specs.Hears.{GoesByAnswer, Hears, IsBehind}
-use Rattle.host_hub.proofs.Lawful.{lawful_book}
+use Rattle.host_hub.specs.Hears.{GoesByAnswer, IsBehind}
 use Rattle.host_hub.proofs.Endings.{fell_kept}
 use Rattle.host_hub.proofs.Begins.{ended_rests}
 use Rattle.host_hub.proofs.Taken.{taken_more}

@@ -1,14 +1,14 @@
 -- what holds of a hub by each account of it: over a lawful device that nothing disturbs it has not ended with a fault
 use Rattle.std.proofs.Common.{◌≡◌, ◌≢◌, ◌∙◌, ◌≤◌, ◌<◌, ◌+◌, ◌-◌, ℕ, ℤ, pos, Bool, true, false, List, [], ◌∷◌, ◌++◌, length, take, drop, Option, Some, None, refl, sym, ap, subst, arith, append_assoc, append-nil, length-append, take-append-drop}
 use Rattle.std.proofs.lemmas.Bool.{lt-ltb}
-use Rattle.std.proofs.lemmas.List.{length-drop, take_all}
+use Rattle.std.proofs.lemmas.List.{length-drop}
 use Rattle.std.specs.Int.{w32, to_be_bytes}
 use Rattle.std.specs.Ordering.{int_eq}
-use Rattle.std.specs.Prelude.{is_some, nat_lt, if◌then◌else◌}
+use Rattle.std.specs.Prelude.{is_some, if◌then◌else◌}
 use Rattle.tmc_base.specs.declared.field.Field.{Field}
 use Rattle.tmc_base.specs.declared.run_step.RunStep.{RunStep}
 use Rattle.tmc_base.specs.Link.{Counts}
-use Rattle.tmc_base.specs.Told.{Bytes, IsFront, Peer, Silent, Told, in_bytes, out_bytes}
+use Rattle.tmc_base.specs.Told.{Bytes, Peer, Silent, Told, in_bytes, out_bytes}
 use Rattle.usbip_wire.specs.Awaited.{Awaited, entries_of, number_of, sent_by}
 use Rattle.usbip_wire.specs.Down as down
 use Rattle.usbip_wire.specs.DownFed.{BadAt}
@@ -30,23 +30,23 @@ use Rattle.host_hub.specs.Calls.{All}
 use Rattle.host_hub.specs.Crossings.{crossings}
 use Rattle.host_hub.specs.Ends.{end_due, fault_end}
 use Rattle.host_hub.specs.Hand.{ended}
-use Rattle.host_hub.specs.Joined.{IsJoined, IsPlain, IsServed, IsSimple, hand_of, head_in, ran, waits_in, waits_of}
+use Rattle.host_hub.specs.Joined.{IsJoined, IsServed, IsSimple, hand_of, head_in, ran, waits_in, waits_of}
 use Rattle.host_hub.specs.Law.{ByBytes, ByClosing, ByFault, ByItself, ByNumbers, Lawful, StopLaw}
 use Rattle.host_hub.specs.Order.{Setting, is_bulk, message_of}
 use Rattle.host_hub.specs.Outstanding.{Sent, awaited_by, find, outstanding}
-use Rattle.host_hub.specs.Book.{asking_of, or_else}
+use Rattle.host_hub.specs.Book.{or_else}
 use Rattle.host_hub.specs.Owned.{Owned}
-use Rattle.host_hub.specs.Record.{Asked, Asking, Cancelled, Cleared, Fell, GaveUp, Happening, Of, Past, Recovers, Settled, Stopped, Took, Wrote, next, written}
+use Rattle.host_hub.specs.Record.{Asked, Cancelled, Cleared, Fell, GaveUp, Happening, Past, Recovers, Settled, Stopped, Took, Wrote, next, written}
 use Rattle.host_hub.specs.Shown.{ShowsTicket}
 use Rattle.host_hub.specs.Tied.{AreSent, IsRefused, below, bytes_of, entries_sent, spelled, stopped}
 use Rattle.host_hub.specs.Undisturbed.{AllOwned, IsFaultless, IsJoinedTo, Undisturbed}
 use Rattle.host_hub.proofs.Accounts.{next_counts, stands_spelled}
-use Rattle.host_hub.proofs.InHand.{head_of, is_submit}
+use Rattle.host_hub.proofs.InHand.{is_submit}
 use Rattle.host_hub.proofs.Joining.{entries_same, ran_running}
 use Rattle.host_hub.proofs.Messages.{next_same}
 use Rattle.host_hub.proofs.Numbers.{Below, below_up, entry_number, outstanding_falls, same_outstanding}
-use Rattle.host_hub.proofs.Owns.{RanAs, ran_as}
-use Rattle.host_hub.proofs.Plain.{NoneOut, OneOut, Out, Stands, stands}
+use Rattle.host_hub.proofs.Owns.{ran_as}
+use Rattle.host_hub.proofs.Plain.{NoneOut, OneOut, Out, stands}
 use Rattle.host_hub.proofs.Sound.{book_ok, caused, recovered, traffic, unlinked, waiting}
 use Rattle.host_hub.proofs.Undisturbing.{cut_front, spelled_join}
 
@@ -204,7 +204,6 @@ all_less s n (x ∷ xs) b =
 
 module _ (says : Says) (s : Setting) (past : Past) (sent : List ℕ) (core : HubCore) (start : Told) (out into : List ℕ) (run : List RunStep) (counts : Counts) (received : List ℕ)
     (a : Account start (Peer out into run) counts s past sent received core) (state : State) (u : Undisturbed s past start (Peer out into run) state) where
-
   is_joined : IsJoinedTo s past core.urbs.outbox a.rest out into run state
   is_joined = a.joined state u
 

@@ -1,12 +1,11 @@
 -- what an answer makes of the active ticket
-use Rattle.std.proofs.Common.{◌≡◌, ◌≢◌, ◌≤◌, ◌<◌, ℕ, ℤ, pos, ◌+◌, ◌*◌, ◌&&◌, not, Bool, true, false, List, [], ◌∷◌, ◌++◌, length, Option, Some, None, refl, sym, subst, ◌∙◌, ap, arith, append_assoc}
-use Rattle.std.specs.Prelude.{◌==◌, is_some, nat_le, nat_lt, if◌then◌else◌}
+use Rattle.std.proofs.Common.{◌≡◌, ◌≤◌, ◌<◌, ℕ, ℤ, pos, ◌+◌, ◌*◌, Bool, true, false, List, [], ◌∷◌, ◌++◌, length, Option, Some, None, refl, sym, subst, ◌∙◌, ap, arith, append_assoc}
+use Rattle.std.specs.Prelude.{◌==◌, nat_le, if◌then◌else◌}
 use Rattle.std.specs.Ordering.{int_eq}
 use Rattle.std.proofs.lemmas.Bool.{le-leb, le-ltb, lt-leb, lt-ltb}
 use Rattle.usbip_wire.specs.declared.ret_submit.RetSubmitHead.{RetSubmitHead}
 use Rattle.usbip_wire.specs.Down as down
-use Rattle.host_urbs.specs.Held.{Held, Follows}
-use Rattle.host_urbs.specs.Record as urbs
+use Rattle.host_urbs.specs.Held.{Held}
 use Rattle.host_hub.specs.declared.hub_core.HubCore.{HubCore}
 use Rattle.host_hub.specs.declared.hub_core.Phase.{Phase}
 use Rattle.host_hub.specs.declared.hub_core.Phase.TheVariants as phase
@@ -21,23 +20,21 @@ use Rattle.host_transfers.specs.declared.limits.TheConstants.{PART_MAX}
 use Rattle.host_hub.specs.declared.outcome.Outcome.{Outcome}
 use Rattle.host_hub.specs.BookSeen.{BookSeen, Seen, ticket_of}
 use Rattle.host_hub.specs.Order.{Order, Part, Setting, endpoint_of, is_bulk, size_of}
-use Rattle.host_hub.specs.Record.{Asked, Asking, Cancelled, Cleared, Fell, GaveUp, Happening, Past, Of, Recovers, Took, Settled, Stopped, Wrote}
-use Rattle.host_hub.specs.Crossings.{crossings}
-use Rattle.host_hub.specs.Hand.{ended, in_hand}
+use Rattle.host_hub.specs.Record.{Asked, Asking, Cancelled, Cleared, Fell, GaveUp, Happening, Past, Recovers, Took, Settled, Stopped, Wrote}
+use Rattle.host_hub.specs.Hand.{ended}
 use Rattle.host_hub.specs.Outstanding.{Sent, find, outstanding}
 use Rattle.host_hub.specs.Book.{active, asking_of, has, live, or_else, remove}
 use Rattle.host_hub.specs.Calls.{All, IsOwn}
 use Rattle.host_hub.specs.Pieces.{Piece, data_in, got, pieces}
-use Rattle.host_hub.specs.Made.{Standing, judged, made_at, served, stalled, standing}
+use Rattle.host_hub.specs.Made.{Standing, made_at, served, stalled, standing}
 use Rattle.host_hub.specs.Needs.{overs, owed, split_at}
 use Rattle.host_hub.specs.Recovery.{AreRecovered}
 use Rattle.host_hub.specs.Ends.{as_end, end_due, ends_by, fault_end}
 use Rattle.host_hub.specs.Faults.{out_fault}
 use Rattle.host_hub.specs.Plan.{behind_message, follows, next_tag, parts}
 use Rattle.host_hub.specs.Refusals.{has_message}
-use Rattle.host_hub.specs.Joined.{IsPlainOrder}
-use Rattle.host_hub.specs.Law.{IsHandOver, Kept, Lawful}
-use Rattle.host_hub.specs.Steps.{Comes, IsClean, Working, took}
+use Rattle.host_hub.specs.Law.{IsHandOver, Kept}
+use Rattle.host_hub.specs.Steps.{Comes, IsClean, took}
 use Rattle.host_hub.specs.Knows.{HasActive, Knows}
 use Rattle.host_hub.specs.OneOut.{OneOut}
 use Rattle.host_hub.specs.Stands.{GoesTo, IsInMessage, IsOut, Rests, Stands}
@@ -50,9 +47,9 @@ use Rattle.host_hub.proofs.Lawful.{lawful_book}
 use Rattle.host_hub.proofs.Parts.{same_asking}
 use Rattle.host_hub.proofs.Knowing.{known_ticket, seen_there}
 use Rattle.host_hub.proofs.Begins.{asking_seen}
-use Rattle.host_hub.proofs.Lists.{clash, and_false, own}
+use Rattle.host_hub.proofs.Lists.{clash}
 use Rattle.host_hub.proofs.Stepping.{answer_settles, made_of, no_unlinks_settled}
-use Rattle.host_hub.proofs.Taken.{none_left, one_found, out_comes, out_goes_on}
+use Rattle.host_hub.proofs.Taken.{none_left, out_comes, out_goes_on}
 
 -- ---- what the hub does by itself it does behind an answer
 
@@ -171,7 +168,6 @@ short_out asked actual h = rw (lt-ltb actual asked h) refl
 
 module _ (s : Setting) (past : Past) (all : List ℕ) (core : HubCore) (head : RetSubmitHead) (bytes : List ℕ) (h : HearsOut s past all core head bytes) (m : IsInMessage s past core)
     (fine : head.status ≡ pos 0) where
-
   abbrev part_order : Order
   part_order = Part m.tag m.text (nat_le (length m.asking.message) (PART_MAX * core.parts))
 
@@ -288,7 +284,6 @@ module _ (core new : HubCore) (head : RetSubmitHead) (is : core.phase ≡ phase.
     (goes : (s : Setting) (past : Past) (sent bytes : List ℕ) → Hears s past sent core head bytes → got core.active (took past head bytes) ≡ got core.active past
     → Knows s (took past head bytes) sent new) (queue : OneOut new.urbs) (rest : new ≡ record core { urbs = new.urbs; taken = core.taken + 1 })
     (seen : Seen) (found : ticket_of core.active core.book.tickets ≡ Some seen) (s : Setting) (past : Past) (all bytes : List ℕ) (h : HearsOut s past all core head bytes) where
-
   abbrev now_message : IsInMessage s past core
   now_message = in_message s past all core head bytes h is
 

@@ -1,6 +1,5 @@
 -- a message goes on with its next part
-use Rattle.std.proofs.Common.{◌≡◌, ◌≤◌, ◌<◌, ℕ, ◌+◌, zero, suc, Bool, true, false, List, [], ◌∷◌, ◌++◌, length, Option, Some, None, refl, sym, subst, ◌∙◌, ap, arith}
-use Rattle.std.specs.Prelude.{nat_le, ◌*◌}
+use Rattle.std.proofs.Common.{◌≡◌, ◌≤◌, ◌<◌, ℕ, ◌+◌, Bool, List, [], ◌∷◌, Some, refl, sym, subst, ◌∙◌, ap, arith}
 use Rattle.host_urbs.specs.declared.limits.TheConstants.{LAST_SUBMIT}
 use Rattle.host_urbs.specs.Held.{Held}
 use Rattle.host_transfers.specs.Tags.{tag_behind}
@@ -8,15 +7,13 @@ use Rattle.host_hub.specs.declared.hub_core.HubCore.{HubCore}
 use Rattle.host_hub.specs.declared.hub_core.Phase.TheVariants as phase
 use Rattle.host_hub.specs.declared.outcome.End.TheVariants as end
 use Rattle.host_hub.specs.BookSeen.{BookSeen, Seen, ticket_of}
-use Rattle.host_hub.specs.Order.{Order, Part, Setting, is_unlink, size_of}
+use Rattle.host_hub.specs.Order.{Order, Setting, size_of}
 use Rattle.host_hub.specs.Record.{Asking, Past, Of, Stopped, Wrote, next}
-use Rattle.host_hub.specs.Book.{asking_of, live}
-use Rattle.host_hub.specs.Hand.{is_of}
-use Rattle.host_hub.specs.Pieces.{opened, pieces}
-use Rattle.host_hub.specs.Plan.{follows, last, next_tag, part_of, parts}
+use Rattle.host_hub.specs.Book.{live}
+use Rattle.host_hub.specs.Plan.{next_tag, part_of}
 use Rattle.host_hub.specs.Steps.{settle_all, wrote}
 use Rattle.host_hub.specs.Knows.{Knows}
-use Rattle.host_hub.specs.Stands.{GoesTo, IsOut, Rests}
+use Rattle.host_hub.specs.Stands.{GoesTo, Rests}
 use Rattle.host_hub.specs.Writes.{CanPart, Ends, GoesOn, PartIsNext, Puts}
 use Rattle.host_hub.proofs.Lists.{own}
 use Rattle.host_hub.proofs.Begins.{asking_seen, exhausted_kept, none_entries, same_next, same_tag, stopped_goes}

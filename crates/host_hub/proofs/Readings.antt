@@ -1,66 +1,50 @@
 -- a read is answered
-use Rattle.std.proofs.Common.{◌≡◌, ◌≢◌, ◌≤◌, ◌<◌, ℕ, ℤ, pos, ◌+◌, ◌*◌, ◌&&◌, not, Bool, true, false, List, [], ◌∷◌, ◌++◌, length, Option, Some, None, refl, sym, subst, ◌∙◌, ap, arith, append_assoc, length-append}
-use Rattle.std.specs.Prelude.{◌==◌, is_some, nat_le, nat_lt, if◌then◌else◌}
+use Rattle.std.proofs.Common.{◌≡◌, ◌≢◌, ◌≤◌, ◌<◌, ℕ, pos, ◌+◌, Bool, true, false, List, ◌∷◌, ◌++◌, length, Option, Some, None, refl, sym, subst, ◌∙◌, ap, arith, append_assoc, length-append}
+use Rattle.std.specs.Prelude.{is_some, nat_lt, if◌then◌else◌}
 use Rattle.std.specs.Prelude.{slice_range, drop, ◌-◌, ◌^◌}
 use Rattle.std.proofs.lemmas.List.{length-take, length-drop}
-use Rattle.std.specs.Ordering.{int_eq}
-use Rattle.std.proofs.lemmas.Bool.{eq-eqb, le-leb, le-ltb, lt-leb, lt-ltb, ne_eqb}
+use Rattle.std.proofs.lemmas.Bool.{eq-eqb, ne_eqb}
 use Rattle.usbip_wire.specs.declared.ret_submit.RetSubmitHead.{RetSubmitHead}
 use Rattle.usbip_wire.specs.Down as down
-use Rattle.host_urbs.specs.Held.{Held, Follows}
+use Rattle.host_urbs.specs.Held.{Follows}
 use Rattle.host_urbs.specs.Record as urbs
 use Rattle.host_hub.specs.declared.hub_core.HubCore.{HubCore}
 use Rattle.host_hub.specs.declared.hub_core.Phase.{Phase}
 use Rattle.host_hub.specs.declared.hub_core.Phase.TheVariants as phase
-use Rattle.host_hub.specs.declared.outcome.End.{End}
 use Rattle.host_hub.specs.declared.outcome.End.TheVariants as end
 use Rattle.host_hub.specs.declared.outcome.Outcome.TheVariants as outcome
 use Rattle.host_hub.specs.declared.kind.Kind.{Kind}
-use Rattle.host_hub.specs.declared.kind.Kind.TheVariants as kind
-use Rattle.tmc_base.specs.declared.field.Layer.TheVariants as layer
-use Rattle.tmc_base.specs.declared.field.Name.TheVariants as name
-use Rattle.host_transfers.specs.declared.limits.TheConstants.{PART_MAX}
 use Rattle.host_hub.specs.declared.outcome.Outcome.{Outcome}
-use Rattle.host_hub.specs.BookSeen.{BookSeen, Seen, ticket_of}
-use Rattle.host_hub.specs.Order.{Order, Read, Setting, size_of}
-use Rattle.host_hub.specs.Record.{Asked, Asking, Cancelled, Cleared, Fell, GaveUp, Happening, Past, Of, Recovers, Took, Settled, Stopped, Wrote}
+use Rattle.host_hub.specs.BookSeen.{Seen, ticket_of}
+use Rattle.host_hub.specs.Order.{Order, Read, Setting}
+use Rattle.host_hub.specs.Record.{Asking, Past, Took, Settled}
 use Rattle.host_hub.specs.Crossings.{crossings}
-use Rattle.host_hub.specs.Hand.{ended, in_hand}
-use Rattle.host_hub.specs.Outstanding.{Sent, find, outstanding}
-use Rattle.host_hub.specs.Book.{active, asking_of}
-use Rattle.host_hub.specs.Calls.{All, IsOwn}
 use Rattle.host_hub.specs.Pieces.{Piece, answered, data_in, does_count, extended, got, pieces}
-use Rattle.host_hub.specs.Made.{Standing, made_at, piece_made, served, standing}
-use Rattle.host_hub.specs.Needs.{Over, has_accepted, overs, owed, split_at}
-use Rattle.host_hub.specs.Recovery.{AreRecovered}
-use Rattle.host_hub.specs.Ends.{as_end, end_due, ends_by, fault_end}
+use Rattle.host_hub.specs.Made.{made_at, piece_made, served, standing}
+use Rattle.host_hub.specs.Needs.{Over, has_accepted, overs, owed}
+use Rattle.host_hub.specs.Ends.{as_end, end_due, ends_by}
 use Rattle.host_hub.specs.Faults.{first_fault, number_field, read_fault, refused_by, transfer_faults}
-use Rattle.host_hub.specs.Plan.{behind_read, follows, last, next_tag, parts, request_of}
-use Rattle.host_hub.specs.Refusals.{has_message}
-use Rattle.host_hub.specs.Joined.{IsPlainOrder}
-use Rattle.host_hub.specs.Law.{IsHandOver, Kept, Lawful}
-use Rattle.host_hub.specs.Steps.{Comes, IsClean, Working, took}
-use Rattle.host_hub.specs.Knows.{HasActive, Knows}
+use Rattle.host_hub.specs.Plan.{behind_read, follows, next_tag, parts, request_of}
+use Rattle.host_hub.specs.Law.{Lawful}
+use Rattle.host_hub.specs.Steps.{Comes, took}
+use Rattle.host_hub.specs.Knows.{Knows}
 use Rattle.host_hub.specs.OneOut.{OneOut}
-use Rattle.host_hub.specs.Stands.{IsInResponse, IsOut, Stands}
+use Rattle.host_hub.specs.Stands.{IsInResponse, Stands}
 use Rattle.host_hub.specs.Writes.{GoesOn, ReadIsNext, RequestIsNext}
-use Rattle.host_hub.specs.Hears.{GoesByAnswer, Hears, HearsOut, PieceEnds, TicketEnds}
+use Rattle.host_hub.specs.Hears.{Hears, HearsOut, PieceEnds, TicketEnds}
 use Rattle.host_hub.proofs.Answering.{HeardOut, answered_out, ends_fine, heard_out, hears_out}
 use Rattle.host_hub.proofs.Plain.{Answered, pieces_read, pieces_took}
 use Rattle.host_hub.proofs.Clean.{clean_answers, clean_recovered, clean_settles}
 use Rattle.host_hub.proofs.Lawful.{lawful_book}
 use Rattle.host_hub.proofs.Makes.{due_fine, ends_now, made_fine, seen_asking}
 use Rattle.host_hub.proofs.Knowing.{known_open, known_ticket, seen_there}
-use Rattle.host_hub.proofs.Begins.{asking_seen}
-use Rattle.host_hub.proofs.Lists.{clash, and_false, own}
-use Rattle.host_hub.proofs.Stepping.{answer_settles, made_of, no_unlinks_settled}
+use Rattle.host_hub.proofs.Lists.{and_false}
 use Rattle.host_hub.proofs.Taken.{knows_took, out_comes, out_goes_on}
 use Rattle.host_hub.proofs.Dones.{knows_place}
 use Rattle.host_hub.proofs.Within.{never_passes}
 use Rattle.host_hub.specs.BookChanges.{with_seen}
 use Rattle.host_hub.specs.BookRoom.{is_open}
 use Rattle.host_hub.specs.Faults.{refused}
-
 use Rattle.tmc_base.specs.declared.field.Field.{Field}
 use Rattle.tmc_base.specs.declared.limits.TheConstants.{BULK_IN_SUBMIT}
 use Rattle.host_transfers.specs.declared.piece.Piece as assembly_piece
@@ -262,8 +246,14 @@ module _ (laws : Assembles) (core : HubCore) (head : RetSubmitHead) (is : core.p
         let shows = h.rests.knows.shows.each core.active seen found in (
           known_open s past all core h.rests.knows (lawful_book s past h.rests.kept.lawful) now_response.out.turn seen found,
           (let most : length (got core.active (took past head bytes)) ≤ now_response.asking.limit = never_passes s (took past head bytes) read_lawful core.active now_response.asking now_response.out.asks in
-          omega (arith, most, ap (λ (l : List ℕ). length l) read_got, length-append (got core.active past) (given_by said bytes), ap (λ (l : List ℕ). length l) shows.bytes,
-          ap (λ (a : Asking). a.limit) (seen_asking s past all core seen now_response.asking h.rests.knows found now_response.out.asks))),
+              omega (
+                arith,
+                most,
+                ap (λ (l : List ℕ). length l) read_got,
+                length-append (got core.active past) (given_by said bytes),
+                ap (λ (l : List ℕ). length l) shows.bytes,
+                ap (λ (a : Asking). a.limit) (seen_asking s past all core seen now_response.asking h.rests.knows found now_response.out.asks),
+              )),
         )
 
     read_due : end_due (took past head bytes) ≡ None

@@ -1,60 +1,32 @@
 -- a request is answered
-use Rattle.std.proofs.Common.{◌≡◌, ◌≢◌, ◌≤◌, ◌<◌, ℕ, ℤ, pos, ◌+◌, ◌*◌, ◌&&◌, not, Bool, true, false, List, [], ◌∷◌, ◌++◌, length, Option, Some, None, refl, sym, subst, ◌∙◌, ap, arith, append_assoc}
-use Rattle.std.specs.Prelude.{◌==◌, is_some, nat_le, nat_lt, if◌then◌else◌}
-use Rattle.std.specs.Ordering.{int_eq}
-use Rattle.std.proofs.lemmas.Bool.{le-leb, le-ltb, lt-leb, lt-ltb}
+use Rattle.std.proofs.Common.{◌≡◌, ◌≤◌, ◌<◌, ℕ, pos, ◌+◌, false, List, [], Option, Some, None, refl, sym, subst, ◌∙◌, ap}
 use Rattle.usbip_wire.specs.declared.ret_submit.RetSubmitHead.{RetSubmitHead}
 use Rattle.usbip_wire.specs.Down as down
-use Rattle.host_urbs.specs.Held.{Held, Follows}
-use Rattle.host_urbs.specs.Record as urbs
 use Rattle.host_hub.specs.declared.hub_core.HubCore.{HubCore}
 use Rattle.host_hub.specs.declared.hub_core.Phase.{Phase}
 use Rattle.host_hub.specs.declared.hub_core.Phase.TheVariants as phase
-use Rattle.host_hub.specs.declared.outcome.End.{End}
 use Rattle.host_hub.specs.declared.outcome.End.TheVariants as end
-use Rattle.host_hub.specs.declared.outcome.Outcome.TheVariants as outcome
 use Rattle.host_hub.specs.declared.kind.Kind.{Kind}
 use Rattle.host_hub.specs.declared.kind.Kind.TheVariants as kind
 use Rattle.tmc_base.specs.declared.field.Layer.TheVariants as layer
 use Rattle.tmc_base.specs.declared.field.Name.TheVariants as name
-use Rattle.host_transfers.specs.declared.limits.TheConstants.{PART_MAX}
-use Rattle.host_hub.specs.declared.outcome.Outcome.{Outcome}
-use Rattle.host_hub.specs.BookSeen.{BookSeen, Seen, ticket_of}
-use Rattle.host_hub.specs.Order.{Order, Request, Setting, endpoint_of, is_bulk, size_of}
-use Rattle.host_hub.specs.Record.{Asked, Asking, Cancelled, Cleared, Fell, GaveUp, Happening, Past, Of, Recovers, Took, Settled, Stopped, Wrote}
-use Rattle.host_hub.specs.Crossings.{crossings}
-use Rattle.host_hub.specs.Hand.{ended, in_hand}
-use Rattle.host_hub.specs.Outstanding.{Sent, find, outstanding}
-use Rattle.host_hub.specs.Book.{active, asking_of, has, live, or_else, remove}
-use Rattle.host_hub.specs.Calls.{All, IsOwn}
-use Rattle.host_hub.specs.Pieces.{Piece, data_in, got, pieces, requested}
-use Rattle.host_hub.specs.Made.{Standing, judged, made_at, served, stalled, standing}
-use Rattle.host_hub.specs.Needs.{overs, owed, split_at}
-use Rattle.host_hub.specs.Recovery.{AreRecovered}
-use Rattle.host_hub.specs.Ends.{as_end, end_due, ends_by, fault_end}
-use Rattle.host_hub.specs.Faults.{out_fault}
-use Rattle.host_hub.specs.Plan.{behind_message, follows, next_tag, parts}
-use Rattle.host_hub.specs.Refusals.{has_message}
-use Rattle.host_hub.specs.Joined.{IsPlainOrder}
-use Rattle.host_hub.specs.Law.{IsHandOver, Kept, Lawful}
-use Rattle.host_hub.specs.Steps.{Comes, IsClean, Working, took}
-use Rattle.host_hub.specs.Knows.{HasActive, Knows}
+use Rattle.host_hub.specs.Order.{Order, Request, Setting, size_of}
+use Rattle.host_hub.specs.Record.{Past}
+use Rattle.host_hub.specs.Pieces.{data_in, got, pieces, requested}
+use Rattle.host_hub.specs.Made.{Standing, served, standing}
+use Rattle.host_hub.specs.Ends.{as_end, ends_by}
+use Rattle.host_hub.specs.Plan.{follows, next_tag, parts}
+use Rattle.host_hub.specs.Steps.{Comes, took}
+use Rattle.host_hub.specs.Knows.{Knows}
 use Rattle.host_hub.specs.OneOut.{OneOut}
 use Rattle.host_hub.specs.Stands.{IsInRequest, Stands}
 use Rattle.host_transfers.specs.Assembly as assembly
 use Rattle.host_hub.specs.Writes.{ReadIsNext}
-use Rattle.host_hub.specs.Hears.{GoesByAnswer, Hears, HearsOut, IsBehind, OfItself, TicketEnds}
+use Rattle.host_hub.specs.Hears.{Hears, HearsOut}
 use Rattle.host_hub.proofs.Answering.{HeardOut, answered_out, ends_fine, heard_out, hears_out}
 use Rattle.host_hub.proofs.Plain.{Answered, pieces_out, pieces_took}
-use Rattle.host_hub.proofs.Clean.{clean_answers, clean_recovered, clean_settles}
-use Rattle.host_hub.proofs.Lawful.{lawful_book}
 use Rattle.host_hub.proofs.Makes.{due_fine, made_fine, short_out, whole_out}
-use Rattle.host_hub.proofs.Knowing.{known_ticket, seen_there}
-use Rattle.host_hub.proofs.Begins.{asking_seen}
-use Rattle.host_hub.proofs.Lists.{clash, and_false, own}
-use Rattle.host_hub.proofs.Stepping.{answer_settles, made_of, no_unlinks_settled}
-use Rattle.host_hub.proofs.Taken.{none_left, one_found, out_comes, out_goes_on}
-
+use Rattle.host_hub.proofs.Taken.{out_comes, out_goes_on}
 
 unmade_request : (k : Kind) (limit tag size : ℕ) (bytes : List ℕ) (now : Standing) → served k limit (Request tag size) bytes now ≡ None
 unmade_request kind.Ask limit tag size bytes now = refl

@@ -1,12 +1,10 @@
 -- how many messages were sent whole, as bytes are sent and as the record goes on
-use Rattle.std.proofs.Common.{◌≡◌, ◌∙◌, ◌≤◌, ◌<◌, ◌+◌, ◌-◌, ℕ, zero, suc, Bool, true, false, List, [], ◌∷◌, ◌++◌, length, take, drop, refl, sym, ap, subst, arith, append_assoc, append-nil, length-append, take-append-drop}
+use Rattle.std.proofs.Common.{◌≡◌, ◌∙◌, ◌≤◌, ◌<◌, ◌+◌, ℕ, zero, suc, Bool, true, false, List, [], ◌∷◌, ◌++◌, length, take, drop, refl, sym, ap, subst, arith, append_assoc, length-append, take-append-drop}
 use Rattle.std.proofs.Math.Seq.{take-add, take-append_seam, drop-append_seam}
 use Rattle.std.proofs.lemmas.List.{take-append-le, drop-append-le, length-drop}
 use Rattle.std.proofs.lemmas.Bool.{ltb-false, ltb-true}
 use Rattle.std.specs.Prelude.{nat_lt}
-use Rattle.usbip_wire.specs.Submit as submit
 use Rattle.usbip_wire.specs.Submit.{submit_bytes}
-use Rattle.usbip_wire.specs.Unlink as unlink
 use Rattle.usbip_wire.specs.Unlink.{unlink_bytes}
 use Rattle.usbip_wire.specs.Up as up
 use Rattle.usbip_wire.specs.Urb.{fields}

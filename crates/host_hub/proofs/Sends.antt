@@ -1,5 +1,5 @@
 -- bytes are sent, the hub reads on, and the link ends it
-use Rattle.std.proofs.Common.{◌≡◌, ◌≢◌, ◌≤◌, ℕ, ◌+◌, ◌-◌, List, [], ◌∷◌, ◌++◌, length, take, drop, Option, Some, None, refl, sym, subst, ◌∙◌, ap, arith, append_assoc}
+use Rattle.std.proofs.Common.{◌≡◌, ◌≢◌, ℕ, ◌-◌, List, [], ◌∷◌, ◌++◌, length, drop, Some, None, refl, sym, subst, ◌∙◌, ap, arith, append_assoc}
 use Rattle.std.proofs.lemmas.List.{length-drop}
 use Rattle.usbip_wire.specs.DownFed as down_fed
 use Rattle.host_urbs.specs.declared.entry.Entry.{Entry}
@@ -13,15 +13,14 @@ use Rattle.host_hub.specs.declared.outcome.End.TheVariants as end
 use Rattle.host_hub.specs.Order.{Order, Setting}
 use Rattle.host_hub.specs.Record.{Asking, Past, Stopped}
 use Rattle.host_hub.specs.Book.{live}
-use Rattle.host_hub.specs.Calls.{All, IsOfTurn}
+use Rattle.host_hub.specs.Calls.{IsOfTurn}
 use Rattle.host_hub.specs.Crossings.{crossings}
-use Rattle.host_hub.specs.Hand.{ended}
 use Rattle.host_hub.specs.Law.{Kept, StopLaw}
 use Rattle.host_hub.specs.Steps.{settle_all}
-use Rattle.host_hub.specs.Tied.{MovesNothing, stopped}
+use Rattle.host_hub.specs.Tied.{MovesNothing}
 use Rattle.host_hub.specs.Knows.{HasBook, Knows}
 use Rattle.host_hub.specs.OneOut.{OneOut}
-use Rattle.host_hub.specs.Stands.{IsAtRest, IsIdle, IsInMessage, IsInRequest, IsInResponse, IsOut, Rests, Stands}
+use Rattle.host_hub.specs.Stands.{IsOut, Rests, Stands}
 use Rattle.host_hub.specs.Fed.{IsStopped}
 use Rattle.host_hub.proofs.Begins.{ended_rests}
 use Rattle.host_hub.proofs.Endings.{stopped_kept}

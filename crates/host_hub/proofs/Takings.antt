@@ -1,6 +1,6 @@
 -- bytes come: the answers in them are heard
 use Rattle.std.specs.Int.{to_be_bytes, w32}
-use Rattle.std.proofs.Common.{◌≡◌, ◌≢◌, ◌≤◌, ◌<◌, ℕ, zero, suc, ◌+◌, ◌-◌, Bool, true, false, List, [], ◌∷◌, ◌++◌, length, take, drop, Option, Some, None, refl, sym, subst, ◌∙◌, ap, arith, append_assoc, append-nil, length-append}
+use Rattle.std.proofs.Common.{◌≡◌, ◌≤◌, ◌<◌, ℕ, zero, suc, ◌+◌, ◌-◌, true, false, List, [], ◌∷◌, ◌++◌, length, take, drop, Option, Some, None, refl, sym, subst, ◌∙◌, ap, arith, append_assoc, append-nil}
 use Rattle.std.specs.Prelude.{is_some}
 use Rattle.std.proofs.lemmas.List.{length-drop, take_all}
 use Rattle.tmc_base.specs.declared.field.Field.{Field}
@@ -11,8 +11,7 @@ use Rattle.usbip_wire.specs.declared.down.DownPhase.{DownPhase}
 use Rattle.usbip_wire.specs.declared.down.DownPhase.TheVariants.{Urbs}
 use Rattle.usbip_wire.specs.declared.down.DownStep.{DownStep}
 use Rattle.usbip_wire.specs.declared.ret_submit.RetSubmitHead.{RetSubmitHead}
-use Rattle.usbip_wire.specs.Awaited.{Awaited, entries_of}
-use Rattle.usbip_wire.specs.Dirs as dirs
+use Rattle.usbip_wire.specs.Awaited.{entries_of}
 use Rattle.usbip_wire.specs.Down as down
 use Rattle.usbip_wire.specs.Down.{SpellsAnswer}
 use Rattle.usbip_wire.specs.DownFed as down_fed
@@ -35,14 +34,14 @@ use Rattle.host_hub.specs.Book.{KeepsBook, live}
 use Rattle.host_hub.specs.Calls.{All, IsOfTurn}
 use Rattle.host_hub.specs.Crossings.{crossings}
 use Rattle.host_hub.specs.Hand.{ended}
-use Rattle.host_hub.specs.Law.{ByBytes, Kept}
+use Rattle.host_hub.specs.Law.{ByBytes}
 use Rattle.host_hub.specs.Steps.{settle_all}
-use Rattle.host_hub.specs.Tied.{AllTaken, AreSent, IsDueIn, IsRefused, MovesNothing, NothingLies, Received, Tied, below, entries_sent, seqnum_of, spelled, stopped, takes_all, takes_all_by}
+use Rattle.host_hub.specs.Tied.{AllTaken, AreSent, IsDueIn, IsRefused, NothingLies, Received, Tied, below, entries_sent, seqnum_of, spelled, stopped, takes_all, takes_all_by}
 use Rattle.host_hub.specs.Knows.{HasBook, Knows}
 use Rattle.host_hub.specs.OneOut.{OneOut}
 use Rattle.host_hub.specs.Stands.{Rests, Stands}
 use Rattle.host_hub.specs.Hears.{GoesByAnswer, HearsOut, IsBehind, OfItself, Takes}
-use Rattle.host_hub.specs.Fed.{Fed, FedAnswer, Feeds, Reads}
+use Rattle.host_hub.specs.Fed.{Fed, FedAnswer, Feeds}
 use Rattle.host_hub.proofs.Begins.{ended_rests}
 use Rattle.host_hub.proofs.Counts.{AtMost, Nothing, Single, entries_here, low_found, none_unlinks, sent_on, stands_so}
 use Rattle.host_hub.proofs.Endings.{stopped_kept}
@@ -231,12 +230,8 @@ none_some e k = absurd (no k)
 module _ (rows : Rows) (core : HubCore) (piece : List ℕ) (step : DownStep) (r : down_fed.Held) (es : List Outstanding)
     (same : es ≡ entries_of (entries.sent core.urbs.entries)) (fed : down_fed.Fed core.reader es piece step r)
     (s : Setting) (past : Past) (sent received rest : List ℕ) (count : ℕ) (f : Feeds s past sent received rest count core) where
-
   stands_so_far : AtMost past × OneOut core.urbs
   stands_so_far = at_most core.phase s past core (f.rests.stands f.running)
-
-
-
 
   here : es ≡ entries_sent s past count
   here = same ∙ entries_here rows s past sent core count f.rests.kept.lawful f.rests.knows stands_so_far.1 f.counted stands_so_far.0

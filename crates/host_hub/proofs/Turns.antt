@@ -1,5 +1,5 @@
 -- one turn of a hub that runs
-use Rattle.std.proofs.Common.{◌≡◌, ◌≢◌, ◌∙◌, ◌≤◌, ◌+◌, ℕ, Bool, false, List, [], ◌∷◌, ◌++◌, take, drop, Option, Some, None, refl, sym, ap, subst, arith, append-nil}
+use Rattle.std.proofs.Common.{◌≡◌, ◌≢◌, ◌∙◌, ℕ, Bool, false, List, [], ◌∷◌, ◌++◌, Option, Some, None, refl, sym, ap, subst, append-nil}
 use Rattle.std.specs.Prelude.{◌↔◌}
 use Rattle.tmc_base.specs.Link.{Counts}
 use Rattle.tmc_base.specs.Told.{CameIn, Told, WentOut}
@@ -10,16 +10,15 @@ use Rattle.host_hub.specs.declared.hub_core.Phase.TheVariants as phase
 use Rattle.host_hub.specs.declared.outcome.End.{End}
 use Rattle.host_hub.specs.declared.outcome.End.TheVariants as end
 use Rattle.host_hub.specs.Behind.{Account}
-use Rattle.host_hub.specs.Calls.{All, IsOfTurn}
-use Rattle.host_hub.specs.Fed.{Fed, Feeds, IsStopped, Reads}
-use Rattle.host_hub.specs.Hand.{ended}
+use Rattle.host_hub.specs.Calls.{All}
+use Rattle.host_hub.specs.Fed.{Fed, Feeds, IsStopped}
 use Rattle.host_hub.specs.HubCalls.{TurnsOn}
 use Rattle.host_hub.specs.Knows.{Knows}
 use Rattle.host_hub.specs.Order.{Order, Setting}
-use Rattle.host_hub.specs.Record.{Asked, Asking, Cancelled, Cleared, Fell, GaveUp, Happening, Past, Recovers, Settled, Stopped, Took, Wrote}
+use Rattle.host_hub.specs.Record.{Asked, Asking, Cancelled, Cleared, Fell, GaveUp, Past, Recovers, Settled, Stopped, Took, Wrote}
 use Rattle.host_hub.specs.Stands.{IsOut, Rests, Stands}
-use Rattle.host_hub.specs.Tied.{AddsTurn, Closed, Failed, IsDueIn, IsRefused, MovesNothing, Said, Went, stopped, takes_all_by}
-use Rattle.host_hub.proofs.Accounts.{Neither, ShowsAt, account_fed, account_sent, account_stopped, account_unpolled, account_unsent}
+use Rattle.host_hub.specs.Tied.{AddsTurn, Closed, Failed, IsDueIn, MovesNothing, Said, Went, stopped, takes_all_by}
+use Rattle.host_hub.proofs.Accounts.{ShowsAt, account_fed, account_stopped, account_unpolled, account_unsent}
 use Rattle.host_hub.proofs.Undisturbing.{Joins}
 
 -- ---- the turn is counted

@@ -1,9 +1,8 @@
 -- a hub stays joined to a lawful device that nothing disturbs, as its link goes on and its record
-use Rattle.std.proofs.Common.{◌≡◌, ◌∙◌, ◌≤◌, ◌⊎◌, ◌+◌, ℕ, inl, inr, List, [], ◌∷◌, ◌++◌, length, take, drop, Option, Some, None, refl, sym, ap, subst, append_assoc, append-nil}
+use Rattle.std.proofs.Common.{◌≡◌, ◌∙◌, ℕ, List, [], ◌∷◌, ◌++◌, drop, None, refl, sym, ap, subst, append_assoc, append-nil}
 use Rattle.tmc_base.specs.declared.run_step.RunStep.{RunStep}
-use Rattle.tmc_base.specs.Told.{Told, Silent, Bytes, Peer, WentOut, CameIn, Exchanged, Fits, IsFront, in_bytes, out_bytes}
+use Rattle.tmc_base.specs.Told.{Told, Silent, Bytes, Peer, WentOut, CameIn, Exchanged, IsFront, in_bytes, out_bytes}
 use Rattle.usbip_wire.specs.Awaited.{entries_of}
-use Rattle.usbip_wire.specs.Down as down
 use Rattle.usbip_wire.specs.Down.{SpellsAnswer}
 use Rattle.usbip_wire.specs.Laws.{ArePrefixFree}
 use Rattle.usbip_wire.specs.Up as up
@@ -67,7 +66,6 @@ module _ (laws : Joins) (s : Setting) (past : Past) (s0 t0 : List ℕ) (r0 : Lis
     (j : StaysJoined s past (Peer s0 t0 r0) (Peer (s0 ++ sent) (t0 ++ received) (r0 ++ m)) outbox rest)
     (front : IsFront (in_bytes ((r0 ++ m) ++ d)) ((s0 ++ sent) ++ outbox))
     (state : State) (u : Undisturbed s past (Peer s0 t0 r0) (Peer out into ((r0 ++ m) ++ d)) state) where
-
   -- so it was before the steps that are new, and is behind them
   later_joined : (read : List ℕ) × (t0 ++ received ≡ read ++ rest) × IsJoined s past ((s0 ++ sent) ++ outbox) read ((r0 ++ m) ++ d) state
   later_joined =

@@ -1,15 +1,14 @@
 -- a ticket that is asked adds one view
-use Rattle.std.proofs.Common.{◌≡◌, ◌∙◌, ◌≤◌, ◌+◌, ℕ, Bool, true, false, List, [], ◌∷◌, ◌++◌, length, Option, Some, None, Result, Ok, Err, refl, sym, ap, subst, arith, append_assoc}
-use Rattle.std.specs.Prelude.{◌==◌, if◌then◌else◌}
+use Rattle.std.proofs.Common.{◌≡◌, ◌∙◌, ◌+◌, ℕ, Bool, List, [], ◌∷◌, ◌++◌, length, Some, Result, Ok, Err, refl, sym, ap, arith, append_assoc}
+use Rattle.std.specs.Prelude.{if◌then◌else◌}
 use Rattle.host_hub.specs.declared.hub_core.HubCore.{HubCore}
 use Rattle.host_hub.specs.declared.refusals.AskFault.{AskFault}
 use Rattle.host_hub.specs.Asks.{Asks, Enters}
 use Rattle.host_hub.specs.Book.{asking_of, tickets}
-use Rattle.host_hub.specs.BookSeen.{Seen, ticket_of}
-use Rattle.host_hub.specs.Calls.{AddsAsk, All, IsOwn}
+use Rattle.host_hub.specs.Calls.{All, IsOwn}
 use Rattle.host_hub.specs.HubCalls.{AddsView, HasView}
 use Rattle.host_hub.specs.Order.{Setting}
-use Rattle.host_hub.specs.Record.{Asked, Asking, Cancelled, Cleared, Fell, GaveUp, Happening, Past, Recovers, Settled, Stopped, Took, Wrote}
+use Rattle.host_hub.specs.Record.{Asked, Asking, Cancelled, Cleared, Fell, GaveUp, Past, Recovers, Settled, Stopped, Took, Wrote}
 use Rattle.host_hub.specs.Stands.{Rests}
 use Rattle.host_hub.proofs.Knowing.{seen_there}
 use Rattle.host_hub.proofs.Lists.{own}
@@ -44,7 +43,6 @@ same_one : (a b : Asking) → Some a ≡ Some b → a ≡ b
 same_one a b e = cc
 
 module _ (s : Setting) (past : Past) (sent : List ℕ) (asking : Asking) (core new : HubCore) (r : Rests s past sent core) (e : Enters s past sent asking new) where
-
   whole : e.more ++ past ≡ e.adds.own ++ Asked (tickets past + 1) asking ∷ past
   whole = ap (λ (l : Past). l ++ past) e.adds.is ∙ append_assoc e.adds.own (Asked (tickets past + 1) asking ∷ []) past
 

@@ -1,5 +1,5 @@
 -- the records behind a hub: what happened at it since it was made, with the bytes that its link sent and took since then
-use Rattle.std.specs.Prelude.{◌≡◌, ◌≤◌, ℕ, Some, None, List, [], ◌++◌, length}
+use Rattle.std.specs.Prelude.{◌≡◌, ◌≤◌, ℕ, Some, None, List, length}
 use Rattle.tmc_base.specs.Link.{Counts}
 use Rattle.tmc_base.specs.Told.{Told, Exchanged}
 use Rattle.usbip_wire.specs.declared.dirs.TheConstants.{DIRS_MAX}

@@ -1,5 +1,5 @@
 -- the calls of a hub with its link: what each adds to every record behind it, and which calls of the link it makes
-use Rattle.std.specs.Prelude.{◌≡◌, ◌⊎◌, ◌↔◌, ◌+◌, ◌<◌, ℕ, Result, Ok, Err, Option, Some, None, List, [], ◌∷◌, ◌++◌, length, take}
+use Rattle.std.specs.Prelude.{◌≡◌, ◌⊎◌, ◌+◌, ◌<◌, ℕ, Result, Ok, Err, Option, Some, None, List, [], ◌∷◌, ◌++◌, length, take}
 use Rattle.tmc_base.specs.declared.link.PollStep.{PollStep}
 use Rattle.tmc_base.specs.declared.link.PollStep.TheVariants as poll
 use Rattle.tmc_base.specs.declared.link.SendStep.{SendStep}

@@ -20,8 +20,8 @@ use Rattle.host_transfers.specs.Piece.{eom_of}
 use Rattle.host_hub.specs.declared.kind.Kind.{Kind}
 use Rattle.host_hub.specs.declared.kind.Kind.TheVariants as kind
 use Rattle.host_hub.specs.declared.limits.TheConstants.{MESSAGE_MAX}
-use Rattle.host_hub.specs.Order.{Order, Part, Request, Read, Setting, message_of, number_of}
-use Rattle.host_hub.specs.Record.{Happening, Past, Wrote, Took, Fell, Recovers, Asked, Cancelled, Cleared, Owner, Of, Recovery, Asking, next, written}
+use Rattle.host_hub.specs.Order.{Setting, message_of, number_of}
+use Rattle.host_hub.specs.Record.{Happening, Past, Wrote, Took, Fell, Recovers, Asked, Cancelled, Cleared, Asking, next}
 use Rattle.host_hub.specs.Crossings.{crossings}
 use Rattle.host_hub.specs.Hand.{in_hand, ended}
 use Rattle.host_hub.specs.Outstanding.{Sent, outstanding}

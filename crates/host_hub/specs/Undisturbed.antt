@@ -1,6 +1,5 @@
 -- a hub over a lawful device that nothing disturbs
-use Rattle.std.specs.Prelude.{◌≡◌, ℕ, Option, Some, None, List, [], ◌++◌}
-use Rattle.tmc_base.specs.declared.field.Field.{Field}
+use Rattle.std.specs.Prelude.{◌≡◌, ℕ, Option, Some, None, List, ◌++◌}
 use Rattle.tmc_base.specs.declared.run_step.RunStep.{RunStep}
 use Rattle.tmc_base.specs.Told.{Fits, Told, Peer}
 use Rattle.instr_plain.specs.declared.log.LogEntry.{LogEntry}

@@ -219,7 +219,8 @@ impl HubCore {
     {
         self.take(head);
         let data = self.reader.data();
-        self.book.add(self.active, &data[from as usize..to as usize]);
+        self.book
+            .add(self.active, &data[from as usize..to as usize]);
     }
 
     /// The submit that this answers is out no more.

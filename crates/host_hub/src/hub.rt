@@ -16,8 +16,7 @@ ghost use Rattle.host_hub.specs.Shown.{IsBorn};
 
 use crate::hub_core::HubCore;
 use crate::recorded::{accounts_are_entered, accounts_are_tended, accounts_begin, hubs_hold};
-use crate::turning;
-use crate::{AskFault, Book, End, Kind, Turn, View};
+use crate::{AskFault, Book, End, Kind, Turn, View, turning};
 use std::alloc::Global;
 use std::marker::Model;
 use tmc_base::{Link, Memory, TendStep};

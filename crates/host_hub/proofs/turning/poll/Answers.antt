@@ -1,6 +1,5 @@
-use Rattle.std.proofs.Common.{◌≡◌, ◌∙◌, ◌++◌, List, ℕ, [], length, Some, None, refl, sym, ap, subst, take}
+use Rattle.std.proofs.Common.{◌++◌, [], refl, sym, subst, take}
 use Rattle.tmc_base.specs.declared.link.PollStep.{PollStep}
-use Rattle.tmc_base.specs.declared.link.PollStep.TheVariants as poll
 use Rattle.tmc_base.specs.Link.{got_count}
 use Rattle.tmc_base.specs.Told.{CameIn}
 use Rattle.host_hub.specs.HubCalls.{EndsPoll, TurnsOn, said_of}

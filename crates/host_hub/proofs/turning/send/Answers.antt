@@ -1,4 +1,4 @@
-use Rattle.std.proofs.Common.{◌≡◌, ◌<◌, ◌∙◌, false, List, ℕ, [], length, Some, None, refl, sym, ap, subst, take}
+use Rattle.std.proofs.Common.{◌≡◌, false, List, ℕ, [], length, Some, refl, sym, subst, take}
 use Rattle.std.specs.Prelude.{◌==◌}
 use Rattle.tmc_base.specs.declared.link.SendStep.{SendStep}
 use Rattle.tmc_base.specs.Link.{SendsWithin, took_count}

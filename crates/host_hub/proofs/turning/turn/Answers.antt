@@ -1,10 +1,8 @@
-use Rattle.std.proofs.Common.{◌≡◌, ◌∙◌, ◌++◌, List, ℕ, [], Option, Some, None, refl, sym, ap, subst, take}
+use Rattle.std.proofs.Common.{◌≡◌, ◌∙◌, ◌++◌, ℕ, [], Option, Some, None, refl, sym, ap, subst, take}
 use Rattle.tmc_base.specs.declared.link.SendStep.{SendStep}
 use Rattle.tmc_base.specs.declared.link.SendStep.TheVariants as send
-use Rattle.host_hub.specs.declared.hub_core.HubCore.{HubCore}
 use Rattle.host_hub.specs.declared.outcome.End.{End}
-use Rattle.host_hub.specs.HubCalls.{EndsSend, PollsOnce, TurnsOn, said_by, sent_count}
-use Rattle.host_hub.specs.Shown.{Births}
+use Rattle.host_hub.specs.HubCalls.{EndsSend, PollsOnce, TurnsOn, sent_count}
 use Rattle.host_hub.specs.Tied.{Said}
 use Rattle.host_hub.proofs.Calling.{ended_failed, goes_on, polls_on, same_said, turns_ended}
 use Rattle.host_hub.proofs.turning.turn.Goals as goal
@@ -64,7 +62,7 @@ returns g c =
           (c.send-sent.ensures.goes start s past before received (c.accounts_are_turned.ensures.counted start _ _ s past before received c.args.core.now _ b)) in
           subst
           (λ (x : Said). TurnsOn start (g.L.Link.told c.poll-came.new.link) (g.L.Link.counts c.poll-came.new.link) s past
-            (before ++ take (sent_count c.send-sent.result) c.args.core.now.urbs.outbox) (received ++ c.poll-came.ensures.bytes) x c.poll-came.new.core)
+          (before ++ take (sent_count c.send-sent.result) c.args.core.now.urbs.outbox) (received ++ c.poll-came.ensures.bytes) x c.poll-came.new.core)
           (sym (same_said c.send-sent.result c.poll-came.result ends))
           (c.poll-came.ensures.goes start s past (before ++ take (sent_count c.send-sent.result) c.args.core.now.urbs.outbox) received a);
     }

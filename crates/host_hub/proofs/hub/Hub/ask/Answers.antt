@@ -1,11 +1,9 @@
-use Rattle.std.proofs.Common.{◌≡◌, List, ℕ, refl, sym, ap, subst}
+use Rattle.std.proofs.Common.{refl, sym, subst}
 use Rattle.std.specs.Prelude.{OnErr, OnOk}
-use Rattle.host_hub.specs.declared.hub_core.HubCore.{HubCore}
 use Rattle.host_hub.specs.declared.kind.Kind.TheVariants as kind
 use Rattle.host_hub.specs.Asks.{IsUnchanged}
 use Rattle.host_hub.specs.Behind.{Behind, HubParts, births_of}
 use Rattle.host_hub.specs.HubCalls.{HasView}
-use Rattle.host_hub.specs.Record.{Asking}
 use Rattle.host_hub.specs.Shown.{IsBorn}
 use Rattle.host_hub.proofs.Entering.{asked_on, is_born}
 use Rattle.host_hub.proofs.hub.Hub.ask.Goals as goal

@@ -1,6 +1,4 @@
-use Rattle.std.proofs.Common.{◌≡◌, ◌∙◌, ◌++◌, List, ℕ, Option, Some, None, refl, sym, ap, subst}
-use Rattle.host_hub.specs.declared.hub_core.HubCore.{HubCore}
-use Rattle.host_hub.specs.declared.outcome.End.{End}
+use Rattle.std.proofs.Common.{◌≡◌, ◌∙◌, None, sym, ap, subst}
 use Rattle.host_hub.specs.Behind.{Behind, HubParts, births_of}
 use Rattle.host_hub.proofs.Entering.{given_on, same_births}
 use Rattle.host_hub.proofs.hub.Hub.give_up.Goals as goal

@@ -1,9 +1,6 @@
-use Rattle.std.proofs.Common.{List, ℕ, sym, subst}
+use Rattle.std.proofs.Common.{sym, subst}
 use Rattle.tmc_base.specs.Link.{Counts}
-use Rattle.tmc_base.specs.Told.{Told}
 use Rattle.host_hub.specs.Behind.{Account, Behind, HubParts}
-use Rattle.host_hub.specs.Order.{Setting}
-use Rattle.host_hub.specs.Record.{Past}
 use Rattle.host_hub.proofs.hub.Hub.tend.Goals as goal
 
 pub returns-clause-behind : goal.returns-clause-behind

@@ -3,7 +3,6 @@ use Rattle.host_hub.specs.Hears.{failed_as}
 use Rattle.host_hub.specs.declared.outcome.End.TheVariants as end
 use Rattle.usbip_wire.specs.DownFed.{data_of}
 use Rattle.host_hub.proofs.Failed.{failed_active, failed_book, failed_goes, failed_hears}
-use Rattle.host_hub.proofs.Leaving.{leaves_ended, leaves_then}
 use Rattle.host_hub.proofs.hub_core.HubCore.answer_failed.Goals as goal
 
 pub take-requires : goal.take-requires

@@ -1,9 +1,9 @@
-use Rattle.std.proofs.Common.{arith, ap, ◌≡◌, ◌∙◌, ℕ}
+use Rattle.std.proofs.Common.{arith, ap, ◌∙◌, ℕ}
 use Rattle.host_hub.specs.declared.hub_core.HubCore.{HubCore}
 use Rattle.host_hub.specs.Noted.{Noted, with_start}
 use Rattle.host_hub.proofs.Lawful.{lawful_book}
 use Rattle.host_hub.proofs.Begins.{begins_can, begins_exhausted, begins_goes}
-use Rattle.host_hub.proofs.Leaving.{leaves_by, leaves_ended}
+use Rattle.host_hub.proofs.Leaving.{leaves_ended}
 use Rattle.host_hub.proofs.hub_core.HubCore.begin.Goals as goal
 
 pub stop-requires-clause-known : goal.stop-requires-clause-known

@@ -1,4 +1,4 @@
-use Rattle.std.proofs.Common.{Some, ◌∷◌, ◌∙◌, ◌≡◌, ap, sym, subst, List, ℕ}
+use Rattle.std.proofs.Common.{Some, ◌∷◌, ◌∙◌, ap, sym, subst}
 use Rattle.usbip_wire.specs.Down as down
 use Rattle.host_hub.specs.declared.hub_core.HubCore.{HubCore}
 use Rattle.host_hub.specs.Record.{Fell}

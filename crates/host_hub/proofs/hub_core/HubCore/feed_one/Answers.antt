@@ -1,4 +1,4 @@
-use Rattle.std.proofs.Common.{◌≡◌, ◌∙◌, ap, sym}
+use Rattle.std.proofs.Common.{ap}
 use Rattle.host_hub.specs.declared.hub_core.HubCore.{HubCore}
 use Rattle.host_hub.proofs.Takings.{fed_answer, fed_more, fed_refused, hears_now, nothing_else, refused_book, uses_some}
 use Rattle.host_hub.proofs.hub_core.HubCore.feed_one.Goals as goal

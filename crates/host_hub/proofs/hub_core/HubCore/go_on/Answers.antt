@@ -1,6 +1,5 @@
 use Rattle.std.proofs.Common.{refl, arith}
 use Rattle.host_hub.proofs.Dones.{done_idle, done_ready}
-use Rattle.host_hub.proofs.Taken.{out_goes_on}
 use Rattle.host_hub.proofs.hub_core.HubCore.go_on.Goals as goal
 
 pub returns-then-self-tickets-clause-goes : goal.returns-then-self-tickets-clause-goes

@@ -1,4 +1,4 @@
-use Rattle.std.proofs.Common.{rules, ◌≡◌, ◌∙◌, ap, sym, true, ℤ, to_z, of_z, w32}
+use Rattle.std.proofs.Common.{rules, ◌≡◌, ◌∙◌, ap, sym, ℤ, to_z, of_z, w32}
 use Rattle.usbip_wire.specs.DownFed.{data_of}
 use Rattle.host_hub.specs.Ends.{is_gone}
 use Rattle.host_hub.proofs.Failed.{idle_hears, now_gone, now_heard, now_hears, out_now}

@@ -1,7 +1,5 @@
 use Rattle.std.proofs.Common.{refl, arith, false}
 use Rattle.host_hub.specs.Order.{Read}
-use Rattle.host_hub.specs.Pieces.{pieces}
-use Rattle.host_hub.specs.Plan.{next_tag, request_of}
 use Rattle.host_hub.proofs.Lawful.{lawful_book}
 use Rattle.host_hub.proofs.Parts.{next_exhausted}
 use Rattle.host_hub.proofs.Responses.{read_can, read_goes, read_next}

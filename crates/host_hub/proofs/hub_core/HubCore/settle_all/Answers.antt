@@ -1,9 +1,8 @@
-use Rattle.std.proofs.Common.{refl, sym, ◌∙◌, ◌≡◌, ◌∷◌, Some, ◌+◌, subst, arith, ap, List, ℕ}
+use Rattle.std.proofs.Common.{refl, sym, ◌∙◌, ◌≡◌, ◌∷◌, Some, ◌+◌, subst, arith, ap, ℕ}
 use Rattle.host_hub.specs.declared.outcome.Outcome.{Outcome}
 use Rattle.host_hub.specs.declared.hub_core.HubCore.{HubCore}
-use Rattle.host_hub.specs.Order.{Setting}
-use Rattle.host_hub.specs.Record.{Past, Settled}
-use Rattle.host_hub.specs.Book.{KeepsBook, active, live}
+use Rattle.host_hub.specs.Record.{Settled}
+use Rattle.host_hub.specs.Book.{active, live}
 use Rattle.host_hub.specs.Knows.{Knows}
 use Rattle.host_hub.proofs.Lists.{first_has}
 use Rattle.host_hub.proofs.Knowing.{begins, goes_further, all_settled, has_active}
