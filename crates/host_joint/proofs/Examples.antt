@@ -28,14 +28,14 @@ use Rattle.host_joint.specs.Owned.{Owned, NothingRead, PiecesRead, PieceRead}
 use Rattle.host_joint.specs.WorkedAsks.{query_job, read_job, request_job, query_ask, read_ask, query_asked, foreign_ask}
 
 -- the bytes have no fault of a header
-record IsFine (bytes : List ℕ) : Type 0 where
+pub record IsFine (bytes : List ℕ) : Type 0 where
   pub long : 12 ≤ length bytes
   pub known : fault.is_out_message (fault.MsgID bytes) ≡ true
   pub tagged : fault.bTag bytes ≢ 0
   pub inverse : fault.bTagInverse bytes ≡ 255 - fault.bTag bytes
   pub counted : (fault.MsgID bytes ≡ trigger) ⊎ (fault.TransferSize bytes ≢ 0)
 
-no_fault : (bytes : List ℕ) (f : HeaderFault) → IsFine bytes → fault.HasFault fault.is_out_message bytes f → ⊥
+pub no_fault : (bytes : List ℕ) (f : HeaderFault) → IsFine bytes → fault.HasFault fault.is_out_message bytes f → ⊥
 no_fault bytes Length fine h = omega (arith, h, fine.long)
 no_fault bytes MsgId fine h = let e : true ≡ false = sym fine.known ∙ h in cc
 no_fault bytes Tag fine h = fine.tagged h
@@ -46,7 +46,7 @@ no_fault bytes Size fine h = no_size fine.counted h
     no_size (inl is) h = h.0 is
     no_size (inr some) h = some h.1
 
-query_is : IsJob query_job
+pub query_is : IsJob query_job
 query_is = record {
   number = refl;
   way = refl;
@@ -84,7 +84,7 @@ read_is = record {
   sized = refl;
 }
 
-request_is : IsJob request_job
+pub request_is : IsJob request_job
 request_is = record {
   number = refl;
   way = refl;
@@ -179,12 +179,12 @@ query_lines InterruptIn = refl
 
 -- ---- the answers of the query are taken
 
-good : (ask : Ask) (ups : List up.Message) (head : SubmitHead) (a : RetSubmitHead) (downs : List Put) (s : State) → a.status ≡ success → OutAnswered ask ups head a downs s
+pub good : (ask : Ask) (ups : List up.Message) (head : SubmitHead) (a : RetSubmitHead) (downs : List Put) (s : State) → a.status ≡ success → OutAnswered ask ups head a downs s
     → Asking (record ask { answered = ask.answered + 1 }) ups downs s
 good ask ups head a downs s ok (inl h) = h.2
 good ask ups head a downs s ok (inr e) = let f : success ≡ stalled = sym ok ∙ e.0 in absurd (cc)
 
-piece_ends : (ask : Ask) (ups : List up.Message) (head : SubmitHead) (a : RetSubmitHead) (transferred : List ℕ) (downs : List Put) (s : State) → length transferred < read_size
+pub piece_ends : (ask : Ask) (ups : List up.Message) (head : SubmitHead) (a : RetSubmitHead) (transferred : List ℕ) (downs : List Put) (s : State) → length transferred < read_size
     → s.halted.bulk_in ≡ false → InAnswered ask ups (Gives head a transferred) downs s → PieceEnd ask transferred ups downs s
 piece_ends ask ups head a transferred downs s short usable (TookFull x is full next) = let e : transferred ≡ x.bytes = cc in absurd (omega (arith, short, full, ap (λ (l : List ℕ). length l) e))
 piece_ends ask ups head a transferred downs s short usable (TookEnd x is small end) = let e : x.bytes ≡ transferred = cc in subst (λ (l : List ℕ). PieceEnd ask l ups downs s) e end
@@ -209,3 +209,13 @@ query_read a =
     let t : State = record start { log = query_log } in
     piece_ends (record query_ask { answered = 2 }) [] response_submit (record { seqnum = 3; status = success; actual = 32 }) response_text [] t (lit< tt) refl
     (in_answered 1 (codes "*IDN?") 2 4000 (query_job ∷ request_job ∷ []) 2 [] [] false [] response_submit (record { seqnum = 3; status = success; actual = 32 }) response_text [] t refl (query_taken a))
+
+status_of : (h k : SubmitHead) (a b : RetSubmitHead) (x y : List ℕ) → Gives h a x ≡ Gives k b y → a.status ≡ b.status
+status_of h k a b x y e = let same : a ≡ b = cc in ap (λ (r : RetSubmitHead). r.status) same
+
+-- an answer that tells of a halt leaves the ask in hand
+pub not_answered : (ask : Ask) (ups : List up.Message) (head : SubmitHead) (a : RetSubmitHead) (transferred : List ℕ) (downs : List Put) (s : State) → a.status ≡ stalled → InAnswered ask ups (Gives head a transferred) downs s
+    → Asking ask ups downs s
+not_answered ask ups head a transferred downs s bad (TookFull x is full next) = let e : success ≡ stalled = sym (status_of head x.head a (record { seqnum = x.head.seqnum; status = success; actual = length x.bytes }) transferred x.bytes is) ∙ bad in absurd (cc)
+not_answered ask ups head a transferred downs s bad (TookEnd x is small end) = let e : success ≡ stalled = sym (status_of head x.head a (record { seqnum = x.head.seqnum; status = success; actual = length x.bytes }) transferred x.bytes is) ∙ bad in absurd (cc)
+not_answered ask ups head a transferred downs s bad (TookHalt shuts halted later) = later

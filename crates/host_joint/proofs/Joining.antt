@@ -82,11 +82,11 @@ row_together {M} S [] ns a b p q = subst (λ (l : List ℕ). InRow S ns (l ++ b)
 row_together {M} S (m ∷ ms) ns a b (front, after, e, s, p) q =
     (front, after ++ b, ap (λ (l : List ℕ). l ++ b) e ∙ append_assoc front after b, s, row_together S ms ns after b p q)
 
-none_front : (a b : List ℕ) → a ++ b ≡ [] → a ≡ []
+pub none_front : (a b : List ℕ) → a ++ b ≡ [] → a ≡ []
 none_front [] b e = refl
 none_front (byte ∷ a) b e = absurd (cc)
 
-none_behind : (a b : List ℕ) → a ++ b ≡ [] → b ≡ []
+pub none_behind : (a b : List ℕ) → a ++ b ≡ [] → b ≡ []
 none_behind [] b e = e
 none_behind (byte ∷ a) b e = absurd (cc)
 
@@ -163,7 +163,7 @@ rising_asked (Some head) e = by (eqb head.ep (number_of e))
     by true = (tt, tt)
     by false = tt
 
-apart_asked : (waits : Option SubmitHead) (d e : Endpoint) → d ≢ e → AllHeads (λ (head : SubmitHead). NoneNumbered head.seqnum (asked_of waits e)) (asked_of waits d)
+pub apart_asked : (waits : Option SubmitHead) (d e : Endpoint) → d ≢ e → AllHeads (λ (head : SubmitHead). NoneNumbered head.seqnum (asked_of waits e)) (asked_of waits d)
 apart_asked None d e differ = tt
 apart_asked (Some head) d e differ = by (eqb head.ep (number_of d)) refl
   where
@@ -179,7 +179,7 @@ few_asked (Some head) e = by (eqb head.ep (number_of e))
     by true = omega arith
     by false = omega arith
 
-few_total : (waits : Option SubmitHead) → total_of (asked_of waits) ≤ pending_most
+pub few_total : (waits : Option SubmitHead) → total_of (asked_of waits) ≤ pending_most
 few_total waits = omega (arith, few_asked waits Control, few_asked waits BulkOut, few_asked waits BulkIn, few_asked waits InterruptIn)
 
 -- ---- they stay joined
@@ -283,7 +283,7 @@ no_ups (up.Submit head transferred ∷ ups) fit none empty = absurd (some (sym (
     some : {A : Type 0} {x : A} {l : List A} → [] ≡ x ∷ l → ⊥
     some e = cc
 
-no_downs : (hand : Hand) (next : ℕ) (ups : List up.Message) (downs : List Put) (s : State) → AllAnswers IsGood downs → Lines (asked_of None) [] ups downs s → downs ≡ []
+pub no_downs : (hand : Hand) (next : ℕ) (ups : List up.Message) (downs : List Put) (s : State) → AllAnswers IsGood downs → Lines (asked_of None) [] ups downs s → downs ≡ []
 no_downs hand next ups [] s good lines = refl
 no_downs hand next ups (Unlinked asked a ∷ downs) s good lines = absurd good.0
 no_downs hand next ups (Submitted asked a transferred ∷ downs) s good lines =
@@ -315,7 +315,7 @@ alone hand head next put ups downs s given tie =
 pub record ReadLaws : Type 0 where
   pub given : (hand : Hand) (head : SubmitHead) (next : ℕ) (put : Put) (ups : List up.Message) (downs : List Put) (s : State) → Tie hand (Some head) next ups (put ∷ downs) s → IsGiven hand head put next ups downs s
 
-answer_not_empty : (entries : List Outstanding) (message : down.Message) → SpellsAnswer entries message [] → ⊥
+pub answer_not_empty : (entries : List Outstanding) (message : down.Message) → SpellsAnswer entries message [] → ⊥
 unfolding ret_submit_bytes ret_unlink_bytes fields
 answer_not_empty entries (down.RetSubmit head transferred) spelled = let e = spelled.2.layout in cc
 answer_not_empty entries (down.RetUnlink head) spelled = let e = spelled.1.layout in cc
@@ -327,7 +327,7 @@ own_answer head a transferred bytes same spelled = (record { dir = head.dir; siz
     found : submit_of (find a.seqnum (entries_for (Some head))) ≡ Some (head.dir, head.length)
     found = rw (eq-eqb head.seqnum a.seqnum (sym same)) refl
 
-spelled_put : (head : SubmitHead) (put : Put) (bytes : List ℕ) (a : RetSubmitHead) (transferred : List ℕ) → put ≡ Submitted head a transferred → a.seqnum ≡ head.seqnum → SpellsPut put bytes
+pub spelled_put : (head : SubmitHead) (put : Put) (bytes : List ℕ) (a : RetSubmitHead) (transferred : List ℕ) → put ≡ Submitted head a transferred → a.seqnum ≡ head.seqnum → SpellsPut put bytes
     → SpellsAnswer (entries_for (Some head)) (message_of put) bytes
 spelled_put head put bytes a transferred is same spelled =
     subst (λ (p : Put). SpellsAnswer (entries_for (Some head)) (message_of p) bytes) (sym is) (own_answer head a transferred bytes same (subst (λ (p : Put). SpellsPut p bytes) is spelled))
@@ -398,7 +398,7 @@ pub record FieldLaws : Type 0 where
   pub refused : (entries : List Outstanding) (rest : List ℕ) (f : Field) → BadAt Urbs entries rest f → RefusedAt (SpellsAnswer entries) rest f
   pub stay : (entries : List Outstanding) → AreBadFromTheirLast (BadAt Urbs entries)
 
-none_bad : (laws : FieldLaws) (entries : List Outstanding) (rest : List ℕ) (f : Field) → rest ≡ [] → BadAt Urbs entries rest f → ⊥
+pub none_bad : (laws : FieldLaws) (entries : List Outstanding) (rest : List ℕ) (f : Field) → rest ≡ [] → BadAt Urbs entries rest f → ⊥
 none_bad laws entries rest f none bad =
     let at = laws.refused entries rest f bad in
     let empty : at.value ≡ [] = none_front at.value at.tail (none_behind at.front (at.value ++ at.tail) (sym at.holds ∙ none)) in
@@ -460,14 +460,14 @@ unlink_found : (waits : Option SubmitHead) (unlink : UnlinkHead) (rest : List Un
 unlink_found None unlink rest apart = rw (eq-eqb unlink.seqnum unlink.seqnum refl) refl
 unlink_found (Some head) unlink rest apart = rw (ne_eqb head.seqnum unlink.seqnum apart.0) (rw (eq-eqb unlink.seqnum unlink.seqnum refl) refl)
 
-submit_found : (head : SubmitHead) (unlinks : List UnlinkHead) (a : RetSubmitHead) (transferred bytes : List ℕ) → a.seqnum ≡ head.seqnum → SpellsRetSubmit (record { dir = head.dir; size = head.length }) a transferred bytes
+pub submit_found : (head : SubmitHead) (unlinks : List UnlinkHead) (a : RetSubmitHead) (transferred bytes : List ℕ) → a.seqnum ≡ head.seqnum → SpellsRetSubmit (record { dir = head.dir; size = head.length }) a transferred bytes
     → SpellsAnswer (entries_of (Some head) unlinks) (down.RetSubmit a transferred) bytes
 submit_found head unlinks a transferred bytes same spelled = (record { dir = head.dir; size = head.length }, found, spelled)
   where
     found : submit_of (find a.seqnum (entries_of (Some head) unlinks)) ≡ Some (head.dir, head.length)
     found = rw (eq-eqb head.seqnum a.seqnum (sym same)) refl
 
-first_spelled : (situation : Situation) (waits : Option SubmitHead) (unlinks : List UnlinkHead) (next : ℕ) (put : Put) (ups : List up.Message) (downs : List Put) (s : State) (bytes : List ℕ) → IsApart waits unlinks
+pub first_spelled : (situation : Situation) (waits : Option SubmitHead) (unlinks : List UnlinkHead) (next : ℕ) (put : Put) (ups : List up.Message) (downs : List Put) (s : State) (bytes : List ℕ) → IsApart waits unlinks
     → Bound situation waits unlinks next ups (put ∷ downs) s → SpellsPut put bytes → SpellsAnswer (entries_of waits unlinks) (message_of put) bytes
 first_spelled situation None unlinks next (Submitted asked a transferred) ups downs s bytes apart bound spelled =
     first_asked asked _ (submit_answered (asked_of None) unlinks ups asked a transferred downs s bound.bond.fits.0.0.endpoint bound.bond.fits.0.0.number bound.bond.lines).1

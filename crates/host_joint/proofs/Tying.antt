@@ -36,6 +36,10 @@ use Rattle.host_joint.proofs.Resting.{rests_closed}
 use Rattle.host_joint.proofs.Requesting.{quiet_goes}
 use Rattle.host_joint.proofs.Handing.{none_front, no_last}
 
+-- the response to the message of a log's entry is one
+abbrev pub OneResponse : Type 0
+OneResponse = (log : List LogEntry) (i : ℕ) (response other : List ℕ) → Response log i response → Response log i other → response ≡ other
+
 -- what a tie asks of the laws
 pub record TieLaws : Type 0 where
   pub ask : AskLaws
@@ -45,7 +49,7 @@ pub record TieLaws : Type 0 where
   pub fit : (run : List Entry) (s t : State) (move : Move) (puts : List Put) → Runs start run s → Steps s move puts t → AllAnswers FitsAsked puts
   pub causes : (s t : State) (move : Move) (puts : List Put) (endpoint : Endpoint) → Steps s move puts t → is_halted endpoint s ≡ false → is_halted endpoint t ≡ true → HaltedBy s endpoint move
   pub logs : (s t : State) (move : Move) (puts : List Put) → Steps s move puts t → Adds (MayLog s move) s t
-  pub one_response : (log : List LogEntry) (i : ℕ) (response other : List ℕ) → Response log i response → Response log i other → response ≡ other
+  pub one_response : OneResponse
 
 -- ---- no unlink is there
 
@@ -112,19 +116,22 @@ stays_false false h = refl
 
 -- ---- the response to a message is one
 
-same_place : (n : ℕ) (message : List ℕ) (a b x y : List LogEntry) → NoExec n a → NoExec n b → a ++ entry.Exec n message ∷ x ≡ b ++ entry.Exec n message ∷ y → length a ≡ length b
-same_place n message [] [] x y left right e = refl
-same_place n message [] (z ∷ b) x y left right e = absurd ((subst (λ (l : LogEntry). NoExec n (l ∷ b)) (first e) right).0 refl)
+-- where two messages were executed under a number, and each is the one of it, they are one message, at one place
+same_place : (n : ℕ) (message other : List ℕ) (a b x y : List LogEntry) → NoExec n a → NoExec n b → a ++ entry.Exec n message ∷ x ≡ b ++ entry.Exec n other ∷ y
+    → (length a ≡ length b) × (message ≡ other)
+same_place n message other [] [] x y left right e = (refl, cc)
+same_place n message other [] (z ∷ b) x y left right e = absurd ((subst (λ (l : LogEntry). NoExec n (l ∷ b)) (first e) right).0 refl)
   where
-    first : entry.Exec n message ∷ x ≡ z ∷ (b ++ entry.Exec n message ∷ y) → z ≡ entry.Exec n message
+    first : entry.Exec n message ∷ x ≡ z ∷ (b ++ entry.Exec n other ∷ y) → z ≡ entry.Exec n message
     first h = cc
-same_place n message (z ∷ a) [] x y left right e = absurd ((subst (λ (l : LogEntry). NoExec n (l ∷ a)) (first e) left).0 refl)
+same_place n message other (z ∷ a) [] x y left right e = absurd ((subst (λ (l : LogEntry). NoExec n (l ∷ a)) (first e) left).0 refl)
   where
-    first : z ∷ (a ++ entry.Exec n message ∷ x) ≡ entry.Exec n message ∷ y → z ≡ entry.Exec n message
+    first : z ∷ (a ++ entry.Exec n message ∷ x) ≡ entry.Exec n other ∷ y → z ≡ entry.Exec n other
     first h = cc
-same_place n message (z ∷ a) (w ∷ b) x y left right e = omega (arith, same_place n message a b x y (rest z a left) (rest w b right) (tails e))
+same_place n message other (z ∷ a) (w ∷ b) x y left right e =
+    let further = same_place n message other a b x y (rest z a left) (rest w b right) (tails e) in (omega (arith, further.0), further.1)
   where
-    tails : z ∷ (a ++ entry.Exec n message ∷ x) ≡ w ∷ (b ++ entry.Exec n message ∷ y) → a ++ entry.Exec n message ∷ x ≡ b ++ entry.Exec n message ∷ y
+    tails : z ∷ (a ++ entry.Exec n message ∷ x) ≡ w ∷ (b ++ entry.Exec n other ∷ y) → a ++ entry.Exec n message ∷ x ≡ b ++ entry.Exec n other ∷ y
     tails h = cc
 
     rest : (l : LogEntry) (ls : List LogEntry) → NoExec n (l ∷ ls) → NoExec n ls
@@ -137,10 +144,14 @@ same_place n message (z ∷ a) (w ∷ b) x y left right e = omega (arith, same_p
     rest entry.Clear ls h = h
     rest (entry.Remote k) ls h = h
 
-pub one_ran : (laws : TieLaws) (n : ℕ) (message response other : List ℕ) (log : List LogEntry) → Ran n message response log → Ran n message other log → response ≡ other
-one_ran laws n message response other log a b =
-    laws.one_response log (length a.before) response other a.responds
-    (subst (λ (i : ℕ). Response log i other) (sym (same_place n message a.before b.before a.behind b.behind a.none_before b.none_before (sym a.whole ∙ b.whole))) b.responds)
+pub one_message : (n : ℕ) (message other response answer : List ℕ) (log : List LogEntry) → Ran n message response log → Ran n other answer log → message ≡ other
+one_message n message other response answer log a b =
+    (same_place n message other a.before b.before a.behind b.behind a.none_before b.none_before (sym a.whole ∙ b.whole)).1
+
+pub one_ran : (one_response : OneResponse) (n : ℕ) (message other response answer : List ℕ) (log : List LogEntry) → Ran n message response log → Ran n other answer log → response ≡ answer
+one_ran one_response n message other response answer log a b =
+    one_response log (length a.before) response answer a.responds
+    (subst (λ (i : ℕ). Response log i answer) (sym (same_place n message other a.before b.before a.behind b.behind a.none_before b.none_before (sym a.whole ∙ b.whole)).0) b.responds)
 
 pub ran_step : (laws : TieLaws) (n : ℕ) (message response : List ℕ) (s t : State) (move : Move) (puts : List Put) (ups : List up.Message) → Steps s move puts t → Rises (numbers s (taken move ++ ups))
     → Ran n message response s.log → Ran n message response t.log
@@ -265,7 +276,7 @@ held_step laws (Pauses last message sofar) waits next ups downs puts s t move ca
     let later = asking_held laws _ tie.run s t move ups downs puts tie.reached calm tie.fitting none h.asking in
     let before = asks_between _ (taken move ++ ups) downs s refl h.some h.asking in
     let behind = asks_between _ ups (downs ++ puts) t refl h.some later in
-    let same = one_ran laws last message before.response behind.response t.log (ran_step laws last message before.response s t move puts ups calm.step tie.rises before.ran) behind.ran in
+    let same = one_ran laws.one_response last message message before.response behind.response t.log (ran_step laws last message before.response s t move puts ups calm.step tie.rises before.ran) behind.ran in
     let unread_same : unread s ≡ unread t = append_cancel_left sofar (unread s) (unread t) (sym before.all ∙ same ∙ behind.all) in
     record {
       held = record { tag = h.tag; size = h.size; asking = later; some = h.some; more = λ e. h.more (unread_same ∙ e); none = h.none };

@@ -1,8 +1,7 @@
 -- a transfer takes effect
-use Rattle.std.proofs.Common.{◌≡◌, ◌≢◌, ◌∙◌, ℕ, ◌+◌, ◌-◌, ◌==◌, Bool, true, false, List, [], ◌∷◌, length, take, drop, Option, Some, None, refl, ap, sym, subst, arith}
+use Rattle.std.proofs.Common.{◌≡◌, ◌≢◌, ◌∙◌, ℕ, ◌+◌, ◌-◌, ◌==◌, Bool, true, false, List, [], ◌∷◌, length, take, drop, Option, None, refl, ap, sym, subst, arith}
 use Rattle.std.specs.List.{slice_range}
 use Rattle.std.proofs.lemmas.Bool.{eqb-true}
-use Rattle.tmc_wire.specs.declared.header.OutHeader.{OutHeader}
 use Rattle.tmc_wire.specs.declared.header.OutHeader.TheVariants.{Message, Request}
 use Rattle.tmc_wire.specs.Transfer.{OutText}
 use Rattle.instr_plain.specs.declared.log.LogEntry.{LogEntry}
@@ -12,7 +11,6 @@ use Rattle.tmc_law.specs.Logging.{Logs, with_service, unread}
 use Rattle.tmc_law.specs.BulkOut.{TakesEffect, Requests, RequestsNothing}
 use Rattle.msg_exchange.specs.Held.{Kept, led_to}
 use Rattle.tmc_device.specs.declared.body.Body.{Body}
-use Rattle.tmc_device.specs.Parts.{header_in, taken_in}
 use Rattle.tmc_device.specs.Body.{state_of}
 use Rattle.tmc_device.proofs.Making.{logged}
 
@@ -33,25 +31,13 @@ effect_is seqnum transfer body x packets t none effect noticed =
 pub part_of : (xs : List ℕ) (n end : ℕ) → end ≡ 12 + n → slice_range xs 12 end ≡ take n (drop 12 xs)
 part_of xs n end is = ap (λ (m : ℕ). take m (drop 12 xs)) (let less : end - 12 ≡ n = omega (arith, is) in less)
 
-pub some_taken : (header other : OutHeader) (a b : List ℕ) → ◌≡◌ {A = Option Transfer} (Some (record { header = header; taken = a })) (Some (record { header = other; taken = b })) → a ≡ b
-some_taken header other a b same = ap taken_in same
-
-pub some_header : (header other : OutHeader) (a b : List ℕ) → ◌≡◌ {A = Option Transfer} (Some (record { header = header; taken = a })) (Some (record { header = other; taken = b })) → header ≡ other
-some_header header other a b same = let both : ◌≡◌ {A = Option OutHeader} (Some header) (Some other) = ap header_in same in cc
-
 -- a whole message takes effect
-pub message_is : (seqnum tag size other : ℕ) (eom : Bool) (taken own : List ℕ) (part : List ℕ) (s t : State)
-    → ◌≡◌ {A = Option Transfer} (Some (record { header = Message other size eom; taken = own })) (Some (record { header = Message tag size eom; taken = taken }))
-    → OutText (Message other size eom) (take size (drop 12 own)) own → part ≡ take size (drop 12 taken)
+pub message_is : (seqnum tag size : ℕ) (eom : Bool) (taken part : List ℕ) (s t : State)
+    → OutText (Message tag size eom) (take size (drop 12 taken)) taken → part ≡ take size (drop 12 taken)
     → ((transfer : Transfer) (tag size : ℕ) → transfer.header ≡ Message tag size eom → OutText transfer.header part transfer.taken → TakesEffect seqnum transfer s t)
     → TakesEffect seqnum (record { header = Message tag size eom; taken = taken }) s t
-message_is seqnum tag size other eom taken own part s t same text is effect =
-    let one = some_header (Message other size eom) (Message tag size eom) own taken same in
-    let two = some_taken (Message other size eom) (Message tag size eom) own taken same in
-    effect (record { header = Message tag size eom; taken = taken }) tag size refl
-    (subst (λ (l : List ℕ). OutText (Message tag size eom) l taken) (sym is)
-    (subst (λ (l : List ℕ). OutText (Message tag size eom) (take size (drop 12 l)) l) two
-    (subst (λ (h : OutHeader). OutText h (take size (drop 12 own)) own) one text)))
+message_is seqnum tag size eom taken part s t text is effect =
+    effect (record { header = Message tag size eom; taken = taken }) tag size refl (subst (λ (l : List ℕ). OutText (Message tag size eom) l taken) (sym is) text)
 
 -- a request of a response that is there, and one where none is
 pub requests : (seqnum tag size : ℕ) (taken : List ℕ) (body : Body) (t : Option Transfer) (side : Side) → t ≡ None → side ≡ Owed tag size → unread (state_of body) ≢ []

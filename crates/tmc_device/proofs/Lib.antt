@@ -16,6 +16,7 @@ pub mod Filling
 pub mod FillSteps
 pub mod Judging
 pub mod Wanting
+pub mod Beside
 pub mod TakeSteps
 pub mod Unplugging
 pub mod Sounding

@@ -4,7 +4,8 @@ use Rattle.std.proofs.lemmas.List.{length-drop, length-append, take_all}
 use Rattle.tmc_wire.specs.declared.header.OutHeader.{OutHeader}
 use Rattle.usbip_wire.specs.declared.urb.Dir.{Dir}
 use Rattle.usbip_wire.specs.declared.urb.Dir.TheVariants.{Out}
-use Rattle.tmc_wire.specs.Transfer.{data_size}
+use Rattle.tmc_wire.specs.Header.{IsOutHeader}
+use Rattle.tmc_wire.specs.Transfer.{OutText, data_size}
 use Rattle.tmc_law.specs.Acts.{Sized}
 use Rattle.tmc_law.specs.Reached.{AllFit}
 use Rattle.tmc_law.specs.Endpoint.{BulkOut}
@@ -19,10 +20,11 @@ use Rattle.endpoint_pipes.specs.Outcome.{first_of, left_of}
 use Rattle.endpoint_pipes.specs.declared.outcome.Pending.{Pending as First}
 use Rattle.tmc_device.specs.Events.{packets_there}
 use Rattle.tmc_device.specs.declared.body.Body.{Body}
-use Rattle.tmc_device.specs.Parts.{Outbox, taken_in}
+use Rattle.tmc_device.specs.Parts.{Outbox, taken_in, bytes_of}
 use Rattle.tmc_device.specs.Seen.{Makes}
 use Rattle.tmc_device.specs.Sound.{IsSound}
-use Rattle.tmc_device.specs.Body.{state_of, seen_of, IsJudged, IsWhole}
+use Rattle.tmc_device.specs.Body.{state_of, seen_of, whole_of, IsJudged, IsWhole, HasEffect}
+use Rattle.tmc_device.proofs.Beside.{effect_beside}
 use Rattle.tmc_device.proofs.Firsts.{IsFirst}
 use Rattle.tmc_device.proofs.Making.{quiet, loud}
 use Rattle.tmc_device.proofs.Wanting.{wanted, whole_text}
@@ -87,11 +89,10 @@ module _ (body : Body) (submit : Pending) (behind : List Pending) (header : OutH
   pub whole_made : (count seqnum : ℕ) (p q : Held) (t : Option Transfer) (o : Outbox) (new : Body) → submit.head.seqnum ≡ seqnum → count ≡ packets_of (length submit.left)
       → p ≡ record body.pipes { bulk_out = rest_of count ∷ behind } → q ≡ with_list BulkOut behind p
       → o.puts ≡ body.outputs.puts ++ ended success (rest_of count) ∷ [] → length (taken_in body.transfer ++ submit.left) ≡ transfer_size (data_size header)
-      → TakesEffect seqnum (record { header = header; taken = taken_in body.transfer ++ submit.left })
-      (record (state_of (record body { pipes = q; transfer = t; outputs = o })) { transfer = None }) (state_of new)
+      → t ≡ Some (record { header = header; taken = taken_in body.transfer ++ submit.left }) → HasEffect seqnum header (record body { pipes = q; transfer = t; outputs = o }) new
       → new.outputs ≡ o
       → Makes (Take count) (seen_of body) (seen_of new)
-  whole_made count seqnum p q t o new number all left gone put whole effect same_outputs =
+  whole_made count seqnum p q t o new number all left gone put whole grown effect same_outputs =
       let same = all_taken count all in
       loud (Take count) (seen_of body) (seen_of new) (ended success (rest_of count) ∷ []) plugged (
         free,
@@ -99,7 +100,9 @@ module _ (body : Body) (submit : Pending) (behind : List Pending) (header : OutH
             (let long = ap (λ (l : List ℕ). length (taken_in body.transfer ++ l)) same in omega (arith, whole, long))
             (subst (λ (l : List ℕ). TakesEffect submit.head.seqnum (record { header = header; taken = taken_in body.transfer ++ l }) (record (state_of body) { bulk_out = behind; transfer = None }) (state_of new)) (sym same)
             (subst (λ (s : State). TakesEffect submit.head.seqnum (record { header = header; taken = taken_in body.transfer ++ submit.left }) (record s { transfer = None }) (state_of new)) (rest_state count p q t o left gone)
-            (subst (λ (n : ℕ). TakesEffect n (record { header = header; taken = taken_in body.transfer ++ submit.left }) (record (state_of (record body { pipes = q; transfer = t; outputs = o })) { transfer = None }) (state_of new)) (sym number) effect)))
+            (subst (λ (n : ℕ). TakesEffect n (record { header = header; taken = taken_in body.transfer ++ submit.left }) (record (state_of (record body { pipes = q; transfer = t; outputs = o })) { transfer = None }) (state_of new)) (sym number)
+            (subst (λ (l : List ℕ). TakesEffect seqnum (record { header = header; taken = l }) (record (state_of (record body { pipes = q; transfer = t; outputs = o })) { transfer = None }) (state_of new))
+            (ap (λ (v : Option Transfer). bytes_of v q.bulk_out) grown) effect))))
             refl,
       )
       (ap (λ (b : Outbox). b.puts) same_outputs ∙ put)
@@ -109,11 +112,49 @@ module _ (body : Body) (submit : Pending) (behind : List Pending) (header : OutH
       → length (taken_in body.transfer ++ submit.left) ≡ transfer_size (data_size header) → IsWhole (record body { pipes = q; transfer = t; outputs = o }) header
   whole_there q t o sound grown whole =
       let w = wanted (state_of body) submit behind (on body header) sound is judged.0 judged.1 in record {
-        taken = taken_in body.transfer ++ submit.left;
-        is = grown;
-        text = whole_text header (taken_in body.transfer ++ submit.left) w.headed whole;
+        text =
+            subst (λ (l : List ℕ). OutText header (take (data_size header) (drop 12 l)) l) (sym (ap (λ (v : Option Transfer). bytes_of v q.bulk_out) grown))
+            (whole_text header (taken_in body.transfer ++ submit.left) w.headed whole);
         fits = w.place;
       }
+
+  -- the same where the submit is a whole transfer
+  first_bytes : body.transfer ≡ None → whole_of body ≡ submit.left
+  first_bytes begins = ap (λ (t : Option Transfer). bytes_of t body.pipes.bulk_out) begins ∙ ap left_of is
+
+  none_before : body.transfer ≡ None → taken_in body.transfer ++ submit.left ≡ submit.left
+  none_before begins = ap (λ (t : Option Transfer). taken_in t ++ submit.left) begins
+
+  pub first_whole : IsSound (state_of body) → body.transfer ≡ None → length submit.left ≡ transfer_size (data_size header) → IsWhole body header
+  first_whole sound begins whole =
+      let w = wanted (state_of body) submit behind (on body header) sound is judged.0 judged.1 in record {
+        text =
+            subst (λ (l : List ℕ). OutText header (take (data_size header) (drop 12 l)) l) (sym (first_bytes begins))
+            (whole_text header submit.left (subst (λ (l : List ℕ). IsOutHeader header (take 12 l)) (none_before begins) w.headed) whole);
+        fits = w.place;
+      }
+
+  -- it took effect before the submit was answered
+  pub first_made : (count seqnum : ℕ) (mid : Body) (p q : Held) (o : Outbox) → submit.head.seqnum ≡ seqnum → count ≡ packets_of (length submit.left)
+      → body.transfer ≡ None → length submit.left ≡ transfer_size (data_size header) → HasEffect seqnum header body mid → mid.outputs ≡ body.outputs
+      → p ≡ record mid.pipes { bulk_out = rest_of count ∷ behind } → q ≡ with_list BulkOut behind p → o.puts ≡ mid.outputs.puts ++ ended success (rest_of count) ∷ []
+      → Makes (Take count) (seen_of body) (seen_of (record mid { pipes = q; outputs = o }))
+  first_made count seqnum mid p q o number all begins whole effect same_outputs left gone put =
+      let same = all_taken count all in
+      let bytes : whole_of body ≡ taken_in body.transfer ++ take (count * 64) submit.left =
+      first_bytes begins ∙ sym same ∙ sym (ap (λ (t : Option Transfer). taken_in t ++ take (count * 64) submit.left) begins) in
+      loud (Take count) (seen_of body) (seen_of (record mid { pipes = q; outputs = o })) (ended success (rest_of count) ∷ []) plugged (
+        free,
+        TransferEnds submit (rest_of count) behind (on body header) (rest_grown count) is (λ zero. omega (arith, length_some, zero)) all judged.0 judged.1 (DoesMove refl refl)
+            (let long = ap (λ (l : List ℕ). length l) (sym bytes ∙ first_bytes begins) in omega (arith, whole, long))
+            (subst (λ (t : State). TakesEffect submit.head.seqnum (rest_grown count) (record (state_of body) { bulk_out = behind; transfer = None }) t)
+            (sym (ap (λ (held : Held). state_of (record mid { pipes = held; outputs = o })) (gone ∙ ap (λ (held : Held). with_list BulkOut behind held) left)))
+            (subst (λ (n : ℕ). TakesEffect n (rest_grown count) (record (state_of body) { bulk_out = behind; transfer = None }) (record (state_of mid) { bulk_out = behind })) (sym number)
+            (subst (λ (l : List ℕ). TakesEffect seqnum (record { header = header; taken = l }) (record (state_of body) { bulk_out = behind; transfer = None }) (record (state_of mid) { bulk_out = behind })) bytes
+            (effect_beside seqnum (record { header = header; taken = whole_of body }) (record (state_of body) { transfer = None }) (state_of mid) behind effect))))
+            refl,
+      )
+      (put ∙ ap (λ (b : Outbox). b.puts ++ ended success (rest_of count) ∷ []) same_outputs)
 
   pub rest_length : IsSound (state_of body) → length (taken_in body.transfer ++ submit.left) ≤ transfer_size (data_size header)
   rest_length sound =

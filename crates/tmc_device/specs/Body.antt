@@ -10,7 +10,7 @@ use Rattle.tmc_wire.specs.declared.header.OutHeader.{OutHeader}
 use Rattle.endpoint_pipes.specs.Held.{all_of}
 use Rattle.endpoint_pipes.specs.Part.{queue_from}
 use Rattle.tmc_device.specs.declared.body.Body.{Body}
-use Rattle.tmc_device.specs.Parts.{running_of, presence_of, taken_in}
+use Rattle.tmc_device.specs.Parts.{running_of, presence_of, taken_in, bytes_of}
 use Rattle.tmc_device.specs.Seen.{Seen, IsReached}
 use Rattle.tmc_device.specs.Sound.{IsSound}
 
@@ -65,17 +65,19 @@ IsJudged body submit None = Spoils (state_of body) submit
 IsJudged body submit (Some header) =
     (¬ Spoils (state_of body) submit) × Belongs (state_of body) submit (record { header = header; taken = taken_in body.transfer })
 
--- The transfer in progress has this header and all its bytes, and its message fits behind the unfinished one.
+-- the bytes of the transfer that takes effect
+abbrev pub whole_of : Body → List ℕ
+whole_of body = bytes_of body.transfer body.pipes.bulk_out
+
+-- They are a whole transfer with this header, and its message fits behind the unfinished one.
 pub record IsWhole (body : Body) (header : OutHeader) : Type 0 where
-  pub taken : List ℕ
-  pub is : body.transfer ≡ Some (record { header = header; taken = taken })
-  pub text : OutText header (take (data_size header) (drop header_size taken)) taken
+  pub text : OutText header (take (data_size header) (drop header_size (whole_of body))) (whole_of body)
   pub fits : length body.exchange.held.part + data_size header ≤ message_most
 
--- the transfer in progress took effect
+-- that transfer took effect
 abbrev pub HasEffect : (seqnum : ℕ) → OutHeader → (old new : Body) → Type 0
-HasEffect seqnum header old new = (taken : List ℕ) → old.transfer ≡ Some (record { header = header; taken = taken })
-    → TakesEffect seqnum (record { header = header; taken = taken }) (record (state_of old) { transfer = None }) (state_of new)
+HasEffect seqnum header old new =
+    TakesEffect seqnum (record { header = header; taken = whole_of old }) (record (state_of old) { transfer = None }) (state_of new)
 
 -- a lawful run leads to the state, and what was put out fits what it answers
 pub record IsLawful (body : Body) : Type 0 where

@@ -4,6 +4,7 @@ use Rattle.tmc_wire.specs.declared.header.OutHeader.{OutHeader}
 use Rattle.tmc_law.specs.State as law
 use Rattle.tmc_law.specs.Put.{Put, Submitted, Unlinked}
 use Rattle.tmc_law.specs.BulkOut.{message_most}
+use Rattle.endpoint_pipes.specs.Outcome.{left_of}
 use Rattle.tmc_device.specs.declared.running.Running.{Running}
 use Rattle.tmc_device.specs.declared.running.Running.TheVariants as running
 use Rattle.tmc_device.specs.declared.packets.Packet.{Packet}
@@ -26,6 +27,12 @@ header_in (Some transfer) = Some transfer.header
 abbrev pub taken_in : Option law.Transfer → List ℕ
 taken_in None = []
 taken_in (Some transfer) = transfer.taken
+
+-- the bytes of a whole transfer: those that were taken, or where none is in progress, those of the first submit, which then
+-- holds all of them
+abbrev pub bytes_of : Option law.Transfer → List law.Pending → List ℕ
+bytes_of None queue = left_of queue
+bytes_of (Some transfer) queue = transfer.taken
 
 -- no transfer is longer than that of the longest message
 abbrev pub transfer_most : ℕ

@@ -9,7 +9,9 @@ use crate::body::Body;
 use crate::endings::end_first;
 use crate::endpoints::{BULK_IN, BULK_OUT, SUCCESS};
 use crate::running::Running;
-use crate::status::{TMC_FAILED, TMC_SPLIT_IN_PROGRESS, TMC_SUCCESS, TMC_TRANSFER_NOT_IN_PROGRESS};
+use tmc_wire::{
+    STATUS_FAILED, STATUS_SPLIT_IN_PROGRESS, STATUS_SUCCESS, STATUS_TRANSFER_NOT_IN_PROGRESS,
+};
 
 impl Body {
     ghost use Rattle.tmc_device.specs.Body.{state_of, IsReady};
@@ -29,7 +31,7 @@ impl Body {
         match declined(self.running, current, tag) {
             Some(status) => self.reply(asked, &[status, current.unwrap_or(0)], buffer),
             None => {
-                self.reply(asked, &[TMC_SUCCESS, tag], buffer);
+                self.reply(asked, &[STATUS_SUCCESS, tag], buffer);
                 self.halts(BULK_OUT);
                 self.running = Running::AbortsOut;
             }
@@ -49,7 +51,7 @@ impl Body {
         match declined(self.running, current, tag) {
             Some(status) => self.reply(asked, &[status, current.unwrap_or(0)], buffer),
             None => {
-                self.reply(asked, &[TMC_SUCCESS, tag], buffer);
+                self.reply(asked, &[STATUS_SUCCESS, tag], buffer);
                 let given = self.side.cut();
                 self.running = Running::AbortsIn {
                     wanting: true,
@@ -68,7 +70,7 @@ impl Body {
         requires capacity { LAYOUT_MAX ≤ vec_capacity buffer }
         ensures { ServesFirst request.Clear asked.now self.old self.new }
     {
-        self.reply(asked, &[TMC_SUCCESS], buffer);
+        self.reply(asked, &[STATUS_SUCCESS], buffer);
         let before = self.exchange.status();
         self.exchange.clear();
         self.packets.notice(before, self.exchange.status());
@@ -101,11 +103,11 @@ fn declined(running: Running, current: Option<u8>, tag: u8) -> Option<u8>
         (λ status. Declined (running_of running) current tag (status ∷ told_tag current ∷ [])) }
 {
     if !matches!(running, Running::Nothing) {
-        return Some(TMC_SPLIT_IN_PROGRESS);
+        return Some(STATUS_SPLIT_IN_PROGRESS);
     }
     match current {
-        None => Some(TMC_FAILED),
-        Some(other) if other != tag => Some(TMC_TRANSFER_NOT_IN_PROGRESS),
+        None => Some(STATUS_FAILED),
+        Some(other) if other != tag => Some(STATUS_TRANSFER_NOT_IN_PROGRESS),
         Some(_) => None,
     }
 }

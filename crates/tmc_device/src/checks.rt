@@ -5,7 +5,7 @@ ghost use Rattle.tmc_law.specs.Aborts.{check_out_layout, check_in_layout};
 use crate::answer::Asked;
 use crate::body::Body;
 use crate::running::Running;
-use crate::status::{TMC_PENDING, TMC_SPLIT_NOT_IN_PROGRESS, TMC_SUCCESS};
+use tmc_wire::{STATUS_PENDING, STATUS_SPLIT_NOT_IN_PROGRESS, STATUS_SUCCESS};
 
 /// The answer to CHECK_ABORT_BULK_OUT_STATUS: NBYTES_RXD is 0, since the transfer is dropped whole.
 pub(crate) fn out_layout(status: u8) -> [u8; 8]
@@ -38,10 +38,10 @@ impl Body {
     {
         match self.running {
             Running::AbortsOut => {
-                self.reply(asked, &out_layout(TMC_SUCCESS), buffer);
+                self.reply(asked, &out_layout(STATUS_SUCCESS), buffer);
                 self.running = Running::Nothing;
             }
-            _ => self.reply(asked, &out_layout(TMC_SPLIT_NOT_IN_PROGRESS), buffer),
+            _ => self.reply(asked, &out_layout(STATUS_SPLIT_NOT_IN_PROGRESS), buffer),
         }
     }
 
@@ -56,13 +56,17 @@ impl Body {
         match self.running {
             Running::AbortsIn { wanting, given } => {
                 if wanting {
-                    self.reply(asked, &in_layout(TMC_PENDING, 1, given), buffer);
+                    self.reply(asked, &in_layout(STATUS_PENDING, 1, given), buffer);
                 } else {
-                    self.reply(asked, &in_layout(TMC_SUCCESS, 0, given), buffer);
+                    self.reply(asked, &in_layout(STATUS_SUCCESS, 0, given), buffer);
                     self.running = Running::Nothing;
                 }
             }
-            _ => self.reply(asked, &in_layout(TMC_SPLIT_NOT_IN_PROGRESS, 0, 0), buffer),
+            _ => self.reply(
+                asked,
+                &in_layout(STATUS_SPLIT_NOT_IN_PROGRESS, 0, 0),
+                buffer,
+            ),
         }
     }
 
@@ -76,10 +80,10 @@ impl Body {
     {
         match self.running {
             Running::Clears => {
-                self.reply(asked, &[TMC_SUCCESS, 0], buffer);
+                self.reply(asked, &[STATUS_SUCCESS, 0], buffer);
                 self.running = Running::Nothing;
             }
-            _ => self.reply(asked, &[TMC_SPLIT_NOT_IN_PROGRESS, 0], buffer),
+            _ => self.reply(asked, &[STATUS_SPLIT_NOT_IN_PROGRESS, 0], buffer),
         }
     }
 }

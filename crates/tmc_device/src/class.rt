@@ -2,13 +2,12 @@ ghost use Rattle.std.specs.Prelude.{◌≡◌, ◌≤◌, [], vec_capacity};
 
 use crate::answer::Asked;
 use crate::body::Body;
-use crate::status::TMC_SUCCESS;
 use instr_plain::RemoteAct;
-use tmc_wire::ClassRequest;
+use tmc_wire::{ClassRequest, STATUS_SUCCESS};
 
 /// The answer to GET_CAPABILITIES (USBTMC 1.0, table 37; USB488 1.0, table 8).
 const CAPABILITIES: [u8; 24] = [
-    TMC_SUCCESS,
+    STATUS_SUCCESS,
     0,
     0x00,
     0x01, // bcdUSBTMC
@@ -55,7 +54,7 @@ impl Body {
             ClassRequest::Clear => self.clear(asked, buffer),
             ClassRequest::CheckClear => self.check_clear(asked, buffer),
             ClassRequest::Capabilities => self.reply(asked, &CAPABILITIES, buffer),
-            ClassRequest::Pulse => self.reply(asked, &[TMC_SUCCESS], buffer),
+            ClassRequest::Pulse => self.reply(asked, &[STATUS_SUCCESS], buffer),
             ClassRequest::ReadStatus { tag } => self.read_status(asked, tag, buffer),
             ClassRequest::Ren { on: true } => self.operate(asked, RemoteAct::On, buffer),
             ClassRequest::Ren { on: false } => self.operate(asked, RemoteAct::Off, buffer),
@@ -72,7 +71,7 @@ impl Body {
         requires capacity { LAYOUT_MAX ≤ vec_capacity buffer }
         ensures { OperatesFirst act asked.now self.old self.new }
     {
-        self.reply(asked, &[TMC_SUCCESS], buffer);
+        self.reply(asked, &[STATUS_SUCCESS], buffer);
         let before = self.exchange.status();
         self.exchange.remote(act);
         self.packets.notice(before, self.exchange.status());

@@ -19,9 +19,9 @@ use crate::body::Body;
 use crate::endpoints::{
     BULK_IN, BULK_OUT, CONTROL, ENDS, INTERRUPT_IN, STALLED, SUCCESS, UNLINKED,
 };
-use crate::status::{TMC_SUCCESS, status_layout};
+use crate::status::status_layout;
 use endpoint_pipes::Unlinked;
-use tmc_wire::{ClassRequest, read_class};
+use tmc_wire::{ClassRequest, STATUS_SUCCESS, read_class};
 use usbip_wire::{Dir, SubmitHead, UnlinkHead};
 
 /// The most pending submits.
@@ -172,7 +172,7 @@ impl Body {
         let ClassRequest::ReadStatus { tag } = request else {
             unreachable!()
         };
-        self.reply(&asked, &status_layout(TMC_SUCCESS, tag), buffer);
+        self.reply(&asked, &status_layout(STATUS_SUCCESS, tag), buffer);
     }
 }
 

@@ -12,8 +12,7 @@ use crate::body::Body;
 use crate::checks::{in_layout, out_layout};
 use crate::endpoints::ENDS;
 use crate::running::Running;
-use crate::status::TMC_PENDING;
-use tmc_wire::{ClassRequest, read_class};
+use tmc_wire::{ClassRequest, STATUS_PENDING, read_class};
 
 /// A check of what runs, with its answer PENDING.
 #[derive(Clone, Copy, Debug)]
@@ -29,11 +28,13 @@ fn pending_layout(running: Running, request: ClassRequest) -> Option<Check>
     ensures none { IfNone result ((layout : List ℕ) → ¬ StaysPending (running_of running) request layout) }
 {
     match (running, request) {
-        (Running::AbortsOut, ClassRequest::CheckOut) => Some(Check::Abort(out_layout(TMC_PENDING))),
+        (Running::AbortsOut, ClassRequest::CheckOut) => Some(Check::Abort(out_layout(
+            STATUS_PENDING,
+        ))),
         (Running::AbortsIn { wanting, given }, ClassRequest::CheckIn) => {
-            Some(Check::Abort(in_layout(TMC_PENDING, u8::from(wanting), given)))
+            Some(Check::Abort(in_layout(STATUS_PENDING, u8::from(wanting), given)))
         }
-        (Running::Clears, ClassRequest::CheckClear) => Some(Check::Clear([TMC_PENDING, 0])),
+        (Running::Clears, ClassRequest::CheckClear) => Some(Check::Clear([STATUS_PENDING, 0])),
         _ => None,
     }
 }

@@ -7,22 +7,7 @@ ghost use Rattle.tmc_law.specs.Status.{IsStatusTag, Polls, is_status, status_lay
 
 use crate::answer::Asked;
 use crate::body::Body;
-
-// USBTMC_status (USBTMC 1.0, table 16; USB488 1.0, table 11)
-
-pub(crate) const TMC_SUCCESS: u8 = 0x01;
-
-pub(crate) const TMC_PENDING: u8 = 0x02;
-
-pub(crate) const TMC_INTERRUPT_IN_BUSY: u8 = 0x20;
-
-pub(crate) const TMC_FAILED: u8 = 0x80;
-
-pub(crate) const TMC_TRANSFER_NOT_IN_PROGRESS: u8 = 0x81;
-
-pub(crate) const TMC_SPLIT_NOT_IN_PROGRESS: u8 = 0x82;
-
-pub(crate) const TMC_SPLIT_IN_PROGRESS: u8 = 0x83;
+use tmc_wire::{STATUS_FAILED, STATUS_INTERRUPT_IN_BUSY, STATUS_SUCCESS};
 
 /// The answer to READ_STATUS_BYTE: its status, the tag, and 0, since the status byte goes in a packet.
 pub(crate) fn status_layout(status: u8, tag: u8) -> [u8; 3]
@@ -53,13 +38,13 @@ impl Body {
         ensures { ServesFirst (request.ReadStatus tag) asked.now self.old self.new }
     {
         if !is_status_tag(tag) {
-            self.reply(asked, &status_layout(TMC_FAILED, tag), buffer);
+            self.reply(asked, &status_layout(STATUS_FAILED, tag), buffer);
         } else if asked.polled {
-            self.reply(asked, &status_layout(TMC_SUCCESS, tag), buffer);
+            self.reply(asked, &status_layout(STATUS_SUCCESS, tag), buffer);
         } else if self.packets.has_status() {
-            self.reply(asked, &status_layout(TMC_INTERRUPT_IN_BUSY, tag), buffer);
+            self.reply(asked, &status_layout(STATUS_INTERRUPT_IN_BUSY, tag), buffer);
         } else {
-            self.reply(asked, &status_layout(TMC_SUCCESS, tag), buffer);
+            self.reply(asked, &status_layout(STATUS_SUCCESS, tag), buffer);
             self.poll_for(asked.head.seqnum, tag);
         }
     }

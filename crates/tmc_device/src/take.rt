@@ -1,6 +1,7 @@
 ghost use Rattle.std.specs.Prelude.{◌≡◌, ◌^◌, ℕ, ◌<◌, ◌∷◌, List, length, min, false, None, Some, IsSome};
 ghost use Rattle.tmc_law.specs.declared.dev_event.DevEvent.TheVariants as event;
-ghost use Rattle.tmc_law.specs.State.{Pending as Submit};
+ghost use Rattle.tmc_wire.specs.Transfer.{data_size};
+ghost use Rattle.tmc_law.specs.State.{Pending as Submit, transfer_size};
 ghost use Rattle.tmc_law.specs.BulkOut.{packets_of as law_packets};
 ghost use Rattle.tmc_law.specs.Logging.{Logs};
 ghost use Rattle.tmc_law.specs.Step.{Take};
@@ -9,6 +10,7 @@ ghost use Rattle.tmc_wire.specs.declared.header.OutHeader.TheVariants.{Message, 
 ghost use Rattle.endpoint_pipes.specs.Outcome.{first_of, left_of};
 ghost use Rattle.tmc_law.specs.Reached.{AreFew};
 ghost use Rattle.tmc_device.specs.Sound.{IsSound};
+ghost use Rattle.tmc_device.specs.Parts.{bytes_of};
 ghost use Rattle.tmc_device.specs.Seen.{Makes};
 ghost use Rattle.tmc_device.specs.Events.{Does, packets_there};
 
@@ -16,8 +18,8 @@ use crate::Drove;
 use crate::body::Body;
 use crate::endings::end_first;
 use crate::endpoints::{BULK_OUT, PACKET_SIZE, SUCCESS};
-use crate::transfer::out_len;
-use endpoint_pipes::Pending;
+use crate::transfer::{OutTransfer, out_len};
+use endpoint_pipes::{Pending, Pipes};
 use tmc_wire::{BULK_HEADER, OutHeader};
 
 /// The packets in which so many bytes go, the last one shorter; no bytes are one packet.
@@ -26,6 +28,16 @@ pub(crate) fn packets_of(size: usize) -> usize
     ensures { result ≡ law_packets size }
 {
     ((size + (PACKET_SIZE - 1)) / PACKET_SIZE).max(1)
+}
+
+/// The bytes of a whole transfer: those that were taken, or where none is in progress, those of the first Bulk-OUT submit.
+fn whole<'a>(transfer: &'a OutTransfer, pipes: &'a Pipes) -> &'a [u8]
+    ensures { result.now ≡ bytes_of transfer.now pipes.now.bulk_out }
+{
+    match transfer.header() {
+        Some(_) => transfer.taken(),
+        None => pipes.rest_out(),
+    }
 }
 
 impl Body {
@@ -78,9 +90,12 @@ impl Body {
         requires judged { (submit : Submit) (behind : List Submit) → self.old.pipes.bulk_out ≡ submit ∷ behind → IsJudged self.old submit (Some header) }
         ensures { Makes (Take (min packets (packets_there (state_of self.old)))) (seen_of self.old) (seen_of self.new) }
     {
-        let there = packets_of(self.pipes.rest_out().len()) as u32;
+        let rest = self.pipes.rest_out().len();
+        let there = packets_of(rest) as u32;
         if packets < there {
             self.take_some(header, packets);
+        } else if self.transfer.header().is_none() && rest == out_len(header) {
+            self.take_whole(header, first.head.seqnum, there);
         } else {
             self.take_rest(header, first.head.seqnum, there);
         }
@@ -99,6 +114,24 @@ impl Body {
         let size = packets as usize * PACKET_SIZE;
         self.transfer.extend(header, &self.pipes.rest_out()[..size]);
         self.pipes.take_out(packets);
+    }
+
+    /// The submit is a whole transfer: it takes effect from there, and is answered.
+    fn take_whole(&mut self, header: OutHeader, seqnum: u32, packets: u32)
+        requires ready { IsReady self.old }
+        requires none_waits { self.old.exchange.held.waiting ≡ None }
+        requires all { packets ≡ law_packets (length (left_of self.old.pipes.bulk_out)) }
+        requires there { IsSome (first_of self.old.pipes.bulk_out) }
+        requires length { (submit : Submit) (behind : List Submit) → self.old.pipes.bulk_out ≡ submit ∷ behind →
+            (0 < submit.head.length) × (submit.head.seqnum ≡ seqnum) }
+        requires judged { (submit : Submit) (behind : List Submit) → self.old.pipes.bulk_out ≡ submit ∷ behind → IsJudged self.old submit (Some header) }
+        requires begins { self.old.transfer ≡ None }
+        requires whole { length (left_of self.old.pipes.bulk_out) ≡ transfer_size (data_size header) }
+        ensures { Makes (Take packets) (seen_of self.old) (seen_of self.new) }
+    {
+        self.take_effect(header, seqnum);
+        self.pipes.take_out(packets);
+        end_first(&mut self.pipes, &mut self.outputs, BULK_OUT, SUCCESS);
     }
 
     /// The rest of the submit is taken, and it is answered; where the transfer is whole, it takes effect.
@@ -120,13 +153,14 @@ impl Body {
         }
     }
 
-    /// The transfer in progress is whole, and takes effect under the number of its submit.
+    /// A whole transfer takes effect under the number of its submit.
     fn take_effect(&mut self, header: OutHeader, seqnum: u32)
         requires whole { IsWhole self.old header }
         requires room { 0 < self.old.exchange.room }
         requires none_waits { self.old.exchange.held.waiting ≡ None }
         requires few { AreFew self.old.packets }
         ensures effect { HasEffect seqnum header self.old self.new }
+        ensures pipes { self.new.pipes ≡ self.old.pipes }
         ensures outputs { self.new.outputs ≡ self.old.outputs }
     {
         match header {
@@ -143,13 +177,15 @@ impl Body {
         requires room { 0 < self.old.exchange.room }
         requires none_waits { self.old.exchange.held.waiting ≡ None }
         requires few { AreFew self.old.packets }
-        ensures effect { (tag : ℕ) → HasEffect seqnum (Message tag size eom) self.old self.new }
+        ensures effect { (tag : ℕ) → IsWhole self.old (Message tag size eom) → HasEffect seqnum (Message tag size eom) self.old self.new }
+        ensures pipes { self.new.pipes ≡ self.old.pipes }
         ensures outputs { self.new.outputs ≡ self.old.outputs }
     {
         let before = self.exchange.status();
         let end = BULK_HEADER + size as usize;
+        let transfer = whole(&self.transfer, &self.pipes);
         self.exchange
-            .accept_part(seqnum, &self.transfer.taken()[BULK_HEADER..end], eom);
+            .accept_part(seqnum, &transfer[BULK_HEADER..end], eom);
         self.packets.notice(before, self.exchange.status());
         self.transfer.clear();
     }
@@ -159,6 +195,7 @@ impl Body {
         requires room { 0 < self.old.exchange.room }
         requires few { AreFew self.old.packets }
         ensures effect { (seqnum : ℕ) → HasEffect seqnum (Request tag size) self.old self.new }
+        ensures pipes { self.new.pipes ≡ self.old.pipes }
         ensures outputs { self.new.outputs ≡ self.old.outputs }
     {
         self.transfer.clear();
@@ -173,6 +210,7 @@ impl Body {
         requires room { 0 < self.old.exchange.room }
         requires few { AreFew self.old.packets }
         ensures bare { Logs entry.Bare (state_of self.old) (state_of self.new) }
+        ensures pipes { self.new.pipes ≡ self.old.pipes }
         ensures outputs { self.new.outputs ≡ self.old.outputs }
     {
         let before = self.exchange.status();
@@ -185,6 +223,7 @@ impl Body {
         requires room { 0 < self.old.exchange.room }
         requires few { AreFew self.old.packets }
         ensures effect { (tag : ℕ) → HasEffect seqnum (Trigger tag) self.old self.new }
+        ensures pipes { self.new.pipes ≡ self.old.pipes }
         ensures outputs { self.new.outputs ≡ self.old.outputs }
     {
         let before = self.exchange.status();

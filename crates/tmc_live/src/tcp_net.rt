@@ -78,6 +78,17 @@ impl<R: net::Net<Listener = TcpListener, Stream = TcpStream> + Drop> TcpNet<R> {
     }
 }
 
+/// The stream of the next connection. One that was aborted before it was taken is passed over.
+fn next_stream(listener: &TcpListener) -> io::Result<TcpStream> {
+    for stream in listener.incoming() {
+        match stream {
+            Err(error) if error.kind() == io::ErrorKind::ConnectionAborted => (),
+            taken => return taken,
+        }
+    }
+    Err(io::Error::from(io::ErrorKind::NotConnected))
+}
+
 impl<R: net::Net<Listener = TcpListener, Stream = TcpStream> + Drop> Net for TcpNet<R> {
     ghost use Rattle.std.specs.Prelude.{None};
 
@@ -121,7 +132,7 @@ impl<R: net::Net<Listener = TcpListener, Stream = TcpStream> + Drop> Net for Tcp
         let Some(listener) = &self.listener else {
             unreachable!()
         };
-        let stream = listener.accept().map(|(stream, _)| stream);
+        let stream = next_stream(listener);
         self.give(stream)
     }
 

@@ -134,6 +134,28 @@ fn submits_are_judged_and_taken_by_their_length(rt: HostRuntime) -> Result<(), F
 }
 
 #[test]
+fn a_transfer_comes_in_two_submits(rt: HostRuntime) -> Result<(), Fail> {
+    let mut device = Device::new(rt.alloc())?;
+    let bytes = part(128);
+    runs(
+        &rt,
+        &mut device,
+        &[
+            Send(1, &bytes[..64]),
+            Goes(DevEvent::Take(9)),
+            Taken(1, 0, 64),
+            Send(2, &bytes[64..]),
+            Goes(DevEvent::Take(9)),
+            Taken(2, 0, 64),
+            Send(3, &REQUEST), // inside the message, which goes on
+            Goes(DevEvent::Take(1)),
+            Taken(3, -32, 0),
+            Silent,
+        ],
+    )
+}
+
+#[test]
 fn submits_are_filled_by_their_length(rt: HostRuntime) -> Result<(), Fail> {
     // the length of a submit that gets one full packet and an empty one; its status, and how many bytes go into it
     let rows = [

@@ -1,11 +1,12 @@
 use Rattle.std.proofs.Common.{sym, subst}
 use Rattle.tmc_wire.specs.declared.header.OutHeader.{OutHeader}
-use Rattle.tmc_device.specs.Body.{HasEffect}
+use Rattle.tmc_device.specs.Body.{IsWhole, HasEffect}
 use Rattle.tmc_device.proofs.body.Body.take_effect.Goals as goal
 
 pub returns-in-Message-clause-effect : goal.returns-in-Message-clause-effect
 returns-in-Message-clause-effect c =
-    subst (λ (h : OutHeader). HasEffect c.args.seqnum h c.args.self.now c.accept_message.new.self) (sym c.in-Message.is) (c.accept_message.ensures.effect c.in-Message.tag)
+    subst (λ (h : OutHeader). HasEffect c.args.seqnum h c.args.self.now c.accept_message.new.self) (sym c.in-Message.is)
+    (c.accept_message.ensures.effect c.in-Message.tag (subst (λ (h : OutHeader). IsWhole c.args.self.now h) c.in-Message.is c.requires.whole))
 
 pub returns-in-Request-clause-effect : goal.returns-in-Request-clause-effect
 returns-in-Request-clause-effect c =

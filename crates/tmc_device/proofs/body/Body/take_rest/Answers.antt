@@ -44,8 +44,7 @@ returns-then-taken-out_len c =
     (c.requires.judged f.submit f.behind f.is) c.args.packets c.args.seqnum c.take_out.new.self c.end_first.new.pipes c.extend.new.self c.end_first.new.outputs c.take_effect.new.self
     (c.requires.length f.submit f.behind f.is).1 (c.requires.all ∙ ap (λ (l : List Pending). packets_of (length (left_of l))) f.is) (c.take_out.ensures f.submit f.behind f.is) (c.end_first.ensures.left _ f.behind first) (c.end_first.ensures.put _ f.behind first)
     (sym long ∙ c.if-taken-out_len.true ∙ c.out_len.ensures)
-    (c.take_effect.ensures.effect (taken_in c.args.self.now.transfer ++ f.submit.left) grown)
-    c.take_effect.ensures.outputs
+    grown c.take_effect.ensures.effect c.take_effect.ensures.outputs
 
 pub returns-else-taken-out_len : goal.returns-else-taken-out_len
 returns-else-taken-out_len c =

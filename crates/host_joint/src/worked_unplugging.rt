@@ -1,0 +1,60 @@
+//! In the middle of an example ask the device is unplugged. The function does nothing.
+
+ghost use Rattle.std.specs.Prelude.{◌≡◌, List, ℕ, [], ◌∷◌, ◌++◌, Option, Some, None};
+ghost use Rattle.usbip_wire.specs.Up as up;
+ghost use Rattle.tmc_law.specs.State.{State};
+ghost use Rattle.tmc_law.specs.Put.{Put, success, unplugged};
+ghost use Rattle.tmc_law.specs.Run.{Runs};
+ghost use Rattle.tmc_law.specs.Step.{Move, Steps};
+ghost use Rattle.tmc_law.specs.WorkedParts.{spaced};
+ghost use Rattle.tmc_law.specs.WorkedSession.{in_submit, answered};
+ghost use Rattle.host_joint.specs.Asking.{WasAsking};
+ghost use Rattle.host_joint.specs.Owned.{Owned};
+ghost use Rattle.host_joint.specs.Hand.{Pauses};
+ghost use Rattle.host_joint.specs.Tie.{Tie, Owns};
+ghost use Rattle.host_joint.specs.WorkedPieces.{first_data, first_piece, reading_first, reading_second, requested_second, next_job, asked_with};
+ghost use Rattle.host_joint.specs.Unplugged.{TiedUntil, TellsUnplugged};
+ghost use Rattle.host_joint.specs.WorkedUnplugging.{unplugging_behind, unplugged_behind, unplugging_inside, unplugged_inside};
+
+use crate::{
+    answers_are_the_expected, answers_come_until_unplugged, asking_stays,
+    hosts_go_on_until_unplugged, messages_are_written, pieces_have_no_fault,
+    ties_hold_until_unplugged, unplugged_asks_were_in_hand, unplugged_hosts_own,
+    unplugging_is_the_end, what_is_read_is_owned, worked_pieces_are_asked, worked_pieces_are_read,
+};
+use tmc_law::runs_join;
+use tmc_law::worked::a_message_comes_in_parts;
+use tmc_wire::headers_are_read_again;
+
+/// The device is unplugged when the first piece is on its way to the host: the host is tied until then, takes the piece, and writes the
+/// next request. Or it is unplugged when the second one was requested: the answer tells of it, and the host has the data of the first piece
+/// still. A host that takes that answer for one to its read is tied to no device.
+pub fn worked_hosts_are_unplugged()
+    ensures piece { TiedUntil reading_first (Some (in_submit 4 4096)) 5 [] (answered (in_submit 4 4096) success 24 first_piece ∷ []) unplugged_behind }
+    ensures taken { TiedUntil (Pauses 2 spaced first_data) None 5 [] [] unplugged_behind × Owns (Pauses 2 spaced first_data) unplugged_behind }
+    ensures inside { Runs requested_second unplugging_inside unplugged_inside
+        × TiedUntil reading_second (Some (in_submit 6 4096)) 7 [] (answered (in_submit 6 4096) unplugged 0 [] ∷ []) unplugged_inside
+        × TellsUnplugged (Some (in_submit 6 4096)) (answered (in_submit 6 4096) unplugged 0 []) [] × Owns reading_second unplugged_inside }
+    ensures asked { WasAsking (asked_with 4 (next_job ∷ []) 1 first_data) [] (answered (in_submit 6 4096) unplugged 0 [] ∷ []) unplugged_inside
+        × Owned (asked_with 4 (next_job ∷ []) 1 first_data) unplugged_inside }
+    ensures last { (move : Move) (puts : List Put) (t : State) → Steps unplugged_inside move puts t → ⊥ }
+    ensures mistaken { (next : ℕ) (ups : List up.Message) (downs : List Put) (s : State)
+        → Tie reading_second (Some (in_submit 6 4096)) next ups (answered (in_submit 6 4096) unplugged 0 [] ∷ downs) s → ⊥ }
+{
+    a_message_comes_in_parts();
+    runs_join();
+    headers_are_read_again();
+    asking_stays();
+    worked_pieces_are_read();
+    worked_pieces_are_asked();
+    messages_are_written();
+    unplugged_asks_were_in_hand();
+    unplugging_is_the_end();
+    what_is_read_is_owned();
+    ties_hold_until_unplugged();
+    hosts_go_on_until_unplugged();
+    answers_come_until_unplugged();
+    answers_are_the_expected();
+    pieces_have_no_fault();
+    unplugged_hosts_own();
+}

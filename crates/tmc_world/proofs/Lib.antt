@@ -1,0 +1,5 @@
+pub mod Joining
+pub mod Feeding
+pub mod Following
+pub mod Moving
+pub mod Showing

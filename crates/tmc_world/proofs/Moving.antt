@@ -1,0 +1,93 @@
+-- a link whose node moved on, and which tells it
+use Rattle.std.proofs.Common.{◌≡◌, ◌∙◌, ℕ, Bool, true, false, List, [], ◌∷◌, ◌++◌, take, Result, Ok, Err, OnErr, is_err, refl, sym, ap, subst, append-nil}
+use Rattle.tmc_base.specs.declared.memory.Memory.{Memory}
+use Rattle.tmc_base.specs.declared.run_step.RunStep.{RunStep}
+use Rattle.tmc_base.specs.Link.{Counts}
+use Rattle.tmc_law.specs.Run.{IsFront}
+use Rattle.tmc_device.specs.Seen.{is_closed}
+use Rattle.usbip_export.specs.Seen.{standing}
+use Rattle.usbip_export.specs.Serving.{Works}
+use Rattle.tmc_world.specs.declared.pace.Pace.{Pace}
+use Rattle.tmc_world.specs.Crossing.{Crossing, uncrossed, IsSound, HasFed, Hears}
+use Rattle.tmc_world.specs.Telling.{told_on, told_of, IsTelling}
+use Rattle.tmc_world.specs.LoopLink.{Looped}
+use Rattle.tmc_world.proofs.Following.{told_last, front_on, begins, follows_on, tells_on, tells_taken, taken_from}
+
+pub on_ok_err : (result : Result (Unit {0}) Memory) (P : Type 0) → OnErr result P → is_err result ≡ true → P
+on_ok_err (Ok u) P told is = cc
+on_ok_err (Err e) P told is = told
+
+pub telling_begun : (moments : List Crossing) (now : Crossing) → moments ≡ [] → now ≡ uncrossed → IsTelling (told_of [] moments) now
+telling_begun moments now none is =
+    subst (λ (cs : List Crossing). IsTelling (told_of [] cs) now) (sym none) (subst (λ (c : Crossing). IsTelling [] c) (sym is) begins)
+
+pub telling_same : (run : List RunStep) (old new : Crossing) → IsTelling run old → new ≡ old → IsTelling run new
+telling_same run old new telling is = subst (λ (c : Crossing). IsTelling run c) (sym is) telling
+
+tells_moment : (moments after : List Crossing) (now : Crossing) → after ≡ moments ++ now ∷ [] → IsTelling (told_on (told_of [] moments) now) now
+    → IsTelling (told_of [] after) now
+tells_moment moments after now is telling =
+    subst (λ (cs : List Crossing). IsTelling (told_of [] cs) now) (sym is)
+    (subst (λ (r : List RunStep). IsTelling r now) (sym (told_last [] moments now)) telling)
+
+pub front_told : (moments after : List Crossing) (now : Crossing) → after ≡ moments ++ now ∷ [] → IsFront (told_of [] moments) (told_of [] after)
+front_told moments after now is =
+    subst (λ (cs : List Crossing). IsFront (told_of [] moments) (told_of [] cs)) (sym is)
+    (subst (λ (r : List RunStep). IsFront (told_of [] moments) r) (sym (told_last [] moments now)) (front_on (told_of [] moments) now))
+
+-- the node alone
+abbrev pub IsNodes : Crossing → Crossing → Type 0
+IsNodes old new = new ≡ record old { node = new.node; late = new.late }
+
+pub telling_on : (moments after : List Crossing) (old new : Crossing) → IsTelling (told_of [] moments) old → after ≡ moments ++ new ∷ [] → IsSound new
+    → Works [] [] old.node new.node → IsNodes old new → IsTelling (told_of [] after) new
+telling_on moments after old new telling is sound works nodes =
+    tells_moment moments after new is (tells_on (told_of [] moments) new sound
+    (follows_on (told_of [] moments) old new [] telling.follows telling.sound.imported works
+    (ap (λ (c : Crossing). take c.fed c.sent) nodes ∙ sym (append-nil (take old.fed old.sent))) (ap (λ (c : Crossing). c.taken) nodes)))
+
+-- the node was sent bytes
+pub telling_sent : (moments after : List Crossing) (bytes : List ℕ) (old new : Crossing) → IsTelling (told_of [] moments) old → after ≡ moments ++ new ∷ []
+    → IsSound new → Hears bytes old.node new.node new.late → HasFed bytes old new → new.taken ≡ old.taken → IsTelling (told_of [] after) new
+telling_sent moments after bytes old new telling is sound hears fed taken = by (is_closed (standing old.node).presence) refl where
+  by : (shut : Bool) → is_closed (standing old.node).presence ≡ shut → IsTelling (told_of [] after) new
+  by true shut =
+      tells_moment moments after new is (tells_on (told_of [] moments) new sound
+      (follows_on (told_of [] moments) old new [] telling.follows telling.sound.imported (hears.shut shut)
+      (fed.shut shut ∙ sym (append-nil (take old.fed old.sent))) taken))
+  by false shut =
+      tells_moment moments after new is (tells_on (told_of [] moments) new sound
+      (follows_on (told_of [] moments) old new bytes telling.follows telling.sound.imported (hears.opened shut) (fed.opened shut) taken))
+
+pub telling_taken : (run : List RunStep) (old new : Crossing) (count : ℕ) → old.late ≡ false → IsTelling run old → new ≡ taken_from old count → IsTelling run new
+telling_taken run old new count unlate telling is = telling_same run (taken_from old count) new (tells_taken run old count unlate telling) is
+
+-- ---- a link by its parts
+
+abbrev pub shown : Pace → (send_fails poll_fails : Bool) → Counts → List RunStep → Crossing → Looped
+shown pace send_fails poll_fails counts run now = record {
+  pace = pace;
+  send_fails = send_fails;
+  poll_fails = poll_fails;
+  node = now.node;
+  sent = now.sent;
+  taken = now.taken;
+  run = run;
+  late = now.late;
+  counts = counts;
+}
+
+pub shown_moved : (pace : Pace) (send_fails poll_fails : Bool) (counts : Counts) (run more : List RunStep) (old new : Crossing) → IsNodes old new
+    → shown pace send_fails poll_fails counts more new
+    ≡ record (shown pace send_fails poll_fails counts run old) { node = new.node; run = more; late = new.late }
+shown_moved pace send_fails poll_fails counts run more old new nodes =
+    ap (λ (l : List ℕ). shown pace send_fails poll_fails counts more (record new { sent = l })) (ap (λ (c : Crossing). c.sent) nodes)
+    ∙ ap (λ (l : List ℕ). shown pace send_fails poll_fails counts more (record new { sent = old.sent; taken = l })) (ap (λ (c : Crossing). c.taken) nodes)
+
+pub shown_sent : (pace shut : Pace) (send_fails poll_fails : Bool) (counts : Counts) (run more : List RunStep) (bytes : List ℕ) (old new : Crossing)
+    → new.sent ≡ old.sent ++ bytes → new.taken ≡ old.taken
+    → shown shut send_fails poll_fails counts more new
+    ≡ record (shown pace send_fails poll_fails counts run old) { pace = shut; sent = old.sent ++ bytes; node = new.node; run = more; late = new.late }
+shown_sent pace shut send_fails poll_fails counts run more bytes old new sent taken =
+    ap (λ (l : List ℕ). shown shut send_fails poll_fails counts more (record new { sent = l })) sent
+    ∙ ap (λ (l : List ℕ). shown shut send_fails poll_fails counts more (record new { sent = old.sent ++ bytes; taken = l })) taken

@@ -1,0 +1,5 @@
+pub mod Counting
+pub mod Pacing
+pub mod Crossing
+pub mod Telling
+pub mod LoopLink

@@ -1,0 +1,224 @@
+-- a loop link: what contracts see of it, how each of its calls goes, and what it tells
+use Rattle.std.specs.Prelude.{◌≡◌, ◌⊎◌, ℕ, ◌<◌, min, Bool, true, false, List, [], ◌++◌, length, take, drop}
+use Rattle.tmc_base.specs.declared.run_step.RunStep.{RunStep}
+use Rattle.tmc_base.specs.declared.link.SendStep.{SendStep}
+use Rattle.tmc_base.specs.declared.link.SendStep.TheVariants as send
+use Rattle.tmc_base.specs.declared.link.PollStep.{PollStep}
+use Rattle.tmc_base.specs.declared.link.PollStep.TheVariants as poll
+use Rattle.tmc_base.specs.declared.link.TendStep.{TendStep}
+use Rattle.tmc_base.specs.declared.link.TendStep.TheVariants as tend
+use Rattle.tmc_base.specs.Link.{Counts}
+use Rattle.tmc_base.specs.Told.{Fits, in_bytes, out_bytes}
+use Rattle.tmc_law.specs.declared.dev_event.DevEvent.{DevEvent}
+use Rattle.tmc_law.specs.State.{State}
+use Rattle.tmc_law.specs.Run.{Entry, Runs, IsFront}
+use Rattle.tmc_law.specs.Told.{ToldFromStart}
+use Rattle.tmc_device.specs.Events.{NoneLawful}
+use Rattle.usbip_export.specs.Identity.{devid}
+use Rattle.usbip_export.specs.Seen.{Seen, begun, standing}
+use Rattle.usbip_export.specs.Serving.{Works}
+use Rattle.usbip_export.specs.Events.{Drives, IsDue, IsCalm}
+use Rattle.tmc_world.specs.declared.pace.Pace.{Pace}
+use Rattle.tmc_world.specs.declared.pace.Pace.TheVariants.{Calm, Paced}
+use Rattle.tmc_world.specs.declared.loop_act.LoopAct.{LoopAct}
+use Rattle.tmc_world.specs.declared.loop_act.LoopAct.TheVariants as act
+use Rattle.tmc_world.specs.Counting.{uncounted, one_fault, one_idle, one_closing}
+use Rattle.tmc_world.specs.Pacing.{send_room, poll_room, send_shut, poll_shut, with_send_room, with_poll_room, NoSendRoom, NoPollRoom}
+use Rattle.tmc_world.specs.Crossing.{IsOpen, IsShut, Hears}
+
+pub record Looped : Type 0 where
+  pub pace : Pace
+  -- whether the next send is to fail, and the next poll
+  pub send_fails : Bool
+  pub poll_fails : Bool
+  pub node : Seen
+  pub sent : List ℕ
+  pub taken : List ℕ
+  -- the run that it tells
+  pub run : List RunStep
+  -- whether something in the node waits for memory, so that what the instrument did last is not told yet
+  pub late : Bool
+  pub counts : Counts
+
+-- the instrument is imported and at power-on, and nothing was sent, taken or done
+abbrev pub begun_loop : Pace → Looped
+begun_loop pace = record {
+  pace = pace;
+  send_fails = false;
+  poll_fails = false;
+  node = begun true;
+  sent = [];
+  taken = [];
+  run = [];
+  late = false;
+  counts = uncounted;
+}
+
+-- What a link tells: a lawful run from power-on, which fits the bytes sent and taken. It led the instrument to where it is;
+-- only while answers wait for memory may it stand behind, by a lawful run. All that was sent to an open node was taken in or
+-- is kept, and what was put out was taken or is pending.
+pub record IsTold (link : Looped) : Type 0 where
+  pub imported : link.node.imported ≡ true
+  pub fits : Fits link.sent link.taken link.run
+  pub state : State
+  pub leads : ToldFromStart devid link.run state
+  pub later : List Entry
+  pub goes : Runs state later (standing link.node)
+  pub stands : link.late ≡ false → state ≡ standing link.node
+  pub took : link.late ≡ false → IsOpen link.node → link.sent ≡ in_bytes link.run ++ link.node.kept
+  pub put : link.late ≡ false → out_bytes link.run ≡ link.taken ++ link.node.out
+  pub spelled : link.late ≡ false → link.node.puts ≡ []
+
+-- ---- a send
+
+-- one that is to fail does so
+pub record SendFails (old new : Looped) : Type 0 where
+  pub named : old.send_fails ≡ true
+  pub is : new ≡ record old { send_fails = false; pace = send_shut old.pace; counts = one_fault old.counts }
+
+-- there is no room
+pub record SendIdles (old new : Looped) : Type 0 where
+  pub unnamed : old.send_fails ≡ false
+  pub shut : NoSendRoom old.pace
+  pub is : new ≡ record old { counts = one_idle old.counts }
+
+-- as many of the first bytes go as the room allows, and the room is used up
+pub record SendTakes (count : ℕ) (old : Looped) (piece : List ℕ) (new : Looped) : Type 0 where
+  pub unnamed : old.send_fails ≡ false
+  pub some : 0 < count
+  pub fits : count ≡ send_room old.pace (length piece)
+  pub hears : Hears (take count piece) old.node new.node new.late
+  pub tells : IsFront old.run new.run
+  pub is : new ≡ record old {
+    pace = send_shut old.pace;
+    sent = old.sent ++ take count piece;
+    node = new.node;
+    run = new.run;
+    late = new.late;
+  }
+
+abbrev pub Sends : Looped → List ℕ → SendStep → Looped → Type 0
+Sends old piece (send.Took n) new = SendTakes n old piece new
+Sends old piece send.Idle new = SendIdles old new
+Sends old piece send.Failed new = SendFails old new
+Sends old piece send.Memory new = (old.send_fails ≡ false) × (new ≡ old)
+
+-- ---- a poll
+
+-- one that is to fail does so
+pub record PollFails (old new : Looped) : Type 0 where
+  pub named : old.poll_fails ≡ true
+  pub is : new ≡ record old { poll_fails = false; pace = poll_shut old.pace; counts = one_fault old.counts }
+
+-- there is no room
+pub record PollShut (old new : Looped) : Type 0 where
+  pub unnamed : old.poll_fails ≡ false
+  pub shut : NoPollRoom old.pace
+  pub is : new ≡ record old { counts = one_idle old.counts }
+
+-- the node moved on, and what it did is told as far as it is spelled
+pub record HasMoved (old new : Looped) : Type 0 where
+  pub works : Works [] [] old.node new.node
+  pub tells : IsFront old.run new.run
+  pub is : new ≡ record old { node = new.node; run = new.run; late = new.late }
+
+-- What the node does before bytes are taken from it. That of a calm link makes calm moves until none is enabled. That of a
+-- paced one is left alone; only what waits for memory is taken in and spelled.
+abbrev pub Readies : Pace → (late : Bool) → (old ready : Looped) → Type 0
+Readies Calm late old ready = HasMoved old ready × IsCalm ready.node
+Readies (Paced rooms) true old ready = HasMoved old ready
+Readies (Paced rooms) false old ready = ready ≡ old
+
+-- a poll that is not to fail, and for which there is room; each answer is spelled
+pub record PollBegins (old ready : Looped) : Type 0 where
+  pub unnamed : old.poll_fails ≡ false
+  pub room : NoPollRoom old.pace → ⊥
+  pub readies : Readies old.pace old.late old ready
+  pub unlate : ready.late ≡ false
+  pub spelled : ready.node.puts ≡ []
+
+-- as many of the first bytes that wait are taken as the room allows, and the room is used up
+pub record Takes (count room : ℕ) (ready : Looped) (bytes : List ℕ) (new : Looped) : Type 0 where
+  pub some : 0 < count
+  pub fits : count ≡ min room (length ready.node.out)
+  pub first : bytes ≡ take count ready.node.out
+  pub is : new ≡ record ready {
+    pace = poll_shut ready.pace;
+    node = record ready.node { out = drop count ready.node.out };
+    taken = ready.taken ++ bytes;
+  }
+
+-- no byte waits, and the node is open
+pub record Idles (ready new : Looped) : Type 0 where
+  pub none : ready.node.out ≡ []
+  pub opened : IsOpen ready.node
+  pub is : new ≡ record ready { pace = poll_shut ready.pace; counts = one_idle ready.counts }
+
+-- no byte waits, and the node is closed
+pub record Closes (ready new : Looped) : Type 0 where
+  pub none : ready.node.out ≡ []
+  pub shut : IsShut ready.node
+  pub is : new ≡ record ready { pace = poll_shut ready.pace; counts = one_closing ready.counts }
+
+-- how a poll ends for which the node is ready
+abbrev pub PollEnds : ℕ → Looped → PollStep → List ℕ → Looped → Type 0
+PollEnds room ready (poll.Got n) bytes new = Takes n room ready bytes new
+PollEnds room ready poll.Idle bytes new = Idles ready new
+PollEnds room ready poll.Closed bytes new = Closes ready new
+PollEnds room ready poll.Failed bytes new = ⊥
+PollEnds room ready poll.Memory bytes new = new ≡ ready
+
+pub record PollGoes (old : Looped) (size : ℕ) (step : PollStep) (bytes : List ℕ) (new : Looped) : Type 0 where
+  pub ready : Looped
+  pub begins : PollBegins old ready
+  pub ends : PollEnds (poll_room old.pace size) ready step bytes new
+
+-- Memory is wanting. A paced link is as before, but that some of what waits for memory may have been taken in and spelled;
+-- the node of a calm one may have made some of its moves.
+abbrev pub MayHaveMoved : Pace → (late : Bool) → (old new : Looped) → Type 0
+MayHaveMoved Calm late old new = HasMoved old new
+MayHaveMoved (Paced rooms) true old new = HasMoved old new
+MayHaveMoved (Paced rooms) false old new = new ≡ old
+
+pub record PollWants (old new : Looped) : Type 0 where
+  pub unnamed : old.poll_fails ≡ false
+  pub room : NoPollRoom old.pace → ⊥
+  pub moved : MayHaveMoved old.pace old.late old new
+
+abbrev pub Polls : Looped → ℕ → PollStep → List ℕ → Looped → Type 0
+Polls old size (poll.Got n) bytes new = PollGoes old size (poll.Got n) bytes new
+Polls old size poll.Idle bytes new = PollShut old new ⊎ PollGoes old size poll.Idle bytes new
+Polls old size poll.Closed bytes new = PollGoes old size poll.Closed bytes new
+Polls old size poll.Failed bytes new = PollFails old new
+Polls old size poll.Memory bytes new = PollWants old new
+
+-- ---- an act
+
+-- the instrument makes the one lawful step that the event allows, with the greatest count; what waits in the node is taken in
+-- and spelled then
+pub record Acts (event : DevEvent) (old new : Looped) : Type 0 where
+  pub acted : Seen
+  pub drives : Drives event old.node acted
+  pub settles : Works [] [] acted new.node
+  pub tells : IsFront old.run new.run
+  pub is : new ≡ record old { node = new.node; run = new.run; late = new.late }
+
+-- the law allows no such step
+pub record IsNotNow (event : DevEvent) (old new : Looped) : Type 0 where
+  pub none : NoneLawful event (standing old.node)
+  pub is : new ≡ old
+
+-- memory is wanting for it
+pub record ActWants (event : DevEvent) (old new : Looped) : Type 0 where
+  pub due : IsDue event old.node
+  pub is : new ≡ old
+
+abbrev pub Tends : Looped → LoopAct → TendStep → Looped → Type 0
+Tends old (act.Dev event) tend.Did new = Acts event old new
+Tends old (act.Dev event) tend.NotNow new = IsNotNow event old new
+Tends old (act.Dev event) tend.Memory new = ActWants event old new
+Tends old (act.RoomSend room) tend.Did new = new ≡ record old { pace = with_send_room room old.pace }
+Tends old (act.RoomPoll room) tend.Did new = new ≡ record old { pace = with_poll_room room old.pace }
+Tends old act.FailSend tend.Did new = new ≡ record old { send_fails = true }
+Tends old act.FailPoll tend.Did new = new ≡ record old { poll_fails = true }
+Tends old _ _ new = ⊥

@@ -1,0 +1,18 @@
+//! The instrument in memory, at the other end of a link.
+//!
+//! A [`LoopLink`] is a link that holds the instrument's node, what was sent to it and what was taken from it. It always
+//! tells its run: what is told is a lawful run of the instrument from power-on, and fits the bytes sent and taken.
+#![tactic(auto)]
+
+mod history;
+mod line;
+mod loop_act;
+mod loop_link;
+mod pace;
+mod tally;
+#[cfg(test)]
+mod tests;
+
+pub use loop_act::LoopAct;
+pub use loop_link::LoopLink;
+pub use usbip_export::{DevEvent, Log, LogEntry};
