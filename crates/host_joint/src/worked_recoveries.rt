@@ -15,17 +15,21 @@ ghost use Rattle.host_joint.specs.Hand.{Free, Reads};
 ghost use Rattle.host_joint.specs.Tie.{Tie, Owns};
 ghost use Rattle.host_joint.specs.Bond.{Situation, Read, Stands, Resting, ToAbortIn, WantsPacket, Bound};
 ghost use Rattle.host_joint.specs.Hits.{BoundTelling};
-ghost use Rattle.host_joint.specs.WorkedTies.{queried};
-ghost use Rattle.host_joint.specs.WorkedPieces.{first_data, requested_second, next_job, asked_with};
-ghost use Rattle.host_joint.specs.Asking.{Asking};
+ghost use Rattle.host_joint.specs.WorkedTies.{queried, told_to};
+ghost use Rattle.host_joint.specs.WorkedPieces.{first_data, requested_second, next_job, spaces_job, last_job, asked_with};
+ghost use Rattle.host_joint.specs.Asking.{Asking, AtRest};
 ghost use Rattle.host_joint.specs.Owned.{Owned};
-ghost use Rattle.host_joint.specs.Positions.{IsAt, in_begun};
-ghost use Rattle.host_joint.specs.WorkedRecoveries.{reading_rest, halting_second, halted_inside, aborting_none, freeing, usable_again, clearing_halted, checking_clear, freeing_out, freeing_in, cleared_log, cleared_at_last, cancelling_second, cancelled_inside, aborting_second, draining, checking_second};
+ghost use Rattle.host_joint.specs.Positions.{IsAt, in_begun, in_wants};
+ghost use Rattle.host_joint.specs.Lines.{Gives};
+ghost use Rattle.host_joint.specs.Requests.{RequestAt, in_aborts, in_fails};
+ghost use Rattle.host_joint.specs.Drains.{DrainAt};
+ghost use Rattle.host_joint.specs.WorkedRecoveries.{reading_rest, halting_second, halted_inside, aborting_none, freeing, usable_again, clearing_halted, checking_clear, freeing_out, freeing_in, cleared_log, cleared_at_last, cancelling_second, cancelled_inside, aborting_second, draining, checking_second, abort_submit, wanting, drained};
 
 use crate::{
-    answers_are_taken, asking_stays, asks_hand_over, bonds_stay, cancelled_answers_are_taken,
-    cancelled_asks_own, cancels_begin, messages_are_written, recoveries_end, recoveries_go_on,
-    unlinks_tell_hits, what_is_read_is_owned, worked_cancels_are_bound, worked_pieces_are_asked,
+    answers_are_taken, asking_stays, asks_are_settled_late, asks_hand_over, bonds_stay,
+    cancelled_answers_are_taken, cancelled_asks_own, cancels_begin, devices_rest, drains_stay,
+    messages_are_written, recoveries_end, recoveries_go_on, requests_stay, unlinks_tell_hits,
+    what_is_read_is_owned, worked_cancels_are_bound, worked_pieces_are_asked,
     worked_pieces_are_read, writes_keep_ties,
 };
 use tmc_law::runs_join;
@@ -105,4 +109,24 @@ pub fn worked_halts_are_asked()
     answers_are_taken();
     what_is_read_is_owned();
     asks_hand_over();
+}
+
+/// The requests of that recovery one by one: the abort is on its way, pending and answered; so is the read of its packet; at the end an ask
+/// under a new number finds the device at rest. An ask whose request is not written yet may settle its tag late, and its number while its
+/// message goes on. A device that rests is none that wants the packet of an abort.
+pub fn worked_requests_stay()
+    ensures abort { RequestAt (abort_submit 8) (in_begun 4) (in_aborts 4) in_fails []
+        (Gives (abort_submit 8) (record { seqnum = 8; status = success; actual = 2 }) (0x01 ∷ 0x04 ∷ []) ∷ []) wanting }
+    ensures drain { DrainAt (in_submit 9 4096) [] (Gives (in_submit 9 4096) (record { seqnum = 9; status = success; actual = 0 }) [] ∷ []) drained }
+    ensures rest { AtRest 11 usable_again }
+    ensures tag { Asking (asked_with 9 (spaces_job ∷ last_job ∷ []) 2 []) [] [] told_to }
+    ensures resting { IsAt in_wants usable_again → ⊥ }
+{
+    runs_join();
+    worked_pieces_are_read();
+    worked_pieces_are_asked();
+    requests_stay();
+    drains_stay();
+    devices_rest();
+    asks_are_settled_late();
 }
