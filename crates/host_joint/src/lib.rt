@@ -66,8 +66,8 @@ pub use worked_lines::{worked_lines_are_kept, worked_numbers_rise};
 pub use worked_links::worked_hosts_are_joined;
 pub use worked_pieces::{worked_pieces_are_asked, worked_pieces_are_read};
 pub use worked_recoveries::{
-    worked_cancels_are_recovered, worked_halts_are_asked, worked_halts_are_recovered,
-    worked_requests_stay, worked_unlinks_tell_hits,
+    worked_cancels_are_asked, worked_cancels_are_recovered, worked_halts_are_asked,
+    worked_halts_are_recovered, worked_requests_stay, worked_unlinks_tell_hits,
 };
 pub use worked_remotes::worked_remote_tickets_are_tied;
 pub use worked_triggers::worked_trigger_tickets_are_tied;
