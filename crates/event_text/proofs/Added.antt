@@ -1,5 +1,5 @@
 -- an entry more makes no message whole in a rest, and no field bad
-use Rattle.std.proofs.Common.{◌≡◌, ℕ, Option, Some, None, List, [], ◌∷◌, ◌++◌, refl, sym, subst}
+use Rattle.std.proofs.Common.{◌≡◌, ℕ, Bool, true, false, List, [], ◌∷◌, ◌++◌, refl, sym, subst}
 use Rattle.tmc_base.specs.declared.field.Field.{Field}
 use Rattle.usbip_wire.specs.declared.dirs.Outstanding.{Outstanding}
 use Rattle.usbip_wire.specs.declared.down.DownPhase.TheVariants as down_phase
@@ -10,7 +10,7 @@ use Rattle.usbip_wire.specs.Stream as stream
 use Rattle.usbip_wire.specs.UpFed as up_fed
 use Rattle.event_text.specs.declared.reading.Reader.{Reader}
 use Rattle.event_text.specs.declared.reading.Reader.TheVariants.{Client, Device}
-use Rattle.event_text.specs.Read.{standing_of, IsSound, IsSettled, IsCounted, client_stream, device_stream, kept_by}
+use Rattle.event_text.specs.Read.{standing_of, IsSound, IsSettled, IsMarked, client_stream, device_stream, kept_by}
 use Rattle.event_text.specs.Message.{Stream, Message, Requests, Urbs, Parts, Answers, Request, FromClient, Part, Answer, Spells, NoneWhole, BadAt}
 
 -- what usbip_wire says of added entries
@@ -61,21 +61,21 @@ stops_more may Answers entries more rest (none, calm) =
 
 -- ---- a reading
 
-counted_more : (reader : Reader) (entries more : List Outstanding) (count : Option ℕ) → IsCounted count (standing_of reader entries) → IsCounted count (standing_of reader more)
-counted_more (Client held) entries more (Some n) counted = counted
-counted_more (Client held) entries more None counted = counted
-counted_more (Device held) entries more (Some n) counted = counted
-counted_more (Device held) entries more None counted = counted
+marked_more : (reader : Reader) (entries more : List Outstanding) (refused : Bool) → IsMarked refused (standing_of reader entries) → IsMarked refused (standing_of reader more)
+marked_more (Client held) entries more true marked = marked
+marked_more (Client held) entries more false marked = marked
+marked_more (Device held) entries more true marked = marked
+marked_more (Device held) entries more false marked = marked
 
 settled_more : MayBeAdded → (reader : Reader) (entries more : List Outstanding) → IsSettled (standing_of reader entries) → IsSettled (standing_of reader (entries ++ more))
 settled_more may (Client held) entries more settled = λ good. stops_more may (client_stream held.phase) entries more (kept_by held.bad (up_fed.kept held)) (settled good)
 settled_more may (Device held) entries more settled = λ good. stops_more may (device_stream held.phase) entries more (kept_by held.bad (down_fed.kept held)) (settled good)
 
-pub sound_added : MayBeAdded → (reader : Reader) (entries : List Outstanding) (entry : Outstanding) (more : List Outstanding) (count : Option ℕ) → more ≡ entries ++ entry ∷ []
-    → IsSound reader entries count → IsSound reader more count
-sound_added may reader entries entry more count e sound =
-    subst (λ xs. IsSound reader xs count) (sym e) (
-      counted_more reader entries (entries ++ entry ∷ []) count sound.0,
+pub sound_added : MayBeAdded → (reader : Reader) (entries : List Outstanding) (entry : Outstanding) (more : List Outstanding) (refused : Bool) → more ≡ entries ++ entry ∷ []
+    → IsSound reader entries refused → IsSound reader more refused
+sound_added may reader entries entry more refused e sound =
+    subst (λ xs. IsSound reader xs refused) (sym e) (
+      marked_more reader entries (entries ++ entry ∷ []) refused sound.0,
       sound.1,
       settled_more may reader entries (entry ∷ []) sound.2,
     )

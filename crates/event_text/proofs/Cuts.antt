@@ -1,45 +1,74 @@
 -- a text is cut at its first NL, and a bus id at its first zero
-use Rattle.std.proofs.Common.{⊎_elim, suc, ◌-◌, ◌≡◌, ℕ, ◌+◌, ◌<◌, ◌≤◌, Bool, true, false, eqb, Some, None, List, [], ◌∷◌, length, take, drop, refl, sym, ap, ◌∙◌, subst, arith}
-use Rattle.std.proofs.lemmas.Bool.{cases_lt, cond_below, cond_above}
-use Rattle.std.proofs.lemmas.List.{take_all, take_rest}
+use Rattle.std.proofs.Common.{⊎_elim, zero, suc, ◌-◌, ◌≡◌, ℕ, ◌+◌, ◌<◌, ◌≤◌, Bool, true, false, eqb, Option, Some, None, List, [], ◌∷◌, ◌++◌, length, get_or, take, drop, refl, sym, ap, ◌∙◌, subst, arith}
+use Rattle.std.proofs.lemmas.Bool.{cases_lt, cond_below, cond_above, eqb-true}
+use Rattle.std.proofs.lemmas.List.{take_all, take_rest, take-append-drop, drop_more}
 use Rattle.std.proofs.lemmas.List.Splits.{slice_split_first}
-use Rattle.std.specs.List.{position_or_len, position, before_first, onto_first}
-use Rattle.event_text.specs.EventLine.{if_none}
-use Rattle.event_text.specs.Words.{lines_of, words_of}
+use Rattle.std.proofs.lemmas.List.Sums.{position_or_len_is}
+use Rattle.std.specs.List.{AllByRecursion, position_or_len, position, before_first, onto_first}
+use Rattle.memchr.specs.Find.{IsFirstByte, is_byte}
+use Rattle.event_text.specs.Script.{if_none}
+use Rattle.event_text.specs.Words.{IsInside, lines_of, words_of}
 
-abbrev at_nl : List ℕ → ℕ
-at_nl bytes = position_or_len (λ byte. eqb byte 10) bytes
+not_true : (b : Bool) → (b ≡ true → ⊥) → b ≡ false
+not_true true never = absurd (never refl)
+not_true false never = refl
 
-cut_by : (b : ℕ) (bs : List ℕ) (t : Bool) → eqb b 10 ≡ t → (at_nl bs < length bs → lines_of bs ≡ take (at_nl bs) bs ∷ lines_of (drop (at_nl bs + 1) bs))
-    → at_nl (b ∷ bs) < length (b ∷ bs) → lines_of (b ∷ bs) ≡ take (at_nl (b ∷ bs)) (b ∷ bs) ∷ lines_of (drop (at_nl (b ∷ bs) + 1) (b ∷ bs))
-cut_by b bs true e again h = rw e refl
-cut_by b bs false e again h =
-    let one : at_nl (b ∷ bs) ≡ 1 + at_nl bs = rw e refl in
-    let step : at_nl (b ∷ bs) ≡ suc (at_nl bs) = omega (arith, one) in
-    let within : at_nl bs < length bs = omega (arith, h, step) in
-    let lines : lines_of (b ∷ bs) ≡ onto_first b (lines_of bs) = rw e refl in
-    let behind : suc (at_nl bs) + 1 ≡ suc (at_nl bs + 1) = omega arith in
-    rw step (rw behind (lines ∙ ap (onto_first b) (again within)))
+-- ---- a text is cut at its first NL
 
-cut : (bytes : List ℕ) → at_nl bytes < length bytes → lines_of bytes ≡ take (at_nl bytes) bytes ∷ lines_of (drop (at_nl bytes + 1) bytes)
-cut [] h = absurd (omega (arith, h))
-cut (b ∷ bs) h = cut_by b bs (eqb b 10) refl (cut bs) h
+-- no byte before the first NL is one
+inside_front : (bytes : List ℕ) (n : ℕ) → n ≤ length bytes → ((k : ℕ) → k < n → IsInside (get_or bytes k 0)) → AllByRecursion IsInside (take n bytes)
+inside_front bytes zero fits inside = tt
+inside_front [] (suc n) fits inside = absurd (omega (arith, fits))
+inside_front (byte ∷ bytes) (suc n) fits inside = (inside 0 (omega arith), inside_front bytes n (omega (arith, fits)) (λ k below. inside (suc k) (omega (arith, below))))
 
-uncut_by : (b : ℕ) (bs : List ℕ) (t : Bool) → eqb b 10 ≡ t → (length bs ≤ at_nl bs → 0 < length bs → lines_of bs ≡ bs ∷ [])
-    → length (b ∷ bs) ≤ at_nl (b ∷ bs) → lines_of (b ∷ bs) ≡ (b ∷ bs) ∷ []
-uncut_by b bs true e again h =
-    let none : at_nl (b ∷ bs) ≡ 0 = rw e refl in
-    absurd (omega (arith, h, none))
-uncut_by b [] false e again h = rw e refl
-uncut_by b (d ∷ bs) false e again h =
-    let one : at_nl (b ∷ d ∷ bs) ≡ 1 + at_nl (d ∷ bs) = rw e refl in
-    let step : at_nl (b ∷ d ∷ bs) ≡ suc (at_nl (d ∷ bs)) = omega (arith, one) in
-    let lines : lines_of (b ∷ d ∷ bs) ≡ onto_first b (lines_of (d ∷ bs)) = rw e refl in
-    lines ∙ ap (onto_first b) (again (omega (arith, h, step)) (omega arith))
+pub nl_none : (bytes : List ℕ) → IsFirstByte (is_byte 10) bytes None → AllByRecursion IsInside bytes
+nl_none bytes nowhere =
+    subst (λ xs. AllByRecursion IsInside xs) (take_all (length bytes) bytes (omega arith))
+    (inside_front bytes (length bytes) (omega arith) (λ k below. not_true (eqb (get_or bytes k 0) 10) (nowhere k (omega arith) below)))
 
-whole : (bytes : List ℕ) → length bytes ≤ at_nl bytes → 0 < length bytes → lines_of bytes ≡ bytes ∷ []
-whole [] h some = absurd (omega (arith, some))
-whole (b ∷ bs) h some = uncut_by b bs (eqb b 10) refl (whole bs) h
+pub nl_some : (bytes : List ℕ) (n : ℕ) → IsFirstByte (is_byte 10) bytes (Some n)
+    → AllByRecursion IsInside (take n bytes) × (bytes ≡ take n bytes ++ 10 ∷ take (length bytes - (n + 1)) (drop (n + 1) bytes))
+nl_some bytes n (first, passes) =
+    let high : n < length bytes = first.high in
+    let here : get_or bytes n 0 ≡ 10 = eqb-true _ _ passes in
+    let rest : drop n bytes ≡ 10 ∷ drop (n + 1) bytes = drop_more bytes n 0 high ∙ ap (λ b. b ∷ drop (n + 1) bytes) here in
+    let all : take (length bytes - (n + 1)) (drop (n + 1) bytes) ≡ drop (n + 1) bytes = take_rest bytes (n + 1) in (
+      inside_front bytes n (omega (arith, high)) (λ k below. not_true (eqb (get_or bytes k 0) 10) (first.before k (omega arith) below)),
+      rw all (sym (take-append-drop n bytes) ∙ ap (λ xs. take n bytes ++ xs) rest),
+    )
+
+nl_ends : (line more : List ℕ) → AllByRecursion IsInside line → lines_of (line ++ 10 ∷ more) ≡ line ∷ lines_of more
+nl_ends [] more inside = refl
+nl_ends (byte ∷ line) more inside =
+    let first : lines_of (byte ∷ (line ++ 10 ∷ more)) ≡ onto_first byte (lines_of (line ++ 10 ∷ more)) = rw inside.0 refl in
+    first ∙ ap (onto_first byte) (nl_ends line more inside.1)
+
+pub cut_at : (source line more : List ℕ) → AllByRecursion IsInside line → source ≡ line ++ 10 ∷ more → lines_of source ≡ line ∷ lines_of more
+cut_at source line more inside e = ap lines_of e ∙ nl_ends line more inside
+
+-- and with none there is one line
+pub uncut : (line : List ℕ) → AllByRecursion IsInside line → 0 < length line → lines_of line ≡ line ∷ []
+uncut [] inside some = absurd (omega (arith, some))
+uncut (byte ∷ []) inside some = rw inside.0 refl
+uncut (byte ∷ second ∷ line) inside some =
+    let first : lines_of (byte ∷ second ∷ line) ≡ onto_first byte (lines_of (second ∷ line)) = rw inside.0 refl in
+    first ∙ ap (onto_first byte) (uncut (second ∷ line) inside.1 (omega arith))
+
+-- ---- places
+
+-- a search for the first byte that passes answers its place
+pub place_found : (p : ℕ → Bool) (bytes : List ℕ) (place : Option ℕ) → IsFirstByte p bytes place → place ≡ position p bytes
+place_found p bytes None nowhere =
+    let all : position_or_len p bytes ≡ length bytes =
+    position_or_len_is p bytes (length bytes) 0 (omega arith) (λ k within. not_true (p (get_or bytes k 0)) (nowhere k (omega arith) within)) (λ past. absurd (omega (arith, past))) in
+    let past : length bytes ≤ position_or_len p bytes = omega (arith, all) in
+    cond_above _ _ _ _ None past refl
+place_found p bytes (Some n) (first, passes) =
+    let high : n < length bytes = first.high in
+    let at : position_or_len p bytes ≡ n =
+    position_or_len_is p bytes n 0 (omega (arith, high)) (λ k before. not_true (p (get_or bytes k 0)) (first.before k (omega arith) before)) (λ _. passes) in
+    let within : position_or_len p bytes < length bytes = omega (arith, at, high) in
+    ap Some (sym at) ∙ cond_below _ _ _ _ within
 
 -- the place of a first byte that passes
 placed : (p : ℕ → Bool) (bytes : List ℕ) (n : ℕ) → position p bytes ≡ Some n → (position_or_len p bytes ≡ n) × (n < length bytes)
@@ -65,16 +94,6 @@ missing p bytes e =
     absurd (cc found))
     (λ past. past)
     (cases_lt (position_or_len p bytes) (length bytes))
-
-pub cut_at : (bytes : List ℕ) (n : ℕ) → position (λ byte. eqb byte 10) bytes ≡ Some n → lines_of bytes ≡ take n bytes ∷ lines_of (take (length bytes - (n + 1)) (drop (n + 1) bytes))
-cut_at bytes n e =
-    let at = placed (λ byte. eqb byte 10) bytes n e in
-    let all : take (length bytes - (n + 1)) (drop (n + 1) bytes) ≡ drop (n + 1) bytes = take_rest bytes (n + 1) in
-    let first : lines_of bytes ≡ take n bytes ∷ lines_of (drop (n + 1) bytes) = subst (λ m. lines_of bytes ≡ take m bytes ∷ lines_of (drop (m + 1) bytes)) at.0 (cut bytes (omega (arith, at.0, at.1))) in
-    rw all first
-
-pub uncut : (bytes : List ℕ) → 0 < length bytes → position (λ byte. eqb byte 10) bytes ≡ None → lines_of bytes ≡ bytes ∷ []
-uncut bytes some e = whole bytes (missing (λ byte. eqb byte 10) bytes e) some
 
 -- what stands before the first byte that passes
 pub before_at : (p : ℕ → Bool) (bytes : List ℕ) (n : ℕ) → position p bytes ≡ Some n → take n bytes ≡ before_first p bytes

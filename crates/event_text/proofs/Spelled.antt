@@ -18,9 +18,9 @@ use Rattle.event_text.specs.declared.event.Event.{Event}
 use Rattle.event_text.specs.declared.event.Event.TheVariants.{Ask, Tell, GiveUp, Up, Down, Dev, FailSend, FailPoll, Rest}
 use Rattle.event_text.specs.declared.line_fault.LineWhat.{LineWhat}
 use Rattle.event_text.specs.declared.line_fault.LineWhat.TheVariants.{Unknown, Words, Number, Hex}
-use Rattle.event_text.specs.EventLine.{if_none, if_one, if_two, if_three, and_one, and_two, if_within, number_within, session_of, count_said, endpoint_said, made, alone, plain_dev, dev_said, ask_said, tell_said, failing, fail_said, short_said, event_said}
+use Rattle.event_text.specs.EventLine.{if_within, number_within, session_of, count_said, endpoint_said, made, alone, plain_dev, dev_said, ask_said, tell_said, failing, fail_said, short_said, event_said}
 use Rattle.event_text.specs.EventSpelled.{dev_line, event_line, IsCount, DevMayStand, MayStand}
-use Rattle.event_text.specs.Script.{need}
+use Rattle.event_text.specs.Script.{need, if_none, if_one, if_two, if_three, and_one, and_two}
 use Rattle.event_text.specs.Words.{words_of, number_of, bytes_of, if_written, hex_word}
 use Rattle.event_text.proofs.Hexes.{bytes_is, bytes_was}
 use Rattle.event_text.proofs.Numbers.{number_is, number_was}

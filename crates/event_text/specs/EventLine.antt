@@ -12,34 +12,8 @@ use Rattle.event_text.specs.declared.event_line.Said.{Said}
 use Rattle.event_text.specs.declared.event_line.Said.TheVariants.{First, Depth, Does}
 use Rattle.event_text.specs.declared.line_fault.LineWhat.{LineWhat}
 use Rattle.event_text.specs.declared.line_fault.LineWhat.TheVariants.{Unknown, Words, Number, Hex, Depth as bad_depth}
-use Rattle.event_text.specs.Script.{need, judged}
+use Rattle.event_text.specs.Script.{need, judged, if_none, if_one, if_two, if_three}
 use Rattle.event_text.specs.Words.{number_of, bytes_of}
-
--- ---- the words behind the first: none, one, two or three
-
-abbrev pub if_none : List (List ℕ) → Option Unit
-if_none [] = Some tt
-if_none words = None
-
-abbrev pub if_one : List (List ℕ) → Option (List ℕ)
-if_one (word ∷ []) = Some word
-if_one words = None
-
-abbrev pub and_one : List ℕ → Option (List ℕ) → Option (List ℕ × List ℕ)
-and_one word None = None
-and_one word (Some last) = Some (word, last)
-
-abbrev pub if_two : List (List ℕ) → Option (List ℕ × List ℕ)
-if_two [] = None
-if_two (word ∷ words) = and_one word (if_one words)
-
-abbrev pub and_two : List ℕ → Option (List ℕ × List ℕ) → Option (List ℕ × (List ℕ × List ℕ))
-and_two word None = None
-and_two word (Some others) = Some (word, others)
-
-abbrev pub if_three : List (List ℕ) → Option (List ℕ × (List ℕ × List ℕ))
-if_three [] = None
-if_three (word ∷ words) = and_two word (if_two words)
 
 -- ---- numbers in their ranges
 

@@ -121,13 +121,13 @@ IsOurReader (Device held) = ⊤
 abbrev pub IsSettled : Standing → Type 0
 IsSettled standing = standing.bad ≡ None → Stops standing None
 
--- the number of bytes of the rest; none behind a bad field
-abbrev pub IsCounted : Option ℕ → Standing → Type 0
-IsCounted (Some count) standing = (standing.bad ≡ None) × (count ≡ length standing.rest)
-IsCounted None standing = standing.bad ≡ None → ⊥
+-- whether a field was refused
+abbrev pub IsMarked : Bool → Standing → Type 0
+IsMarked true standing = standing.bad ≡ None → ⊥
+IsMarked false standing = standing.bad ≡ None
 
-abbrev pub IsSound : Reader → List Outstanding → Option ℕ → Type 0
-IsSound reader entries count = IsCounted count (standing_of reader entries) × IsOurReader reader × IsSettled (standing_of reader entries)
+abbrev pub IsSound : Reader → List Outstanding → Bool → Type 0
+IsSound reader entries refused = IsMarked refused (standing_of reader entries) × IsOurReader reader × IsSettled (standing_of reader entries)
 
 -- ---- one call of a reader
 
@@ -153,10 +153,10 @@ answered entries (got.RetSubmit head) = others head.seqnum entries
 answered entries (got.RetUnlink head) = others head.seqnum entries
 answered entries what = entries
 
-abbrev pub rest_of : Step → ℕ → Option ℕ
-rest_of (Message used) kept = Some 0
-rest_of More kept = Some kept
-rest_of Bad kept = None
+abbrev pub is_bad : Step → Bool
+is_bad (Message used) = false
+is_bad More = false
+is_bad Bad = true
 
 abbrev pub fed_with : Standing → List ℕ → Standing
 fed_with old piece = record old { rest = old.rest ++ piece }

@@ -22,6 +22,32 @@ abbrev pub need : {A B : Type 0} → LineWhat → Option A → (A → Result B L
 need what None make = Err what
 need what (Some x) make = make x
 
+-- ---- the words behind the first: none, one, two or three
+
+abbrev pub if_none : List (List ℕ) → Option Unit
+if_none [] = Some tt
+if_none words = None
+
+abbrev pub if_one : List (List ℕ) → Option (List ℕ)
+if_one (word ∷ []) = Some word
+if_one words = None
+
+abbrev pub and_one : List ℕ → Option (List ℕ) → Option (List ℕ × List ℕ)
+and_one word None = None
+and_one word (Some last) = Some (word, last)
+
+abbrev pub if_two : List (List ℕ) → Option (List ℕ × List ℕ)
+if_two [] = None
+if_two (word ∷ words) = and_one word (if_one words)
+
+abbrev pub and_two : List ℕ → Option (List ℕ × List ℕ) → Option (List ℕ × (List ℕ × List ℕ))
+and_two word None = None
+and_two word (Some others) = Some (word, others)
+
+abbrev pub if_three : List (List ℕ) → Option (List ℕ × (List ℕ × List ℕ))
+if_three [] = None
+if_three (word ∷ words) = and_two word (if_two words)
+
 -- the most lines of a script, and the most bytes of a line without its NL
 abbrev pub lines_most : ℕ
 lines_most = LINES_MOST
@@ -43,8 +69,7 @@ phase_of word = if bytes_eq word (codes "op") then Some Op else if bytes_eq word
 
 -- the words behind `phase`
 abbrev pub phase_said : List (List ℕ) → Result Phase LineWhat
-phase_said (word ∷ []) = need Words (phase_of word) (λ phase. Ok phase)
-phase_said words = Err Words
+phase_said words = need Words (if_one words) (λ word. need Words (phase_of word) (λ phase. Ok phase))
 
 abbrev pub first_words : List (List ℕ) → Result Phase LineWhat
 first_words [] = Err Unknown
@@ -68,19 +93,17 @@ length_of word = if_short (number_of word)
 
 -- the words behind `submit`, `unlink` and `bytes`
 abbrev pub submit_said : List (List ℕ) → Result Outstanding LineWhat
-submit_said (number ∷ way ∷ size ∷ []) =
-    need Words (dir_of way) (λ dir.
-    need Number (number_of number) (λ seqnum.
-    need Number (length_of size) (λ size. Ok (Submit seqnum dir size))))
-submit_said words = Err Words
+submit_said words =
+    need Words (if_three words) (λ three.
+    need Words (dir_of three.1.0) (λ dir.
+    need Number (number_of three.0) (λ seqnum.
+    need Number (length_of three.1.1) (λ size. Ok (Submit seqnum dir size)))))
 
 abbrev pub unlink_said : List (List ℕ) → Result Outstanding LineWhat
-unlink_said (number ∷ []) = need Number (number_of number) (λ seqnum. Ok (Unlink seqnum))
-unlink_said words = Err Words
+unlink_said words = need Words (if_one words) (λ number. need Number (number_of number) (λ seqnum. Ok (Unlink seqnum)))
 
 abbrev pub bytes_said : List (List ℕ) → Result Line LineWhat
-bytes_said (word ∷ []) = need Hex (bytes_of word) (λ piece. Ok (Bytes piece))
-bytes_said words = Err Words
+bytes_said words = need Words (if_one words) (λ word. need Hex (bytes_of word) (λ piece. Ok (Bytes piece)))
 
 abbrev pub adds : Result Outstanding LineWhat → Result Line LineWhat
 adds (Ok entry) = Ok (Adds entry)

@@ -2,7 +2,8 @@
 
 ghost use Rattle.std.specs.Prelude.{◌≡◌, ◌≤◌, ◌∷◌, MatchOption, IfSome, None, Some};
 ghost use Rattle.event_text.specs.Words.{words_of};
-ghost use Rattle.event_text.specs.EventLine.{if_none, if_one, if_two, if_three, number_within};
+ghost use Rattle.event_text.specs.EventLine.{number_within};
+ghost use Rattle.event_text.specs.Script.{if_none, if_one, if_two, if_three};
 ghost use Rattle.event_text.specs.Read.{words_behind};
 
 use crate::words::{place_of, read_number};

@@ -52,4 +52,4 @@ pub use refusal::put_refusal;
 pub use report::put_report;
 pub use shown::put_shown;
 pub use stream::put_stream;
-pub use words::{read_hex, read_number};
+pub use words::{read_hex, read_number, split_line};

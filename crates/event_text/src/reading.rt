@@ -1,13 +1,13 @@
 //! A stream that is shown, as far as it was read.
 
-ghost use Rattle.std.specs.Prelude.{◌≡◌, ◌≤◌, ◌+◌, ◌++◌, ◌∷◌, [], ℕ, List, None, Some, IfOk, IfErr, OnOk, length};
+ghost use Rattle.std.specs.Prelude.{◌≡◌, ◌++◌, ◌∷◌, [], ℕ, List, None, Some, IfOk, IfErr, OnOk, length};
 ghost use Rattle.usbip_wire.specs.Dirs.{IsShort};
 ghost use Rattle.usbip_wire.specs.DownFed as down_fed;
 ghost use Rattle.usbip_wire.specs.UpFed as up_fed;
-ghost use Rattle.usbip_wire.specs.Urb.{message_max};
+ghost use Rattle.usbip_wire.specs.declared.dirs.Outstanding.{Outstanding};
 ghost use Rattle.usbip_wire.specs.declared.down.DownStep.{DownStep};
 ghost use Rattle.usbip_wire.specs.declared.up.UpStep.{UpStep};
-ghost use Rattle.event_text.specs.Read.{Stepped, IsSound, IsSettled, IsOurReader, IsCounted, standing_of, rest_of, client_step, device_step, client_text, device_text, answered};
+ghost use Rattle.event_text.specs.Read.{Stepped, IsSound, IsSettled, IsOurReader, standing_of, is_bad, client_step, device_step, client_text, device_text, answered};
 ghost use Rattle.event_text.specs.declared.script.Line.TheVariants.{Bytes};
 ghost use Rattle.event_text.specs.Script.{entry_fault};
 ghost use Rattle.event_text.specs.Shown.{begun, Prints, ending};
@@ -44,6 +44,16 @@ impl Reader {
             (Dir::In, Phase::Urb) => Reader::Device(DownReader::urbs(alloc)?),
         })
     }
+
+    /// The number of bytes that are not part of a message yet, where no field was refused.
+    fn kept(&self) -> usize
+        ensures { (entries : List Outstanding) → (standing_of self.now entries).bad ≡ None → result ≡ length (standing_of self.now entries).rest }
+    {
+        match self {
+            Reader::Client(reader) => reader.kept(),
+            Reader::Device(reader) => reader.kept(),
+        }
+    }
 }
 
 /// What one call of a reader gave.
@@ -58,53 +68,46 @@ pub(crate) enum Step {
 }
 
 impl Step {
-    ghost use Rattle.event_text.specs.declared.reading.Step.TheVariants.{More};
-
-    /// The number of bytes that are not part of a message yet, where this is what a call gave that had so many
-    /// more than were kept.
-    fn rest_of(self, kept: usize, more: usize) -> Option<usize>
-        requires { self ≡ More → kept + more ≤ message_max }
-        ensures { result ≡ rest_of self (kept + more) }
+    fn is_bad(self) -> bool
+        ensures { result ≡ is_bad self }
     {
         match self {
-            Step::Message(_) => Some(0),
-            Step::More => Some(kept + more),
-            Step::Bad => None,
+            Step::Message(_) | Step::More => false,
+            Step::Bad => true,
         }
     }
 }
 
-/// A stream with what is outstanding. `rest` is the number of bytes that are not part of a message yet, and
-/// nothing once a field was refused.
+/// A stream with what is outstanding, and whether a field was refused.
 #[derive(Drop)]
 pub(crate) struct Reading {
     pub(crate) reader: Reader,
     pub(crate) dirs: Dirs,
-    pub(crate) rest: Option<usize>,
+    pub(crate) refused: bool,
 }
 
 impl Reading {
     /// The stream of a script, before its first byte.
     pub(crate) fn new(alloc: Global, way: Dir, phase: Phase) -> Result<Reading, Memory>
         ensures begun { IfOk result (λ reading. standing_of reading.reader reading.dirs ≡ begun way phase) }
-        ensures sound { IfOk result (λ reading. IsSound reading.reader reading.dirs reading.rest) }
+        ensures sound { IfOk result (λ reading. IsSound reading.reader reading.dirs reading.refused) }
     {
         let reader = Reader::new(alloc, way, phase)?;
         Ok(Reading {
             reader,
             dirs: Dirs::new(),
-            rest: Some(0),
+            refused: false,
         })
     }
 
     /// A submit or an unlink is outstanding from here on.
     pub(crate) fn add(&mut self, entry: Outstanding) -> Result<(), LineWhat>
         requires short { IsShort entry }
-        requires sound { IsSound self.old.reader self.old.dirs self.old.rest }
+        requires sound { IsSound self.old.reader self.old.dirs self.old.refused }
         ensures ok { OnOk result (entry_fault self.old.dirs entry ≡ None) }
         ensures added { OnOk result (standing_of self.new.reader self.new.dirs ≡ standing_of self.old.reader (self.old.dirs ++ entry ∷ [])) }
         ensures err { IfErr result (λ what. entry_fault self.old.dirs entry ≡ Some what) }
-        ensures sound { OnOk result (IsSound self.new.reader self.new.dirs self.new.rest) }
+        ensures sound { OnOk result (IsSound self.new.reader self.new.dirs self.new.refused) }
     {
         if self.dirs.holds(entry.seqnum()) {
             return Err(LineWhat::Twice);
@@ -127,12 +130,12 @@ impl Reading {
     /// Reads a piece, and appends the lines of the messages that it completes. Behind a bad field nothing is
     /// read.
     pub(crate) fn give(&mut self, piece: &[u8], text: &mut Vec<u8>) -> Result<(), Memory>
-        requires { IsSound self.old.reader self.old.dirs self.old.rest }
+        requires { IsSound self.old.reader self.old.dirs self.old.refused }
         ensures printed { OnOk result ((printed : List ℕ) × (text.new.items ≡ text.old.items ++ printed)
             × Prints (standing_of self.old.reader self.old.dirs) (Bytes piece.now) printed (standing_of self.new.reader self.new.dirs)) }
-        ensures sound { OnOk result (IsSound self.new.reader self.new.dirs self.new.rest) }
+        ensures sound { OnOk result (IsSound self.new.reader self.new.dirs self.new.refused) }
     {
-        if self.rest.is_none() {
+        if self.refused {
             return Ok(());
         }
         let mut left = piece;
@@ -144,36 +147,26 @@ impl Reading {
 
     /// Appends what is printed behind the last line.
     pub(crate) fn end(&self, text: &mut Vec<u8>) -> Result<(), Memory>
-        requires { IsSound self.now.reader self.now.dirs self.now.rest }
+        requires { IsSound self.now.reader self.now.dirs self.now.refused }
         ensures { OnOk result (text.new.items ≡ text.old.items ++ ending (standing_of self.now.reader self.now.dirs).bad (standing_of self.now.reader self.now.dirs).rest) }
     {
-        let Some(rest) = self.rest else {
+        if self.refused {
             return Ok(());
-        };
-        put_more(rest, text)
+        }
+        put_more(self.reader.kept(), text)
     }
 
     /// Reads up to the end of the next message, and appends what is printed of it.
     fn step(&mut self, piece: &[u8], text: &mut Vec<u8>) -> Result<Step, Memory>
         requires good { (standing_of self.old.reader self.old.dirs).bad ≡ None }
-        requires sound { IsSound self.old.reader self.old.dirs self.old.rest }
+        requires sound { IsSound self.old.reader self.old.dirs self.old.refused }
         ensures stepped { IfOk result (λ step. (printed : List ℕ) × (text.new.items ≡ text.old.items ++ printed)
             × Stepped (standing_of self.old.reader self.old.dirs) piece.now step printed (standing_of self.new.reader self.new.dirs)) }
-        ensures sound { OnOk result (IsSound self.new.reader self.new.dirs self.new.rest) }
+        ensures sound { OnOk result (IsSound self.new.reader self.new.dirs self.new.refused) }
     {
-        let kept = self.kept();
         let step = self.feed(piece, text)?;
-        self.rest = step.rest_of(kept, piece.len());
+        self.refused = step.is_bad();
         Ok(step)
-    }
-
-    /// The number of bytes that are not part of a message yet.
-    fn kept(&self) -> usize
-        requires good { (standing_of self.now.reader self.now.dirs).bad ≡ None }
-        requires counted { IsCounted self.now.rest (standing_of self.now.reader self.now.dirs) }
-        ensures { result ≡ length (standing_of self.now.reader self.now.dirs).rest }
-    {
-        self.rest.unwrap_or(0)
     }
 
     fn feed(&mut self, piece: &[u8], text: &mut Vec<u8>) -> Result<Step, Memory>
@@ -183,7 +176,6 @@ impl Reading {
         ensures stepped { IfOk result (λ step. (printed : List ℕ) × (text.new.items ≡ text.old.items ++ printed)
             × Stepped (standing_of self.old.reader self.old.dirs) piece.now step printed (standing_of self.new.reader self.new.dirs)) }
         ensures ours { OnOk result (IsOurReader self.new.reader) }
-        ensures few { IfOk result (λ _. length (standing_of self.new.reader self.new.dirs).rest ≤ message_max) }
     {
         match &mut self.reader {
             Reader::Client(reader) => feed_client(reader, piece, text),

@@ -1,15 +1,16 @@
 //! What the lines of a script say.
 
-ghost use Rattle.std.specs.Prelude.{◌≡◌, ◌≤◌, ◌<◌, map, length, IfOk, IfSome};
+ghost use Rattle.std.specs.Prelude.{◌≡◌, ◌≤◌, ◌<◌, ◌∷◌, length, IfOk, IfSome};
 ghost use Rattle.tmc_base.specs.declared.limits.TheConstants.{SUBMIT_MAX};
 ghost use Rattle.usbip_wire.specs.Dirs.{IsShort};
-ghost use Rattle.event_text.specs.Read.{IsRead, IsJudged, IsShortLine};
+ghost use Rattle.event_text.specs.Read.{IsRead, IsJudged, IsShortLine, words_behind};
 ghost use Rattle.event_text.specs.Script.{phase_of, phase_said, first_words, first_said, dir_of, length_of, submit_said, unlink_said, bytes_said, later_words, later_said, lines_most};
 
+use crate::behind::{Behind, first_word};
 use crate::limits::{LINE_MOST, LINES_MOST};
 use crate::line_fault::LineWhat;
 use crate::line_stop::LineStop;
-use crate::words::{is, octets_of, read_number, words};
+use crate::words::{is, octets_of, read_number};
 use std::alloc::Global;
 use tmc_base::{Octets, SUBMIT_MAX};
 use usbip_wire::{Dir, Outstanding};
@@ -33,12 +34,12 @@ pub(crate) enum Line {
 }
 
 /// What the first line says.
-pub(crate) fn read_first(alloc: Global, line: &[u8]) -> Result<Phase, LineStop>
-    ensures { IsRead result (first_said line.now) }
+pub(crate) fn read_first(line: &[u8]) -> Result<Phase, LineWhat>
+    ensures { result ≡ first_said line.now }
 {
     judge_size(1, line)?;
-    let words = words(alloc, line)?;
-    Ok(first_words(&words)?)
+    let (head, behind) = first_word(line);
+    first_words(head, behind)
 }
 
 /// What this line says.
@@ -53,8 +54,8 @@ pub(crate) fn read_later(
     ensures short { IfOk result IsShortLine }
 {
     judge_size(number, line)?;
-    let words = words(alloc, line)?;
-    later_words(alloc, way, &words)
+    let (head, behind) = first_word(line);
+    later_words(alloc, way, head, behind)
 }
 
 /// Refuses a line that has too many before it, or is too long.
@@ -70,21 +71,20 @@ pub(crate) fn judge_size(number: u32, line: &[u8]) -> Result<(), LineWhat>
     Ok(())
 }
 
-fn first_words(words: &[&[u8]]) -> Result<Phase, LineWhat>
-    ensures { result ≡ first_words (map (λ word. word.now) words.now) }
+fn first_words(head: &[u8], behind: Behind) -> Result<Phase, LineWhat>
+    ensures { result ≡ first_words (head.now ∷ words_behind behind.entry) }
 {
-    match words {
-        [head, args @ ..] if is(head, "phase") => phase_args(args),
-        _ => Err(LineWhat::Unknown),
+    if is(head, "phase") {
+        read_phase(behind)
+    } else {
+        Err(LineWhat::Unknown)
     }
 }
 
-fn phase_args(args: &[&[u8]]) -> Result<Phase, LineWhat>
-    ensures { result ≡ phase_said (map (λ word. word.now) args.now) }
+fn read_phase(behind: Behind) -> Result<Phase, LineWhat>
+    ensures { result ≡ phase_said (words_behind behind.entry) }
 {
-    let [word] = args else {
-        return Err(LineWhat::Words);
-    };
+    let word = behind.one().ok_or(LineWhat::Words)?;
     if is(word, "op") {
         Ok(Phase::Op)
     } else if is(word, "urb") {
@@ -94,31 +94,26 @@ fn phase_args(args: &[&[u8]]) -> Result<Phase, LineWhat>
     }
 }
 
-fn later_words(alloc: Global, way: Dir, words: &[&[u8]]) -> Result<Line, LineStop>
-    ensures read { IsRead result (later_words way (map (λ word. word.now) words.now)) }
+fn later_words(alloc: Global, way: Dir, head: &[u8], behind: Behind) -> Result<Line, LineStop>
+    ensures read { IsRead result (later_words way (head.now ∷ words_behind behind.entry)) }
     ensures short { IfOk result IsShortLine }
 {
-    let [head, args @ ..] = words else {
-        return Err(LineStop::Wrong(LineWhat::Unknown));
-    };
     if is(head, "bytes") {
-        return bytes_args(alloc, args);
+        return read_bytes(alloc, behind);
     }
     match way {
-        Dir::In if is(head, "submit") => Ok(Line::Adds(submit_args(args)?)),
-        Dir::In if is(head, "unlink") => Ok(Line::Adds(unlink_args(args)?)),
+        Dir::In if is(head, "submit") => Ok(Line::Adds(read_submit(behind)?)),
+        Dir::In if is(head, "unlink") => Ok(Line::Adds(read_unlink(behind)?)),
         _ => Err(LineStop::Wrong(LineWhat::Unknown)),
     }
 }
 
-fn submit_args(args: &[&[u8]]) -> Result<Outstanding, LineWhat>
-    ensures said { result ≡ submit_said (map (λ word. word.now) args.now) }
+fn read_submit(behind: Behind) -> Result<Outstanding, LineWhat>
+    ensures said { result ≡ submit_said (words_behind behind.entry) }
     ensures short { IfOk result IsShort }
 {
-    let [number, way, size] = args else {
-        return Err(LineWhat::Words);
-    };
-    let dir = dir_word(way).ok_or(LineWhat::Words)?;
+    let (number, dir, size) = behind.three().ok_or(LineWhat::Words)?;
+    let dir = read_dir(dir).ok_or(LineWhat::Words)?;
     let seqnum = read_number(number).ok_or(LineWhat::Number)?;
     let length = read_length(size).ok_or(LineWhat::Number)?;
     Ok(Outstanding::Submit {
@@ -140,7 +135,8 @@ fn read_length(word: &[u8]) -> Option<u32>
     Some(size)
 }
 
-fn dir_word(word: &[u8]) -> Option<Dir>
+/// The direction of a submit.
+fn read_dir(word: &[u8]) -> Option<Dir>
     ensures { result ≡ dir_of word.now }
 {
     if is(word, "in") {
@@ -152,24 +148,20 @@ fn dir_word(word: &[u8]) -> Option<Dir>
     }
 }
 
-fn unlink_args(args: &[&[u8]]) -> Result<Outstanding, LineWhat>
-    ensures said { result ≡ unlink_said (map (λ word. word.now) args.now) }
+fn read_unlink(behind: Behind) -> Result<Outstanding, LineWhat>
+    ensures said { result ≡ unlink_said (words_behind behind.entry) }
     ensures short { IfOk result IsShort }
 {
-    let [number] = args else {
-        return Err(LineWhat::Words);
-    };
+    let number = behind.one().ok_or(LineWhat::Words)?;
     let seqnum = read_number(number).ok_or(LineWhat::Number)?;
     Ok(Outstanding::Unlink { seqnum })
 }
 
-fn bytes_args(alloc: Global, args: &[&[u8]]) -> Result<Line, LineStop>
-    ensures read { IsRead result (bytes_said (map (λ word. word.now) args.now)) }
+fn read_bytes(alloc: Global, behind: Behind) -> Result<Line, LineStop>
+    ensures read { IsRead result (bytes_said (words_behind behind.entry)) }
     ensures short { IfOk result IsShortLine }
 {
-    let [word] = args else {
-        return Err(LineStop::Wrong(LineWhat::Words));
-    };
+    let word = behind.one().ok_or(LineWhat::Words)?;
     let piece = octets_of(alloc, word)?.ok_or(LineWhat::Hex)?;
     Ok(Line::Bytes(piece))
 }

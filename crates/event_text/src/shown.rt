@@ -47,9 +47,9 @@ fn text_of(alloc: Global, way: Dir, source: &[u8]) -> Result<Vec<u8>, LineFault>
         });
     }
     let (first, mut rest) = first_line(source);
-    let phase = match read_first(alloc, first) {
+    let phase = match read_first(first) {
         Ok(phase) => phase,
-        Err(stop) => return Err(stop.at(1)),
+        Err(what) => return Err(LineFault::At { line: 1, what }),
     };
     let mut reading = Reading::new(alloc, way, phase)?;
     let mut text = Vec::new(alloc);
@@ -75,10 +75,10 @@ fn put_line(
     line: &[u8],
     text: &mut Vec<u8>,
 ) -> Result<(), LineStop>
-    requires { IsSound reading.old.reader reading.old.dirs reading.old.rest }
+    requires { IsSound reading.old.reader reading.old.dirs reading.old.refused }
     ensures put { LinePut way number line.now (standing_of reading.old.reader reading.old.dirs) text.old.items result
         (standing_of reading.new.reader reading.new.dirs) text.new.items }
-    ensures sound { OnOk result (IsSound reading.new.reader reading.new.dirs reading.new.rest) }
+    ensures sound { OnOk result (IsSound reading.new.reader reading.new.dirs reading.new.refused) }
 {
     match read_later(*text.allocator(), way, number, line)? {
         Line::Adds(entry) => reading.add(entry)?,

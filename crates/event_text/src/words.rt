@@ -1,12 +1,13 @@
 //! Lines, words, numbers and HEX.
 
-ghost use Rattle.std.specs.Prelude.{◌≡◌, ◌==◌, ◌<◌, ◌∷◌, length, map, Some, None, IfOk};
+ghost use Rattle.std.specs.Prelude.{◌≡◌, ◌==◌, ◌<◌, ◌∷◌, ◌++◌, length, Some, None, IfOk, MatchOption};
 ghost use Rattle.std.specs.Char.{is_ascii_uppercase};
-ghost use Rattle.std.specs.List.{list_any, position};
+ghost use Rattle.std.specs.List.{AllByRecursion, list_any, position};
 ghost use Rattle.std.specs.Str.{bytes_eq};
-ghost use Rattle.event_text.specs.Words.{lines_of, words_of, number_of, bytes_of};
+ghost use Rattle.event_text.specs.Words.{IsInside, lines_of, number_of, bytes_of};
 ghost use Rattle.event_text.specs.Read.{starts_plain, HexRead, Decoded};
 
+use memchr::memchr;
 use std::alloc::Global;
 use tmc_base::{Memory, Octets};
 
@@ -14,26 +15,28 @@ use tmc_base::{Memory, Octets};
 pub(crate) fn place_of(bytes: &[u8], value: u8) -> Option<usize>
     ensures { result ≡ position (λ byte. byte == value) bytes.now }
 {
-    bytes.iter().position(|byte| *byte == value)
+    memchr(value, bytes)
 }
 
-/// The first line without its NL, and what stands behind the NL.
+/// The first line that an NL ends, without it, and what stands behind the NL.
+pub fn split_line(bytes: &[u8]) -> Option<(&[u8], &[u8])>
+    ensures { MatchOption result (AllByRecursion IsInside bytes.now)
+        (λ cut. AllByRecursion IsInside cut.0.now × (bytes.now ≡ cut.0.now ++ 10 ∷ cut.1.now)) }
+{
+    let at = memchr(b'\n', bytes)?;
+    Some((&bytes[..at], &bytes[at + 1..]))
+}
+
+/// The first line without its NL, which the last may lack, and what stands behind the NL.
 pub(crate) fn first_line(source: &[u8]) -> (&[u8], &[u8])
     requires { 0 < length source.now }
     ensures cut { lines_of source.now ≡ result.0.now ∷ lines_of result.1.now }
     ensures shorter { length result.1.now < length source.now }
 {
-    match place_of(source, b'\n') {
-        Some(at) => (&source[..at], &source[at + 1..]),
+    match split_line(source) {
+        Some(cut) => cut,
         None => (source, &[]),
     }
-}
-
-/// The words of a line.
-pub(crate) fn words(alloc: Global, line: &[u8]) -> Result<Vec<&[u8]>, Memory>
-    ensures { IfOk result (λ words. map (λ word. word.now) words.items ≡ words_of line.now) }
-{
-    Ok(line.split(|byte| *byte == b' ').collect(alloc)?)
 }
 
 /// Whether a word is this one.

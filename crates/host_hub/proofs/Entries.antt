@@ -80,12 +80,12 @@ found_there s past k h =
 
 -- ---- which answers may come
 
-as_submit : (s : Setting) (n : ℕ) (order : Order) → is_unlink order ≡ false
+pub as_submit : (s : Setting) (n : ℕ) (order : Order) → is_unlink order ≡ false
     → dirs.submit_of (Some (entry_of (sent_by (message_of s n order)))) ≡ Some (way_of order, size_of s.ends order)
 as_submit s n (Unlink target) h = clash (sym h)
 as_submit s n order h = refl
 
-as_unlink : (s : Setting) (n : ℕ) (order : Order) → dirs.is_unlink (Some (entry_of (sent_by (message_of s n order)))) ≡ is_unlink order
+pub as_unlink : (s : Setting) (n : ℕ) (order : Order) → dirs.is_unlink (Some (entry_of (sent_by (message_of s n order)))) ≡ is_unlink order
 as_unlink s n (Unlink target) = refl
 as_unlink s n order = refl
 

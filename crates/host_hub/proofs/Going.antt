@@ -44,6 +44,7 @@ use Rattle.host_hub.specs.Outstanding.{Sent, awaited_by, outstanding}
 use Rattle.host_hub.specs.Pieces.{Piece, data_in, does_count, extended, pieces}
 use Rattle.host_hub.specs.Plan.{message_end}
 use Rattle.host_hub.specs.Tied.{bytes_of, spelled}
+use Rattle.host_hub.proofs.Answering.{ends_fine}
 use Rattle.host_hub.proofs.Assembled.{faultless}
 use Rattle.host_hub.proofs.InHand.{head_of, is_submit, reads_is}
 use Rattle.host_hub.proofs.Joining.{Expected, Laws, Reading, bytes_in, entries_same, expected, extended_full, extended_short, is_read_of, joined_asked, joined_given, joined_settles, joined_stopped, joined_took, joined_wrote, joint_now, next_answer, not_read_of, reading, unlink_never}
@@ -65,19 +66,9 @@ abbrev size_in : Hand → ℕ
 size_in (Reads last message tag size sofar read) = size
 size_in hand = 0
 
--- ---- the one submit that is out is not early
-
-before_one : (ends : Ends) (t n : ℕ) (k : Order) → is_before ends t n k (record { number = n; owner = Of t; order = k } ∷ []) ≡ false
-before_one ends t n k =
-    ap (λ (b : Bool). (is_of t (Of t) && (is_bulk k && (b && same_endpoint ends k k))) || false) (le-ltb n n (omega arith))
-    ∙ (ap (λ (b : Bool). (is_of t (Of t) && b) || false) (and_false (is_bulk k)) ∙ ap (λ (b : Bool). b || false) (and_false (is_of t (Of t))))
+-- ---- the answer to the one submit that is out
 
 module _ (s : Setting) (past : Past) (head : RetSubmitHead) (bytes : List ℕ) (a : Answered past head) where
-  not_early : comes_early s.ends (record { number = a.number; owner = Of a.ticket; order = a.order }) (Of a.ticket) (outstanding past) ≡ false
-  not_early =
-      ap (λ (xs : List Sent). is_bulk a.order && is_before s.ends a.ticket a.number a.order xs) a.was
-      ∙ (ap (λ (b : Bool). is_bulk a.order && b) (before_one s.ends a.ticket a.number a.order) ∙ and_false (is_bulk a.order))
-
   out_whole : (k : Order) → IsPlainOrder k → (k ≡ Read → ⊥) → head.actual ≡ size_of s.ends k → refused s a.ticket k past head bytes ≡ None
   out_whole (Part tag text eom) p other e =
       ap (λ (b : Bool). if b then Some (record { layer = layer.Urb; name = name.ActualLength; offset = 24 }) else None)
@@ -94,10 +85,7 @@ module _ (s : Setting) (past : Past) (head : RetSubmitHead) (bytes : List ℕ) (
 
   -- it is judged by its order, where that is not refused
   by_order : head.status ≡ pos 0 → refused s a.ticket a.order past head bytes ≡ None → ends_by s past (down.RetSubmit head bytes) ≡ None
-  by_order e none =
-      ap (λ (o : Option Sent). submit_ends s o past head bytes) a.found
-      ∙ (ap (λ (b : Bool). if b then Some (end.PeerFault number_field) else if is_gone head.status then Some end.Unplugged else owned_ends s (Of a.ticket) a.order past head bytes) not_early
-      ∙ (ap (λ (z : ℤ). if is_gone z then Some end.Unplugged else if int_eq z (pos 0) then as_end (refused s a.ticket a.order past head bytes) else None) e ∙ ap as_end none))
+  by_order e none = ends_fine s past head bytes a e ∙ ap as_end none
 
   read_whole : (b : Asking) → asking_of a.ticket past ≡ Some b → (r : Reading s past a.ticket b) → first_fault (transfer_faults (extended head bytes r.piece)) ≡ None
       → refused s a.ticket Read past head bytes ≡ None

@@ -1,5 +1,5 @@
 -- the submit that is out is answered
-use Rattle.std.proofs.Common.{◌≡◌, ◌≤◌, ◌<◌, ℕ, ◌+◌, ◌-◌, zero, suc, Bool, true, false, List, [], ◌∷◌, ◌++◌, length, Option, Some, None, refl, sym, subst, ◌∙◌, ap, arith}
+use Rattle.std.proofs.Common.{◌≡◌, ◌≤◌, ◌<◌, ℕ, ◌+◌, Bool, true, false, List, [], ◌∷◌, ◌++◌, length, Some, None, refl, sym, subst, ◌∙◌, ap, arith}
 use Rattle.std.specs.Prelude.{◌==◌, is_some, if◌then◌else◌}
 use Rattle.std.proofs.lemmas.Bool.{eqb-true}
 use Rattle.usbip_wire.specs.declared.ret_submit.RetSubmitHead.{RetSubmitHead}
@@ -114,7 +114,7 @@ taken_fits s past all core head bytes h =
 
 -- ---- the outbox is empty
 
-one_entry : (es : List Entry) (x : Awaited) → awaited es ≡ x ∷ [] → (e : Entry) × (es ≡ e ∷ [])
+pub one_entry : (es : List Entry) (x : Awaited) → awaited es ≡ x ∷ [] → (e : Entry) × (es ≡ e ∷ [])
 one_entry [] x h = absurd (no h)
   where
     no : [] ≡ x ∷ [] → ⊥
@@ -129,7 +129,7 @@ none_long : (xs : List ℕ) → length xs ≡ 0 → xs ≡ []
 none_long [] e = refl
 none_long (x ∷ xs) e = absurd (omega (arith, e))
 
-all_gone : (e : Entry) (n : ℕ) → is_some (dirs.submit_of (dirs.find n (entries_of (sent (e ∷ []))))) ≡ true → e.unsent ≡ 0
+pub all_gone : (e : Entry) (n : ℕ) → is_some (dirs.submit_of (dirs.find n (entries_of (sent (e ∷ []))))) ≡ true → e.unsent ≡ 0
 all_gone e n h = step (e.unsent == 0) refl h
   where
     step : (b : Bool) → (e.unsent == 0) ≡ b → is_some (dirs.submit_of (dirs.find n (entries_of (if b then awaited_of e.message ∷ [] else [])))) ≡ true → e.unsent ≡ 0

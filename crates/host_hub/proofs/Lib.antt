@@ -18,6 +18,9 @@ pub mod Dones
 pub mod Taken
 pub mod Heard
 pub mod Falls
+pub mod Sends
+pub mod Failing
+pub mod Leaving
 pub mod Givings
 pub mod Lawful
 pub mod Numbers
@@ -50,5 +53,12 @@ pub mod Polls
 pub mod Plain
 pub mod InHand
 pub mod Joining
+pub mod Answering
+pub mod Makes
+pub mod Counts
+pub mod Takings
+pub mod Readings
+pub mod Failed
+pub mod Requested
 pub mod Going
 pub mod Owns

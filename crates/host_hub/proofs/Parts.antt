@@ -1,6 +1,5 @@
 -- a message goes on with its next part
-use Rattle.std.proofs.Common.{◌≡◌, ◌≤◌, ◌<◌, ℕ, ◌+◌, zero, suc, Bool, true, false, List, [], ◌∷◌, ◌++◌, length, Option, Some, None, refl, sym, subst, ◌∙◌, ap, arith}
-use Rattle.std.specs.Prelude.{nat_le, ◌*◌}
+use Rattle.std.proofs.Common.{◌≡◌, ◌≤◌, ◌<◌, ℕ, ◌+◌, Bool, List, [], ◌∷◌, Some, refl, sym, subst, ◌∙◌, ap, arith}
 use Rattle.host_urbs.specs.declared.limits.TheConstants.{LAST_SUBMIT}
 use Rattle.host_urbs.specs.Held.{Held}
 use Rattle.host_transfers.specs.Tags.{tag_behind}
@@ -8,15 +7,13 @@ use Rattle.host_hub.specs.declared.hub_core.HubCore.{HubCore}
 use Rattle.host_hub.specs.declared.hub_core.Phase.TheVariants as phase
 use Rattle.host_hub.specs.declared.outcome.End.TheVariants as end
 use Rattle.host_hub.specs.BookSeen.{BookSeen, Seen, ticket_of}
-use Rattle.host_hub.specs.Order.{Order, Part, Setting, is_unlink, size_of}
+use Rattle.host_hub.specs.Order.{Order, Setting, size_of}
 use Rattle.host_hub.specs.Record.{Asking, Past, Of, Stopped, Wrote, next}
-use Rattle.host_hub.specs.Book.{asking_of, live}
-use Rattle.host_hub.specs.Hand.{is_of}
-use Rattle.host_hub.specs.Pieces.{opened, pieces}
-use Rattle.host_hub.specs.Plan.{follows, last, next_tag, part_of, parts}
+use Rattle.host_hub.specs.Book.{live}
+use Rattle.host_hub.specs.Plan.{next_tag, part_of}
 use Rattle.host_hub.specs.Steps.{settle_all, wrote}
 use Rattle.host_hub.specs.Knows.{Knows}
-use Rattle.host_hub.specs.Stands.{GoesTo, IsOut, Rests}
+use Rattle.host_hub.specs.Stands.{GoesTo, Rests}
 use Rattle.host_hub.specs.Writes.{CanPart, Ends, GoesOn, PartIsNext, Puts}
 use Rattle.host_hub.proofs.Lists.{own}
 use Rattle.host_hub.proofs.Begins.{asking_seen, exhausted_kept, none_entries, same_next, same_tag, stopped_goes}
@@ -25,7 +22,7 @@ use Rattle.host_hub.proofs.Nexts.{IsNext, behind, next_kept, next_knows, next_ou
 
 -- ---- what is seen of the ticket is what it asks for
 
-same_asking : (a b : Asking) → Some a ≡ Some b → a ≡ b
+pub same_asking : (a b : Asking) → Some a ≡ Some b → a ≡ b
 same_asking a b e = cc
 
 pub seen_asks : (s : Setting) (past : Past) (sent : List ℕ) (core : HubCore) (asking : Asking) (split : Bool) (seen : Seen) → GoesOn s past sent core asking split

@@ -1,6 +1,5 @@
 -- an answer to the submit of the active ticket is taken
-use Rattle.std.proofs.Common.{◌≡◌, ◌≢◌, ◌≤◌, ◌<◌, ℕ, pos, ◌+◌, ◌-◌, zero, suc, Bool, true, false, List, [], ◌∷◌, ◌++◌, length, Option, Some, None, refl, sym, subst, ◌∙◌, ap, arith}
-use Rattle.std.specs.Prelude.{◌==◌, if◌then◌else◌}
+use Rattle.std.proofs.Common.{◌≡◌, ◌≤◌, ℕ, pos, ◌+◌, ◌-◌, Bool, false, List, [], ◌∷◌, ◌++◌, length, Some, None, refl, sym, ◌∙◌, ap, arith}
 use Rattle.usbip_wire.specs.declared.ret_submit.RetSubmitHead.{RetSubmitHead}
 use Rattle.usbip_wire.specs.Down as down
 use Rattle.host_urbs.specs.Held.{Held, Follows}
@@ -9,19 +8,17 @@ use Rattle.host_urbs.specs.Record as urbs
 use Rattle.host_hub.specs.declared.hub_core.HubCore.{HubCore}
 use Rattle.host_hub.specs.BookSeen.{BookSeen, Seen, ticket_of}
 use Rattle.host_hub.specs.BookChanges.{with_seen}
-use Rattle.host_hub.specs.Order.{Order, Setting, is_listen, size_of}
+use Rattle.host_hub.specs.Order.{Order, Setting, is_listen}
 use Rattle.host_hub.specs.Record.{Asking, Past, Of, Took, taken}
 use Rattle.host_hub.specs.Crossings.{crossings}
-use Rattle.host_hub.specs.Hand.{ended, is_of}
+use Rattle.host_hub.specs.Hand.{ended}
 use Rattle.host_hub.specs.Outstanding.{Sent, find, others, outstanding}
-use Rattle.host_hub.specs.Book.{active, asking_of}
-use Rattle.host_hub.specs.Pieces.{answered_for, data_in, got, pieces}
+use Rattle.host_hub.specs.Pieces.{got}
 use Rattle.host_hub.specs.Made.{made_at}
 use Rattle.host_hub.specs.Needs.{split_at}
 use Rattle.host_hub.specs.Ends.{end_due, ends_by}
 use Rattle.host_hub.specs.Shown.{ShowsBook, ShowsTicket}
-use Rattle.host_hub.specs.Law.{Kept}
-use Rattle.host_hub.specs.Steps.{Comes, IsClean, Working, took}
+use Rattle.host_hub.specs.Steps.{Comes, took}
 use Rattle.host_hub.specs.Knows.{Knows}
 use Rattle.host_hub.specs.OneOut.{OneOut}
 use Rattle.host_hub.specs.Stands.{IsOut, Rests}
@@ -37,7 +34,7 @@ pub one_found : (t n : ℕ) (k : Order) (m : ℕ) (xs : List Sent) → xs ≡ re
     → find m xs ≡ Some (record { number = n; owner = Of t; order = k })
 one_found t n k m xs is same = rw is (rw same (rw (own n) refl))
 
-none_left : (t n : ℕ) (k : Order) (m : ℕ) (xs : List Sent) → xs ≡ record { number = n; owner = Of t; order = k } ∷ [] → m ≡ n → others m xs ≡ []
+pub none_left : (t n : ℕ) (k : Order) (m : ℕ) (xs : List Sent) → xs ≡ record { number = n; owner = Of t; order = k } ∷ [] → m ≡ n → others m xs ≡ []
 none_left t n k m xs is same = rw is (rw same (rw (own n) refl))
 
 pub out_found : (s : Setting) (past : Past) (core : HubCore) (asking : Asking) (order : Order) (split : Bool) (m : ℕ) → (o : IsOut s past core asking order split) → m ≡ o.number

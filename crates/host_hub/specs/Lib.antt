@@ -33,6 +33,8 @@ pub mod Stands
 pub mod Writes
 pub mod Asks
 pub mod Hears
+pub mod Leaves
+pub mod Fed
 pub mod Owned
 pub mod Worked
 pub mod WorkedStops

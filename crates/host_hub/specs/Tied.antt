@@ -1,5 +1,5 @@
 -- a record and the bytes of a link
-use Rattle.std.specs.Prelude.{◌≡◌, ◌≢◌, ◌↔◌, ℕ, ◌+◌, ◌<◌, nat_lt, Bool, true, false, Option, Some, None, List, [], ◌∷◌, ◌++◌, length, take, drop, if◌then◌else◌}
+use Rattle.std.specs.Prelude.{◌≡◌, ◌≢◌, ◌↔◌, ℕ, ◌+◌, ◌<◌, ◌≤◌, nat_lt, Bool, true, false, Option, Some, None, List, [], ◌∷◌, ◌++◌, length, take, drop, if◌then◌else◌}
 use Rattle.tmc_base.specs.declared.field.Field.{Field}
 use Rattle.usbip_wire.specs.declared.dirs.Outstanding.{Outstanding}
 use Rattle.usbip_wire.specs.declared.down.DownPhase.TheVariants.{Urbs}
@@ -49,6 +49,7 @@ pub record Tied (s : Setting) (past : Past) (sent outbox received rest : List �
 
 -- so many of the messages were sent whole, and of the next one not all
 pub record AreSent (s : Setting) (past : Past) (sent : List ℕ) (count : ℕ) : Type 0 where
+  pub among : count ≤ length (written s past)
   pub part : List ℕ
   pub sent_so_far : sent ≡ spelled (take count (written s past)) ++ part
   pub next : (message : up.Message) (more : List up.Message) → drop count (written s past) ≡ message ∷ more → length part < length (bytes_of message)

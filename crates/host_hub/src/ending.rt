@@ -36,6 +36,7 @@ impl HubCore {
         requires { HasBook self.old }
         ensures goes { (s : Setting) (past : Past) (sent : List ℕ) → KeepsBook past → Knows s past sent self.old
             → Knows s (settle_all end (live past) past) sent self.new }
+        ensures births { self.new.notes.births ≡ self.old.notes.births }
         ensures rest { self.new ≡ record self.old { book = self.new.book; notes = self.new.notes; active = self.new.active } }
     {
         let outcome = outcome_of(end);
@@ -51,6 +52,7 @@ impl HubCore {
         ensures goes { (s : Setting) (past : Past) (sent : List ℕ) → KeepsBook past → Knows s past sent self.old
             → Knows s (settle_all end (live past) (Stopped end ∷ past)) sent self.new }
         ensures ended { self.new.end ≡ Some end }
+        ensures births { self.new.notes.births ≡ self.old.notes.births }
         ensures rest { self.new ≡ record self.old { book = self.new.book; notes = self.new.notes; active = self.new.active; end = self.new.end } }
     {
         self.end = Some(end);

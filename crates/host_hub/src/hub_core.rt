@@ -6,6 +6,7 @@ ghost use Rattle.host_hub.specs.Book.{active};
 ghost use Rattle.host_hub.specs.BookRoom.{is_open};
 ghost use Rattle.host_hub.specs.Knows.{HasActive, HasRecord, Knows, mark_of};
 ghost use Rattle.host_hub.specs.Stands.{Rests};
+ghost use Rattle.host_hub.specs.Fed.{Reads};
 
 use crate::book::Book;
 use crate::notes::{Mark, Notes};
@@ -63,6 +64,7 @@ impl HubCore {
     pub(crate) fn new(alloc: Global, devid: u32, ends: Ends, first: u32) -> Result<HubCore, Memory>
         requires { 1 ≤ first }
         ensures rests { IfOk result (λ core. Rests (record { first = first; devid = devid; ends = ends; depth = 1 }) [] [] core) }
+        ensures reads { IfOk result (λ core. Reads [] core) }
         ensures turned { IfOk result (λ core. core.turned ≡ 0) }
     {
         Ok(HubCore {
@@ -112,6 +114,7 @@ impl HubCore {
         requires settled { is_open outcome ≡ false }
         ensures goes { (s : Setting) (past : Past) (sent : List ℕ) → active past ≡ Some self.old.active → Knows s past sent self.old
             → Knows s (Settled self.old.active outcome ∷ past) sent self.new }
+        ensures births { self.new.notes.births ≡ self.old.notes.births }
         ensures rest { self.new ≡ record self.old { book = self.new.book; notes = self.new.notes; active = self.old.active + 1 } }
     {
         let mark = self.mark();

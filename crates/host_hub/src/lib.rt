@@ -9,6 +9,7 @@ mod asking;
 mod book;
 mod ending;
 mod facts;
+mod feeding;
 mod hearing;
 mod hub_core;
 mod kind;

@@ -92,8 +92,9 @@ pub fn a_hub_waits()
         → is_begun ticket past ≡ true → Speaks past ticket asking → awaits ticket past ≢ [] → busy (outstanding past) ≢ [] → Kept setting past }
 {}
 
-/// A hub ends: by an answer, by any other law of its end, or since it is given up. Every live ticket settles by that, in
-/// their order, and nothing is owed.
+/// A hub ends: by an answer, by any other law of its end, or since it is given up; and where an answer makes an outcome of its
+/// ticket, and is one from which the hub does not recover, behind that outcome. Every live ticket settles by the end, in their
+/// order, and nothing is owed.
 pub fn a_hub_ends()
     ensures fell { (setting : Setting) (past : Past) (answer : down.Message) (e : End) → Kept setting past → ended past ≡ None
         → MayTake (crossings setting past) answer → ends_by setting past answer ≡ Some e → Kept setting (settle_all e (live past) (Fell answer e ∷ past)) }
@@ -101,6 +102,10 @@ pub fn a_hub_ends()
         → Kept setting (settle_all e (live past) (Stopped e ∷ past)) }
     ensures given_up { (setting : Setting) (past : Past) → Kept setting past → ended past ≡ None
         → Kept setting (settle_all end.GivenUp (live past) (Stopped end.GivenUp ∷ GaveUp ∷ past)) }
+    ensures failed { (setting : Setting) (past : Past) (ticket number : ℕ) (order : Order) (outcome : Outcome) (head : RetSubmitHead) (bytes : List ℕ) (e : End)
+        → Kept setting past → ended past ≡ None → Comes setting past ticket number order head bytes
+        → made_at setting ticket past (Took (down.RetSubmit head bytes)) ≡ Some outcome → end_due (took past head bytes) ≡ Some e
+        → Kept setting (settle_all e (live (Settled ticket outcome ∷ took past head bytes)) (Stopped e ∷ Settled ticket outcome ∷ took past head bytes)) }
 {}
 
 /// A ticket in hand that has no trouble stays so: as it begins, with each further submit and each answer with status 0, as

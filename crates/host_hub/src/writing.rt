@@ -15,6 +15,7 @@ ghost use Rattle.tmc_wire.specs.Standard.{header_size};
 ghost use Rattle.host_hub.specs.BookSeen.{Seen, ticket_of};
 ghost use Rattle.host_hub.specs.Plan.{part_of};
 ghost use Rattle.host_hub.specs.Record.{Asking, Past};
+ghost use Rattle.host_hub.specs.Leaves.{Leaves};
 ghost use Rattle.host_hub.specs.Stands.{GoesTo};
 ghost use Rattle.host_hub.specs.Writes.{CanPart, Ends, CanRequest, CanWrite, Done, IsDone, IsPartNext, IsReadNext, IsReady, IsRequestNext, PartIsNext, Puts, ReadIsNext, Ready, RequestIsNext};
 
@@ -77,7 +78,8 @@ impl HubCore {
     /// Goes on to the next ticket, where there is one, and idles else.
     pub(crate) fn go_on(&mut self)
         requires { IsDone self.old }
-        ensures { (s : Setting) (past : Past) (sent : List ℕ) → Done s past sent self.old → GoesTo s past sent self.new }
+        ensures goes { (s : Setting) (past : Past) (sent : List ℕ) → Done s past sent self.old → GoesTo s past sent self.new }
+        ensures leaves { Leaves self.old self.new }
     {
         if self.active > self.book.tickets() {
             self.phase = Phase::Idle;
@@ -89,7 +91,8 @@ impl HubCore {
     /// Begins the active ticket. Where there is no number for its submit, the hub ends.
     pub(crate) fn begin(&mut self)
         requires { IsReady self.old }
-        ensures { (s : Setting) (past : Past) (sent : List ℕ) → Ready s past sent self.old → GoesTo s past sent self.new }
+        ensures goes { (s : Setting) (past : Past) (sent : List ℕ) → Ready s past sent self.old → GoesTo s past sent self.new }
+        ensures leaves { Leaves self.old self.new }
     {
         if self.urbs.next() > LAST_SUBMIT {
             self.stop(End::Exhausted);
@@ -104,7 +107,8 @@ impl HubCore {
     /// Goes on with the message of the active ticket. Where there is no number for the submit, the hub ends.
     pub(crate) fn next_part(&mut self)
         requires { IsPartNext self.old }
-        ensures { (s : Setting) (past : Past) (sent : List ℕ) → PartIsNext s past sent self.old → GoesTo s past sent self.new }
+        ensures goes { (s : Setting) (past : Past) (sent : List ℕ) → PartIsNext s past sent self.old → GoesTo s past sent self.new }
+        ensures leaves { Leaves self.old self.new }
     {
         if self.urbs.next() > LAST_SUBMIT {
             self.stop(End::Exhausted);
@@ -154,7 +158,8 @@ impl HubCore {
     /// ends.
     pub(crate) fn request(&mut self)
         requires { IsRequestNext self.old }
-        ensures { (s : Setting) (past : Past) (sent : List ℕ) → RequestIsNext s past sent self.old → GoesTo s past sent self.new }
+        ensures goes { (s : Setting) (past : Past) (sent : List ℕ) → RequestIsNext s past sent self.old → GoesTo s past sent self.new }
+        ensures leaves { Leaves self.old self.new }
     {
         if self.urbs.next() > LAST_SUBMIT {
             self.stop(End::Exhausted);
@@ -195,7 +200,8 @@ impl HubCore {
     /// Reads on in the piece that was requested. Where there is no number for the submit, the hub ends.
     pub(crate) fn read(&mut self)
         requires { IsReadNext self.old }
-        ensures { (s : Setting) (past : Past) (sent : List ℕ) → ReadIsNext s past sent self.old → GoesTo s past sent self.new }
+        ensures goes { (s : Setting) (past : Past) (sent : List ℕ) → ReadIsNext s past sent self.old → GoesTo s past sent self.new }
+        ensures leaves { Leaves self.old self.new }
     {
         if self.urbs.next() > LAST_SUBMIT {
             self.stop(End::Exhausted);

@@ -14,7 +14,7 @@ use Rattle.host_joint.specs.Asking.{Asking, SentReads}
 use Rattle.host_joint.proofs.Parts.{ask_of}
 use Rattle.host_joint.proofs.Counting.{all_past, not_inner, not_final}
 use Rattle.host_joint.proofs.Listing.{last_more}
-use Rattle.host_joint.proofs.Hosting.{inner_final, inner_request, asks_next, sent-append, sent_one, sent_same, unlinks_same}
+use Rattle.host_joint.proofs.Sending.{inner_final, inner_request, asks_next, sent-append, sent_one, sent_same, unlinks_same}
 use Rattle.host_joint.proofs.Setting.{NotAsked, sets_request}
 use Rattle.host_joint.proofs.Handing.{last_left}
 

@@ -115,7 +115,7 @@ read_keeps laws last message sofar asked unlinks unlinking run s t move ups down
   some = h.some;
 }
 
-empty_at : (asked : Endpoint → List SubmitHead) (ups : List up.Message) (downs : List Put) (s : State) (e : Endpoint) → Lines asked [] ups downs s → asked e ≡ [] → EmptyLine e ups downs s
+pub empty_at : (asked : Endpoint → List SubmitHead) (ups : List up.Message) (downs : List Put) (s : State) (e : Endpoint) → Lines asked [] ups downs s → asked e ≡ [] → EmptyLine e ups downs s
 empty_at asked ups downs s e lines none = all_answered asked e ups downs s lines none
 
 pub stands_keeps : (position : Position) → IsClosed position → Keeps (λ ups downs s. IsAt position s) (asked_of None) []
@@ -128,7 +128,7 @@ plugged_of : (move : Move) → move ≢ Unplug → IsPlugged move
 plugged_of Unplug h = h refl
 plugged_of _ h = tt
 
-control_only : (head : SubmitHead) (ups : List up.Message) (downs : List Put) (s : State) → head.ep ≡ 0 → Lines (asked_of (Some head)) [] ups downs s → NoBulk ups
+pub control_only : (head : SubmitHead) (ups : List up.Message) (downs : List Put) (s : State) → head.ep ≡ 0 → Lines (asked_of (Some head)) [] ups downs s → NoBulk ups
 control_only head ups downs s own lines = record {
   outs = (empty_at (asked_of (Some head)) ups downs s BulkOut lines (other_asked Control BulkOut head own (λ e. cc))).sent;
   ins = (empty_at (asked_of (Some head)) ups downs s BulkIn lines (other_asked Control BulkIn head own (λ e. cc))).sent;

@@ -13,7 +13,7 @@ use Rattle.host_joint.specs.Lines.{Sent, sent_to, sent_heads, heads, Event, Give
 use Rattle.host_joint.specs.Unlinking.{IsNamed}
 use Rattle.host_joint.proofs.Queues.{Apart, which}
 use Rattle.host_joint.proofs.Flows.{without-append, unlinks-append}
-use Rattle.host_joint.proofs.Hosting.{sent-append}
+use Rattle.host_joint.proofs.Sending.{sent-append}
 
 pub begins : (asked : Endpoint → List SubmitHead) → ((e : Endpoint) → asked e ≡ []) → Lines asked [] [] [] start
 begins asked none = record { submits = line; unlinked = refl }

@@ -30,7 +30,8 @@ use Rattle.host_joint.proofs.Flows.{all_answered}
 use Rattle.host_joint.proofs.Booking.{unlink_written, submit_answered, unlink_answered}
 use Rattle.host_joint.proofs.Numbered.{below_next}
 use Rattle.host_joint.proofs.Hosting as hosting
-use Rattle.host_joint.proofs.Hosting.{unlinks_written, out_answered, in_answered, not_nothing}
+use Rattle.host_joint.proofs.Hosting.{out_answered, in_answered, not_nothing}
+use Rattle.host_joint.proofs.Sending.{unlinks_written}
 use Rattle.host_joint.proofs.Handing.{hands_in, hands_first, hands_request, hands_none}
 use Rattle.host_joint.proofs.Transfers.{WireLaws}
 use Rattle.host_joint.proofs.Tying.{none_unlinked}

@@ -25,7 +25,7 @@ use Rattle.tmc_wire.specs.declared.header.OutHeader.{OutHeader}
 use Rattle.host_joint.proofs.Listing.{last_more}
 use Rattle.host_joint.proofs.Counting.{all_past}
 use Rattle.host_joint.proofs.Flows.{all_answered}
-use Rattle.host_joint.proofs.Hosting.{inner_final, no_mix}
+use Rattle.host_joint.proofs.Sending.{inner_final, no_mix}
 use Rattle.host_joint.proofs.Handing.{hands_none, hands_message}
 use Rattle.host_joint.proofs.Owning.{take_own}
 use Rattle.host_joint.proofs.Transfers.{WireLaws, begun_size}

@@ -46,7 +46,7 @@ no_fault bytes Size fine h = no_size fine.counted h
     no_size (inl is) h = h.0 is
     no_size (inr some) h = some h.1
 
-query_is : IsJob query_job
+pub query_is : IsJob query_job
 query_is = record {
   number = refl;
   way = refl;
@@ -84,7 +84,7 @@ read_is = record {
   sized = refl;
 }
 
-request_is : IsJob request_job
+pub request_is : IsJob request_job
 request_is = record {
   number = refl;
   way = refl;
@@ -209,3 +209,13 @@ query_read a =
     let t : State = record start { log = query_log } in
     piece_ends (record query_ask { answered = 2 }) [] response_submit (record { seqnum = 3; status = success; actual = 32 }) response_text [] t (lit< tt) refl
     (in_answered 1 (codes "*IDN?") 2 4000 (query_job ∷ request_job ∷ []) 2 [] [] false [] response_submit (record { seqnum = 3; status = success; actual = 32 }) response_text [] t refl (query_taken a))
+
+status_of : (h k : SubmitHead) (a b : RetSubmitHead) (x y : List ℕ) → Gives h a x ≡ Gives k b y → a.status ≡ b.status
+status_of h k a b x y e = let same : a ≡ b = cc in ap (λ (r : RetSubmitHead). r.status) same
+
+-- an answer that tells of a halt leaves the ask in hand
+pub not_answered : (ask : Ask) (ups : List up.Message) (head : SubmitHead) (a : RetSubmitHead) (transferred : List ℕ) (downs : List Put) (s : State) → a.status ≡ stalled → InAnswered ask ups (Gives head a transferred) downs s
+    → Asking ask ups downs s
+not_answered ask ups head a transferred downs s bad (TookFull x is full next) = let e : success ≡ stalled = sym (status_of head x.head a (record { seqnum = x.head.seqnum; status = success; actual = length x.bytes }) transferred x.bytes is) ∙ bad in absurd (cc)
+not_answered ask ups head a transferred downs s bad (TookEnd x is small end) = let e : success ≡ stalled = sym (status_of head x.head a (record { seqnum = x.head.seqnum; status = success; actual = length x.bytes }) transferred x.bytes is) ∙ bad in absurd (cc)
+not_answered ask ups head a transferred downs s bad (TookHalt shuts halted later) = later

@@ -18,7 +18,7 @@ use Rattle.host_joint.specs.Positions.{IsAt, rests, in_begun, out_begun, out_fir
 use Rattle.host_joint.proofs.Listing.{last_more}
 use Rattle.host_joint.proofs.Counting.{all_past, not_inner, not_final, not_unasked}
 use Rattle.host_joint.proofs.Parts.{ask_of}
-use Rattle.host_joint.proofs.Hosting.{inner_final, final_request, no_mix}
+use Rattle.host_joint.proofs.Sending.{inner_final, final_request, no_mix}
 
 -- no transfer is in progress where none is to be taken
 pub no_transfer : (shut gone : Bool) (todo : List Job) (coming : List OnWay) (queue : List Pending) (transfer : Option Transfer) → todo ≡ [] → OutLine shut gone todo coming queue transfer → transfer ≡ None
@@ -312,3 +312,61 @@ hands_request last message tag size front job sofar read gone ups downs s final 
   where
     unasked : (o : Option OutHeader) (t n : ℕ) → IsFinal o → o ≡ Some (Request t n) → ⊥
     unasked o t n is e = subst (λ (x : Option OutHeader). IsFinal x) e is
+
+-- ---- several transfers were not taken
+
+front_split : (front past : List Job) (job : Job) (more todo hit : List Job) → front ++ job ∷ more ≡ past ++ (todo ++ hit) → length past ≡ length front → (past ≡ front) × (todo ++ hit ≡ job ∷ more)
+front_split front past job more todo hit whole long = let both = split front past (job ∷ more) (todo ++ hit) (sym long) whole in (sym both.0, sym both.1)
+
+first_todo : (x job : Job) (more todo hit : List Job) → todo ≡ x ∷ [] → todo ++ hit ≡ job ∷ more → x ≡ job
+first_todo x job more todo hit is all = let e : x ∷ hit ≡ job ∷ more = ap (λ (l : List Job). l ++ hit) (sym is) ∙ all in cc
+
+ahead_tag : (shut gone : Bool) (job : Job) (more todo hit : List Job) (coming : List OnWay) (queue : List Pending) (transfer : Option Transfer) → todo ++ hit ≡ job ∷ more → queue ≡ []
+    → OutLine shut gone todo coming queue transfer → OutTag (tag_of job.header) transfer
+ahead_tag shut gone job more todo hit coming queue transfer all empty (Unbegun here later unshut whole come line free) = position_of.NoTransfer free
+ahead_tag shut gone job more todo hit coming queue transfer all empty (Partly x here later moved left unshut whole come bytes begun some line runs) =
+    absurd (none (sym empty ∙ line))
+  where
+    none : {p : Pending} {l : List Pending} → [] ≡ p ∷ l → ⊥
+    none e = cc
+ahead_tag shut gone job more todo hit coming queue transfer all empty (Cut x moved left was unshut whole come bytes begun some line runs) =
+    position_of.ThisTransfer (record { header = x.header; taken = moved }) runs (ap (λ (j : Job). tag_of j.header) (first_todo x job more todo hit whole all))
+ahead_tag shut gone job more todo hit coming queue transfer all empty (Shut shuts whole line free) = position_of.NoTransfer free
+
+-- the transfers from this one on were not taken, and those before it were
+pub hands_ahead : (last : ℕ) (message : List ℕ) (tag size : ℕ) (front : List Job) (job : Job) (more : List Job) (sofar read : List ℕ) (gone : Bool) (ups : List up.Message) (downs : List Put) (s : State)
+    → ((t n : ℕ) → last_header front ≡ Some (Request t n) → ⊥) → (a : Asking (ask_of last message tag size (front ++ job ∷ more) (length front) sofar read gone) ups downs s) → a.came ≡ 0
+    → s.bulk_out ≡ [] → s.bulk_in ≡ [] → IsAt (out_begun (tag_of job.header)) s
+hands_ahead last message tag size front job more sofar read gone ups downs s unasked a none outs ins =
+    let left = front_split front a.past job more a.todo a.hit a.whole (omega (arith, a.counted, none)) in
+    record {
+      bulk_out = outs;
+      bulk_in = ins;
+      running = a.calm.running;
+      side = idle last message tag size a.past a.todo sofar a.flow s (λ t n is. unasked t n (ap last_header (sym left.0) ∙ is)) a.stage;
+      out = ahead_tag s.halted.bulk_out gone job more a.todo a.hit (sent_to BulkOut ups) s.bulk_out s.transfer left.1 outs a.out;
+      waits = tt;
+      shut = tt;
+    }
+
+-- none was taken
+pub hands_none_taken : (last : ℕ) (message : List ℕ) (tag size : ℕ) (job : Job) (more : List Job) (sofar read : List ℕ) (gone : Bool) (ups : List up.Message) (downs : List Put) (s : State)
+    → (a : Asking (ask_of last message tag size (job ∷ more) 0 sofar read gone) ups downs s) → a.came ≡ 0 → s.bulk_out ≡ [] → s.bulk_in ≡ [] → IsAt (out_first (tag_of job.header)) s
+hands_none_taken last message tag size job more sofar read gone ups downs s a none outs ins =
+    let r = hands_ahead last message tag size [] job more sofar read gone ups downs s (λ t n e. nothing_asked t n e) a none outs ins in
+    record {
+      bulk_out = r.bulk_out;
+      bulk_in = r.bulk_in;
+      running = r.running;
+      side = r.side;
+      out = (r.out, no_parts last message tag size a.past a.todo sofar a.flow s (no_past a.past (a.counted ∙ omega (arith, none))) a.stage);
+      waits = tt;
+      shut = tt;
+    }
+  where
+    nothing_asked : (t n : ℕ) → None ≡ Some (Request t n) → ⊥
+    nothing_asked t n e = cc
+
+    no_past : (l : List Job) → length l ≡ 0 → l ≡ []
+    no_past [] e = refl
+    no_past (x ∷ l) e = absurd (omega (arith, e))

@@ -12,6 +12,7 @@ mod Falling
 mod Owning
 mod Counting
 mod Hosting
+mod Sending
 mod Starting
 mod Numbered
 mod Resting
@@ -47,3 +48,9 @@ mod Until
 mod UntilJoined
 mod Gone
 mod Hitting
+mod Turning
+mod AheadOf
+mod InLine
+mod Operating
+mod Triggering
+mod TriggerTied

@@ -23,7 +23,8 @@ use Rattle.host_joint.specs.Bond.{IsFit, Bond, Place, Resting, ToAbortIn, WantsP
 use Rattle.host_joint.proofs.Flows.{all_answered}
 use Rattle.host_joint.proofs.Booking.{submit_written}
 use Rattle.host_joint.proofs.Numbered.{rises_written}
-use Rattle.host_joint.proofs.Hosting.{sent-append, own_event}
+use Rattle.host_joint.proofs.Hosting.{own_event}
+use Rattle.host_joint.proofs.Sending.{sent-append}
 use Rattle.host_joint.proofs.Resting.{rests_closed, in_begun_closed, in_wants_closed, in_ended_closed, out_begun_closed, out_first_closed, out_unfinished_closed, out_aborted_closed, anything_closed, clears_closed, cleared_closed}
 use Rattle.host_joint.proofs.Tying.{TieLaws, none_unlinked}
 use Rattle.host_joint.proofs.Writing.{own_asked, other_asked, fitting_more}
@@ -91,30 +92,34 @@ order_more [] head bytes none = tt
 order_more (up.Submit x transferred ∷ ups) head bytes none = order_more ups head bytes none
 order_more (up.Unlink x ∷ ups) head bytes none = absurd (cc)
 
-write : (Before After : List up.Message → List Put → State → Type 0) (head : SubmitHead) (next : ℕ) (ups : List up.Message) (downs : List Put) (s : State) (e : Endpoint) → Fitting head → head.ep ≡ number_of e → head.seqnum ≡ next
-    → Bond Before (asked_of None) [] next ups downs s → After (ups ++ up.Submit head [] ∷ []) downs s → Bond After (asked_of (Some head)) [] (next + 1) (ups ++ up.Submit head [] ∷ []) downs s
-write Before After head next ups downs s e fits number is bond held =
-    subst (λ (n : ℕ). Bond After (asked_of (Some head)) [] (n + 1) (ups ++ up.Submit head [] ∷ []) downs s) is
+pub write_bytes : (Before After : List up.Message → List Put → State → Type 0) (head : SubmitHead) (bytes : List ℕ) (next : ℕ) (ups : List up.Message) (downs : List Put) (s : State) (e : Endpoint) → Fitting head → head.ep ≡ number_of e → head.seqnum ≡ next
+    → Bond Before (asked_of None) [] next ups downs s → After (ups ++ up.Submit head bytes ∷ []) downs s → Bond After (asked_of (Some head)) [] (next + 1) (ups ++ up.Submit head bytes ∷ []) downs s
+write_bytes Before After head bytes next ups downs s e fits number is bond held =
+    subst (λ (n : ℕ). Bond After (asked_of (Some head)) [] (n + 1) (ups ++ up.Submit head bytes ∷ []) downs s) is
     (own (subst (λ (n : ℕ). Bond Before (asked_of None) [] n ups downs s) (sym is) bond))
   where
-    own : Bond Before (asked_of None) [] head.seqnum ups downs s → Bond After (asked_of (Some head)) [] (head.seqnum + 1) (ups ++ up.Submit head [] ∷ []) downs s
+    own : Bond Before (asked_of None) [] head.seqnum ups downs s → Bond After (asked_of (Some head)) [] (head.seqnum + 1) (ups ++ up.Submit head bytes ∷ []) downs s
     own b =
-        let rises = rises_written head [] ups s b.below b.rises in
+        let rises = rises_written head bytes ups s b.below b.rises in
         let none = none_unlinked (unlinked_by downs) (unlinks_in ups) b.lines.unlinked in
         record {
           run = b.run;
           reached = b.reached;
-          lines = submit_written (asked_of None) (asked_of (Some head)) [] ups downs s e head [] number (own_asked e head number) (λ d differ. other_asked e d head number differ)
+          lines = submit_written (asked_of None) (asked_of (Some head)) [] ups downs s e head bytes number (own_asked e head number) (λ d differ. other_asked e d head number differ)
               (λ named. subst (λ (l : List UnlinkHead). IsNamed l head.seqnum) none.0 named) b.lines;
-          fitting = fitting_more ups head [] fits b.fitting;
-          order = order_more ups head [] none.1;
+          fitting = fitting_more ups head bytes fits b.fitting;
+          order = order_more ups head bytes none.1;
           fits = b.fits;
           rises = rises.0;
           below = rises.1;
           held = held;
         }
 
-coming : (e : Endpoint) (head : SubmitHead) (ups : List up.Message) → head.ep ≡ number_of e → sent_to e ups ≡ [] → sent_to e (ups ++ up.Submit head [] ∷ []) ≡ record { head = head; transferred = [] } ∷ []
+pub write : (Before After : List up.Message → List Put → State → Type 0) (head : SubmitHead) (next : ℕ) (ups : List up.Message) (downs : List Put) (s : State) (e : Endpoint) → Fitting head → head.ep ≡ number_of e → head.seqnum ≡ next
+    → Bond Before (asked_of None) [] next ups downs s → After (ups ++ up.Submit head [] ∷ []) downs s → Bond After (asked_of (Some head)) [] (next + 1) (ups ++ up.Submit head [] ∷ []) downs s
+write Before After head next ups downs s e fits number is bond held = write_bytes Before After head [] next ups downs s e fits number is bond held
+
+pub coming : (e : Endpoint) (head : SubmitHead) (ups : List up.Message) → head.ep ≡ number_of e → sent_to e ups ≡ [] → sent_to e (ups ++ up.Submit head [] ∷ []) ≡ record { head = head; transferred = [] } ∷ []
 coming e head ups is none =
     let one : sent_to e (up.Submit head [] ∷ []) ≡ record { head = head; transferred = [] } ∷ [] = rw (eq-eqb head.ep (number_of e) is) refl in
     sent-append e ups (up.Submit head [] ∷ []) ∙ ap (λ (l : List Sent). l ++ sent_to e (up.Submit head [] ∷ [])) none ∙ one
@@ -153,10 +158,10 @@ drain_written head next ups downs s is number bound =
 
 -- ---- its answer is taken
 
-no_event : {B : Type 0} (x : Event) (l : List Event) → x ∷ l ≡ [] → B
+pub no_event : {B : Type 0} (x : Event) (l : List Event) → x ∷ l ≡ [] → B
 no_event x l e = absurd (cc)
 
-one_event : (head other : SubmitHead) (a b : RetSubmitHead) (x y : List ℕ) (l : List Event) → Gives head a x ∷ l ≡ Gives other b y ∷ [] → (a ≡ b) × (x ≡ y)
+pub one_event : (head other : SubmitHead) (a b : RetSubmitHead) (x y : List ℕ) (l : List Event) → Gives head a x ∷ l ≡ Gives other b y ∷ [] → (a ≡ b) × (x ≡ y)
 one_event head other a b x y l e = (cc, cc)
 
 -- where an answer leaves the device is the place that its letter names

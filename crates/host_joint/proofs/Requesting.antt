@@ -105,27 +105,27 @@ other_ended e d st (first ∷ others) fit other =
     rest (x ∷ l) h = other_event e x.head _ _ (map (λ submit. answer_of submit.head st []) l) (number_of d) h.0.number other ∙ rest l h.1
 
 -- what a move does at the control endpoint, where it answers nothing there and nothing arrives there
-record Apart (s t : State) (puts : List Put) : Type 0 where
+pub record Apart (s t : State) (puts : List Put) : Type 0 where
   pub queue : t.control ≡ s.control
   pub events : events_of Control puts ≡ []
 
 logs_control : (e : _) (s t : State) → Logs e s t → t.control ≡ s.control
 logs_control e s t logs = ap (λ (x : State). x.control) logs.is
 
-executes : (s t : State) (puts : List Put) → puts ≡ [] → out.Executes s t → Apart s t puts
+pub executes : (s t : State) (puts : List Put) → puts ≡ [] → out.Executes s t → Apart s t puts
 executes s t puts none (out.DoesExecute seq message waits logs) = record { queue = logs_control _ _ t logs; events = ap (λ (p : List Put). events_of Control p) none }
 
-begins : (s t : State) (count : ℕ) (puts : List Put) → puts ≡ [] → «in».Begins s count t → Apart s t puts
+pub begins : (s t : State) (count : ℕ) (puts : List Put) → puts ≡ [] → «in».Begins s count t → Apart s t puts
 begins s t count puts none («in».DoesBegin tag size owes free low high logs) = record { queue = logs_control _ _ t logs; events = ap (λ (p : List Put). events_of Control p) none }
 
-notifies : (s t : State) (puts : List Put) → IsSound s → status.Notifies s puts t → Apart s t puts
+pub notifies : (s t : State) (puts : List Put) → IsSound s → status.Notifies s puts t → Apart s t puts
 notifies s t puts sound (status.Gives submit behind packet packets line there long put is) =
     let fit : FitsAt InterruptIn submit = (subst (λ (q : List Pending). AllFit InterruptIn q) line (sound.fits InterruptIn)).0 in
     record { queue = ap (λ (x : State). x.control) is; events = ap (λ (p : List Put). events_of Control p) put ∙ other_event Control submit.head _ _ [] 3 fit.number refl }
 notifies s t puts sound (status.NoRoom submit behind packet packets line there short put is) =
     record { queue = ap (λ (x : State). x.control) is; events = ap (λ (p : List Put). events_of Control p) put ∙ other_ended Control InterruptIn stalled s.interrupt_in (sound.fits InterruptIn) refl }
 
-halts_itself : (s t : State) (e : Endpoint) (puts : List Put) → IsSound s → HaltsItself s e puts t → Apart s t puts
+pub halts_itself : (s t : State) (e : Endpoint) (puts : List Put) → IsSound s → HaltsItself s e puts t → Apart s t puts
 halts_itself s t Control puts sound (DoesHalt other usable put is) = absurd (other refl)
 halts_itself s t BulkOut puts sound (DoesHalt other usable put is) =
     record { queue = ap (λ (x : State). x.control) is; events = ap (λ (p : List Put). events_of Control p) put ∙ other_ended Control BulkOut stalled s.bulk_out (sound.fits BulkOut) refl }
@@ -135,7 +135,7 @@ halts_itself s t InterruptIn puts sound (DoesHalt other usable put is) =
     record { queue = ap (λ (x : State). x.control) is; events = ap (λ (p : List Put). events_of Control p) put ∙ other_ended Control InterruptIn stalled s.interrupt_in (sound.fits InterruptIn) refl }
 
 -- a submit arrives: at the control endpoint, or elsewhere
-data Came (head : SubmitHead) (transferred : List ℕ) (ups : List up.Message) (s t : State) (puts : List Put) : Type 0 where
+pub data Came (head : SubmitHead) (transferred : List ℕ) (ups : List up.Message) (s t : State) (puts : List Put) : Type 0 where
   CameHere : puts ≡ [] → t ≡ record s { control = s.control ++ arrived head transferred ∷ [] }
       → sent_to Control (up.Submit head transferred ∷ ups) ≡ record { head = head; transferred = transferred } ∷ sent_to Control ups → Came head transferred ups s t puts
   CameElsewhere : Apart s t puts → sent_to Control (up.Submit head transferred ∷ ups) ≡ sent_to Control ups → Came head transferred ups s t puts
@@ -147,7 +147,7 @@ sent_one head transferred ups is = rw (eq-eqb head.ep 0 is) refl
 sent_other : (head : SubmitHead) (transferred : List ℕ) (ups : List up.Message) (n : ℕ) → head.ep ≡ n → eqb n 0 ≡ false → sent_to Control (up.Submit head transferred ∷ ups) ≡ sent_to Control ups
 sent_other head transferred ups n is other = rw (ap (λ (k : ℕ). eqb k 0) is ∙ other) refl
 
-came : (head : SubmitHead) (transferred : List ℕ) (ups : List up.Message) (s t : State) (puts : List Put) → Fitting head → Arrives s head transferred puts t → Came head transferred ups s t puts
+pub came : (head : SubmitHead) (transferred : List ℕ) (ups : List up.Message) (s t : State) (puts : List Put) → Fitting head → Arrives s head transferred puts t → Came head transferred ups s t puts
 came head transferred ups s t puts fits (Queued Control taken put is) = CameHere put is (sent_one head transferred ups taken.number)
 came head transferred ups s t puts fits (Queued BulkOut taken put is) =
     CameElsewhere (record { queue = ap (λ (x : State). x.control) is; events = ap (λ (p : List Put). events_of Control p) put }) (sent_other head transferred ups 1 taken.number refl)
@@ -202,13 +202,13 @@ stays head position one other coming later downs puts ups s t move letter none l
     recovery.Answered layout (sym same ∙ come) (events_same Control downs puts apart.events ∙ given) (apart.queue ∙ free)
     (says_goes one other layout s t move puts ups letter.one_closed letter.other_closed none leaves h says)
 
-one_sent : (head : SubmitHead) (transferred : List ℕ) (x : SubmitHead) (ups : List Sent) → record { head = head; transferred = transferred } ∷ ups ≡ (record { head = x; transferred = [] }) ∷ []
+pub one_sent : (head : SubmitHead) (transferred : List ℕ) (x : SubmitHead) (ups : List Sent) → record { head = head; transferred = transferred } ∷ ups ≡ (record { head = x; transferred = [] }) ∷ []
     → (head ≡ x) × (transferred ≡ []) × (ups ≡ [])
 one_sent head transferred x ups e =
     let first : record { head = head; transferred = transferred } ≡ (let y : Sent = record { head = x; transferred = [] } in y) = cc in
     (ap (λ (y : Sent). y.head) first, ap (λ (y : Sent). y.transferred) first, cc)
 
-no_sent : {B : Type 0} (x : Sent) (more coming : List Sent) → coming ≡ x ∷ more → coming ≡ [] → B
+pub no_sent : {B : Type 0} (x : Sent) (more coming : List Sent) → coming ≡ x ∷ more → coming ≡ [] → B
 no_sent x more coming some none = let e : x ∷ more ≡ [] = sym some ∙ none in absurd (cc)
 
 arrives : (head : SubmitHead) (position : Position) (one other : Choice) (downs puts : List Put) (x : SubmitHead) (transferred : List ℕ) (ups : List up.Message) (s t : State)
@@ -227,10 +227,10 @@ arrives head position one other downs puts x transferred ups s t letter none h (
 
 -- ---- it is answered
 
-one_pending : (x y : Pending) (xs : List Pending) → x ∷ xs ≡ y ∷ [] → (x ≡ y) × (xs ≡ [])
+pub one_pending : (x y : Pending) (xs : List Pending) → x ∷ xs ≡ y ∷ [] → (x ≡ y) × (xs ≡ [])
 one_pending x y xs e = (cc, cc)
 
-answer_event : (head : SubmitHead) (request : ClassRequest) (setup : Setup) (layout : List ℕ) → OnlyClass head request → Asks (arrived head []) setup → length layout ≡ answer_length request
+pub answer_event : (head : SubmitHead) (request : ClassRequest) (setup : Setup) (layout : List ℕ) → OnlyClass head request → Asks (arrived head []) setup → length layout ≡ answer_length request
     → events_of Control (control_answer (arrived head []) setup layout ∷ []) ≡ Gives head (record { seqnum = head.seqnum; status = success; actual = length layout }) layout ∷ []
 answer_event head request setup layout is asks long =
     rw (eq-eqb head.ep 0 is.number)

@@ -25,7 +25,8 @@ use Rattle.host_joint.proofs.Listing.{last_more}
 use Rattle.host_joint.proofs.Numbered.{below_next}
 use Rattle.host_joint.proofs.Booking.{unlink_written}
 use Rattle.host_joint.proofs.Hosting as hosting
-use Rattle.host_joint.proofs.Hosting.{unlinks_written, out_answered}
+use Rattle.host_joint.proofs.Hosting.{out_answered}
+use Rattle.host_joint.proofs.Sending.{unlinks_written}
 use Rattle.host_joint.proofs.Handing.{hands_out, hands_part, hands_first, hands_message}
 use Rattle.host_joint.proofs.Running.{AskLaws}
 use Rattle.host_joint.proofs.Transfers.{WireLaws}

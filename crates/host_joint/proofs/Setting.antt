@@ -17,7 +17,7 @@ use Rattle.tmc_law.specs.Put.{stalled}
 use Rattle.host_joint.specs.Lines.{Gives}
 use Rattle.host_joint.proofs.Owning.{NextRead, FullCame, ShortCame, HaltCame, next_read, HasRead, has_read, none_of as still_none}
 use Rattle.host_joint.proofs.Counting.{all_past}
-use Rattle.host_joint.proofs.Hosting.{inner_final, inner_request, unasked}
+use Rattle.host_joint.proofs.Sending.{inner_final, inner_request, unasked}
 use Rattle.host_joint.proofs.Handing.{none_front, no_last}
 
 abbrev pub NotAsked : List Job → Type 0

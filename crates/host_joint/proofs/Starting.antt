@@ -13,7 +13,7 @@ use Rattle.host_joint.specs.Stage.{NoExec, IsAnother, Carries, Stage, Gathers, F
 use Rattle.host_joint.specs.Asking.{Asking, AtRest, IsQuiet, SentReads, AllTaken}
 use Rattle.tmc_law.specs.Put.{Put}
 use Rattle.host_joint.proofs.Parts.{ask_of}
-use Rattle.host_joint.proofs.Hosting.{sent-append, unlinks_same}
+use Rattle.host_joint.proofs.Sending.{sent-append, unlinks_same}
 
 sent_one : (job : Job) (ups : List up.Message) → IsJob job → sent_to BulkOut ups ≡ [] → sent_to BulkOut (ups ++ up.Submit job.head job.bytes ∷ []) ≡ record { head = job.head; transferred = job.bytes } ∷ []
 sent_one job ups is none =

@@ -20,7 +20,7 @@ use Rattle.tmc_law.specs.Standard.{Standard, ClearHalt, IsStandard, standard_lay
 use Rattle.tmc_law.specs.Class.{Serves, ByClass, ByStandard}
 use Rattle.tmc_law.specs.Step.{Steps, Comes, Answer}
 use Rattle.tmc_law.specs.Run.{Entry, Runs}
-use Rattle.tmc_law.specs.WorkedSession.{in_submit, unlink, step}
+use Rattle.tmc_law.specs.WorkedSession.{in_submit, unlink, step, answered}
 use Rattle.host_joint.specs.WorkedPieces.{requested_second}
 use Rattle.host_joint.specs.WorkedRecoveries.{usable_again, cleared_at_last, cancelled_inside, abort_submit, check_submit, usable_in, usable_out, clear_submit, check_clear_submit, halting_second, halted_inside, aborting_none, freeing, clearing_halted, checking_clear, freeing_out, freeing_in, cleared_log, cancelling_second, aborting_second, draining, checking_second}
 use Rattle.host_joint.specs.WorkedTies.{queried}
@@ -121,16 +121,16 @@ cleared_second = record clears_second { running = Nothing }
 abbrev pub freed_out : State
 freed_out = record start { halted = record { bulk_out = false; bulk_in = true; interrupt_in = false }; log = cleared_log }
 
+pub clear_answers : Steps (with_control (clear_submit 7) halted_inside) Answer (answered (clear_submit 7) success 1 (0x01 ∷ []) ∷ []) clears_second
+clear_answers =
+    class_answers (with_control (clear_submit 7) halted_inside) (clear_submit 7) Clear (record { layout = 0x01 ∷ []; behind = []; state = clears_second }) refl refl (clear_asks 7) tt
+    (DoesClear clears_second (record { standing = at_power_on; after = refl; is = refl }) refl)
+
 pub clears_halted : Runs halted_inside clearing_halted clears_second
 clears_halted = (
   with_control (clear_submit 7) halted_inside,
   comes halted_inside (clear_submit 7) [] Control (record { plugged = refl; wide = refl; eight = refl; setup = refl; carried = refl; bytes = refl; free = refl; few = refl }) (record { number = refl; way = refl; usable = refl }),
-  (
-    clears_second,
-    class_answers (with_control (clear_submit 7) halted_inside) (clear_submit 7) Clear (record { layout = 0x01 ∷ []; behind = []; state = clears_second }) refl refl (clear_asks 7) tt
-        (DoesClear clears_second (record { standing = at_power_on; after = refl; is = refl }) refl),
-    refl,
-  ),
+  (clears_second, clear_answers, refl),
 )
 
 pub checks_clear : Runs clears_second checking_clear cleared_second

@@ -63,7 +63,7 @@ not_refused one_header s job rest todo first is may (out.TooLong tag size eom he
 
 -- ---- the first submit
 
-same : (x y : Pending) (xs ys : List Pending) → x ∷ xs ≡ y ∷ ys → (x ≡ y) × (xs ≡ ys)
+pub same : (x y : Pending) (xs ys : List Pending) → x ∷ xs ≡ y ∷ ys → (x ≡ y) × (xs ≡ ys)
 same x y xs ys e = (cc, cc)
 
 some_none : {B : Type 0} (transfer : Transfer) (o : Option Transfer) → o ≡ None → o ≡ Some transfer → B
@@ -114,7 +114,7 @@ pub record All (job : Job) (later : Pending) (grown : Transfer) : Type 0 where
   pub later_is : later ≡ partly job job.bytes []
   pub grown_is : grown ≡ transfer_of job job.bytes
 
-moved_on : (job : Job) (moved left : List ℕ) (count : ℕ) (submit later : Pending) (transfer grown : Transfer) → submit ≡ partly job moved left → transfer ≡ transfer_of job moved
+pub moved_on : (job : Job) (moved left : List ℕ) (count : ℕ) (submit later : Pending) (transfer grown : Transfer) → submit ≡ partly job moved left → transfer ≡ transfer_of job moved
     → Moves count submit transfer later grown
     → (later ≡ partly job (moved ++ take (count * packet_size) left) (drop (count * packet_size) left)) × (grown ≡ transfer_of job (moved ++ take (count * packet_size) left))
 moved_on job moved left count submit later transfer grown is_submit is_transfer (out.DoesMove is growth) = (
@@ -123,7 +123,7 @@ moved_on job moved left count submit later transfer grown is_submit is_transfer 
       ∙ ap (λ (x : Pending). transfer_of job (moved ++ take (count * packet_size) x.left)) is_submit,
 )
 
-drop_all : (n : ℕ) (xs : List ℕ) → length xs ≤ n → drop n xs ≡ []
+pub drop_all : (n : ℕ) (xs : List ℕ) → length xs ≤ n → drop n xs ≡ []
 drop_all n xs long = nil (drop n xs) (omega (arith, long, ap (λ (l : List ℕ). length l) (take-append-drop n xs), length-append (take n xs) (drop n xs), ap (λ (l : List ℕ). length l) (take_all n xs long)))
   where
     nil : (l : List ℕ) → length l ≡ 0 → l ≡ []

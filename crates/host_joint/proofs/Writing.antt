@@ -22,7 +22,7 @@ use Rattle.host_joint.proofs.Flows.{all_answered}
 use Rattle.host_joint.proofs.Booking.{submit_written}
 use Rattle.host_joint.proofs.Numbered.{begins_new, rises_written}
 use Rattle.host_joint.proofs.Starting.{starts}
-use Rattle.host_joint.proofs.Hosting.{part_written, request_written, read_written}
+use Rattle.host_joint.proofs.Sending.{part_written, request_written, read_written}
 use Rattle.host_joint.proofs.Setting.{request_set, last_set}
 use Rattle.host_joint.proofs.Listing.{last_more, data-more}
 use Rattle.host_joint.proofs.Counting.{not_final}

@@ -20,12 +20,18 @@ pub mod Tie
 -- a host that cancels, and recovers
 pub mod Bond
 -- both over a link
+pub mod Remotes
+pub mod Triggers
 pub mod Joint
 pub mod Unplugged
 pub mod Hits
+pub mod Turns
 -- examples
 pub mod WorkedAsks
 pub mod WorkedTies
+pub mod WorkedLines
+pub mod WorkedAhead
 pub mod WorkedPieces
 pub mod WorkedRecoveries
 pub mod WorkedUnplugging
+pub mod WorkedTriggers

@@ -15,11 +15,18 @@ mod lines;
 mod numbers;
 mod owned;
 mod recovery;
+mod remotes;
 mod ties;
+mod triggers;
+mod turns;
 mod unplugged;
 mod worked;
+mod worked_ahead;
+mod worked_lines;
 mod worked_pieces;
 mod worked_recoveries;
+mod worked_remotes;
+mod worked_triggers;
 mod worked_unplugging;
 
 pub use accepted::{asks_halt_nothing, no_submit_is_refused};
@@ -40,18 +47,26 @@ pub use lines::{hosts_keep_lines, lines_stay, what_is_answered_is_over};
 pub use numbers::{new_numbers_are_unused, new_numbers_rise, what_ran_is_kept, what_ran_is_one};
 pub use owned::what_is_read_is_owned;
 pub use recovery::{asks_hand_over, devices_rest, drains_stay, requests_stay};
+pub use remotes::remote_tickets_are_tied;
 pub use ties::{
     answers_are_the_expected, pieces_have_no_fault, tickets_end, ties_begin, ties_own, ties_stay,
     writes_keep_ties,
 };
+pub use triggers::trigger_tickets_are_tied;
+pub use turns::{answers_come_in_turn, asks_ahead_hand_over};
 pub use unplugged::{
     answers_come_until_unplugged, hosts_go_on_until_unplugged, joints_stay_until_unplugged,
     the_next_answer_is_read_until_unplugged, ties_hold_until_unplugged, unplugged_hosts_own,
     writes_keep_joints_until_unplugged,
 };
 pub use worked::{worked_asks_are_in_hand, worked_cancels_are_bound, worked_hosts_are_tied};
+pub use worked_ahead::worked_asks_are_written_ahead;
+pub use worked_lines::{worked_lines_are_kept, worked_numbers_rise};
 pub use worked_pieces::{worked_pieces_are_asked, worked_pieces_are_read};
 pub use worked_recoveries::{
-    worked_cancels_are_recovered, worked_halts_are_recovered, worked_unlinks_tell_hits,
+    worked_cancels_are_recovered, worked_halts_are_asked, worked_halts_are_recovered,
+    worked_unlinks_tell_hits,
 };
+pub use worked_remotes::worked_remote_tickets_are_tied;
+pub use worked_triggers::worked_trigger_tickets_are_tied;
 pub use worked_unplugging::worked_hosts_are_unplugged;

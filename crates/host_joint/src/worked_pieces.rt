@@ -34,6 +34,7 @@ use tmc_wire::{header_offsets_are_laid_out, headers_are_read_again, transfers_ar
 /// the second piece for the first bytes of the response is never tied to that device.
 pub fn worked_pieces_are_read()
     ensures runs { Runs start (sending_parts ++ (requesting_first ++ (giving_first ++ (requesting_second ++ giving_second)))) behind_second }
+    ensures reached { Runs start (sending_parts ++ (requesting_first ++ (giving_first ++ requesting_second))) requested_second }
     ensures asked { Tie reading_first (Some (out_submit 3 12)) 4 (up.Submit (out_submit 3 12) last_request ∷ []) [] told_to }
     ensures requested { Runs told_to requesting_first requested_first × Tie reading_first None 4 [] [] requested_first }
     ensures paused { Tie (Pauses 2 spaced first_data) None 5 [] [] behind_first × IsOwned 2 spaced first_data behind_first

@@ -5,24 +5,28 @@ ghost use Rattle.usbip_wire.specs.declared.submit.SubmitHead.{SubmitHead};
 ghost use Rattle.usbip_wire.specs.declared.unlink.UnlinkHead.{UnlinkHead};
 ghost use Rattle.usbip_wire.specs.Up as up;
 ghost use Rattle.tmc_law.specs.State.{State};
-ghost use Rattle.tmc_law.specs.Put.{Put, Unlinked, success, unlinked};
+ghost use Rattle.tmc_law.specs.Put.{Put, Unlinked, success, stalled, unlinked};
 ghost use Rattle.tmc_law.specs.Run.{Runs};
 ghost use Rattle.tmc_law.specs.WorkedQuery.{identity};
 ghost use Rattle.tmc_law.specs.WorkedParts.{spaced};
-ghost use Rattle.tmc_law.specs.WorkedSession.{in_submit, unlink};
+ghost use Rattle.tmc_law.specs.WorkedSession.{in_submit, unlink, answered};
 ghost use Rattle.host_joint.specs.Stage.{Ran};
 ghost use Rattle.host_joint.specs.Hand.{Free, Reads};
 ghost use Rattle.host_joint.specs.Tie.{Tie, Owns};
 ghost use Rattle.host_joint.specs.Bond.{Situation, Read, Stands, Resting, ToAbortIn, WantsPacket, Bound};
 ghost use Rattle.host_joint.specs.Hits.{BoundTelling};
 ghost use Rattle.host_joint.specs.WorkedTies.{queried};
-ghost use Rattle.host_joint.specs.WorkedPieces.{first_data, requested_second};
+ghost use Rattle.host_joint.specs.WorkedPieces.{first_data, requested_second, next_job, asked_with};
+ghost use Rattle.host_joint.specs.Asking.{Asking};
+ghost use Rattle.host_joint.specs.Owned.{Owned};
+ghost use Rattle.host_joint.specs.Positions.{IsAt, in_begun};
 ghost use Rattle.host_joint.specs.WorkedRecoveries.{reading_rest, halting_second, halted_inside, aborting_none, freeing, usable_again, clearing_halted, checking_clear, freeing_out, freeing_in, cleared_log, cleared_at_last, cancelling_second, cancelled_inside, aborting_second, draining, checking_second};
 
 use crate::{
-    bonds_stay, cancelled_answers_are_taken, cancelled_asks_own, cancels_begin, recoveries_end,
-    recoveries_go_on, unlinks_tell_hits, worked_cancels_are_bound, worked_pieces_are_read,
-    writes_keep_ties,
+    answers_are_taken, asking_stays, asks_hand_over, bonds_stay, cancelled_answers_are_taken,
+    cancelled_asks_own, cancels_begin, messages_are_written, recoveries_end, recoveries_go_on,
+    unlinks_tell_hits, what_is_read_is_owned, worked_cancels_are_bound, worked_pieces_are_asked,
+    worked_pieces_are_read, writes_keep_ties,
 };
 use tmc_law::runs_join;
 
@@ -85,4 +89,20 @@ pub fn worked_unlinks_tell_hits()
     worked_cancels_are_recovered();
     worked_cancels_are_bound();
     unlinks_tell_hits();
+}
+
+/// The same halt in the terms of an ask: it is in hand while the answer to its read is on its way, and when that was taken; it owns the data of
+/// the first piece; and what it leaves is a Bulk-IN transfer to abort.
+pub fn worked_halts_are_asked()
+    ensures halted { Asking (asked_with 4 (next_job ∷ []) 1 first_data) [] (answered (in_submit 6 4096) stalled 0 [] ∷ []) halted_inside }
+    ensures taken { Asking (asked_with 4 (next_job ∷ []) 1 first_data) [] [] halted_inside × Owned (asked_with 4 (next_job ∷ []) 1 first_data) halted_inside }
+    ensures left { IsAt (in_begun 4) halted_inside }
+{
+    worked_pieces_are_read();
+    worked_pieces_are_asked();
+    messages_are_written();
+    asking_stays();
+    answers_are_taken();
+    what_is_read_is_owned();
+    asks_hand_over();
 }

@@ -6,6 +6,7 @@ use Rattle.host_recover.specs.declared.need.Need.{Need}
 use Rattle.host_recover.specs.declared.need.Need.TheVariants as need
 use Rattle.host_recover.specs.Letter.{Letter, Cleared, Success, Failed, Otherwise, BulkIn, Notify, BulkOut}
 use Rattle.host_recover.specs.Words.{Words, Empty, One, Many, ◌then◌, ◌or◌, InTurn, Has, drain, failed_drain, checks, halts, failed_clear, full, checks_out, out, checks_in, into, words_of}
+use Rattle.host_recover.proofs.Lefts.{left}
 use Rattle.host_recover.proofs.Phases.{Phase, AbortsOut, ChecksOut, AbortsIn, DrainsIn, ChecksIn, Clears, Checks, Drains, Halts, BehindIn, BehindNotify, Done, said_abort_out, said_abort_in, go, all, all_join}
 
 pub record Leads (p : Phase) (words : Words) (q : Phase) : Type 0 where
@@ -98,3 +99,37 @@ words_lead (need.Out tag false) = either_of (out_leads tag false) (one (own_out 
 words_lead (need.Out tag true) = either_of (out_leads tag true) (behind {q = Clears} (one (own_out tag true (said_abort_out true Failed))) full_leads)
 words_lead (need.In tag) = in_leads tag
 words_lead need.Full = full_leads
+
+-- ---- the words that are left of each phase
+
+drain_clears : Leads Drains drain Checks
+drain_clears = behind {q = Drains} (many (one refl)) (one refl)
+
+failed_clears : Leads Drains failed_drain Clears
+failed_clears = behind {q = Drains} (many (one refl)) (one refl)
+
+left_checks_lead : Leads Checks (left Checks) Done
+left_checks_lead =
+    either_of (behind {q = Checks} checks_lead (behind {q = Drains} (one refl) (behind {q = Clears} failed_clears full_leads)))
+    (behind {q = Checks} checks_lead (behind {q = Halts} (one refl) halts_lead))
+
+behind_in_lead : Leads BehindIn (left BehindIn) Done
+behind_in_lead = record { run = λ letters h. at letters h.0 h.1 h.2 h.3 h.4 }
+  where
+    at : (letters a b : List Letter) → letters ≡ a ++ b → Has (Empty or One (Cleared Notify)) a → Has (One (Cleared BulkOut)) b → all (Some BehindIn) letters ≡ Some Done
+    at letters a b e (inl f) g = joined BehindIn BehindIn Done a b letters e (rw f refl) (rw g refl)
+    at letters a b e (inr f) g = joined BehindIn BehindNotify Done a b letters e (rw f refl) (rw g refl)
+
+pub left_leads : (p : Phase) → Leads p (left p) Done
+left_leads (AbortsOut tag parts) = words_lead (need.Out tag parts)
+left_leads ChecksOut = checks_out_lead
+left_leads (AbortsIn tag) = words_lead (need.In tag)
+left_leads DrainsIn = either_of (behind {q = Clears} failed_in full_leads) (behind {q = ChecksIn} drain_in checks_in_lead)
+left_leads ChecksIn = checks_in_lead
+left_leads Clears = full_leads
+left_leads Checks = left_checks_lead
+left_leads Drains = either_of (behind {q = Checks} drain_clears left_checks_lead) (behind {q = Clears} failed_clears full_leads)
+left_leads Halts = halts_lead
+left_leads BehindIn = behind_in_lead
+left_leads BehindNotify = one refl
+left_leads Done = record { run = λ letters h. rw h refl }

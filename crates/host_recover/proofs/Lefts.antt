@@ -5,11 +5,9 @@ use Rattle.std.proofs.lemmas.Bool.{eq-eqb}
 use Rattle.tmc_wire.specs.declared.class_request.ClassRequest.TheVariants as class
 use Rattle.host_recover.specs.declared.need.Need.TheVariants as need
 use Rattle.host_recover.specs.Letter.{Letter, Asked, Cleared, Drained, Says, Success, Pending, Queued, Failed, Otherwise, Full, Short, Faulty, BulkIn, Notify, BulkOut}
+use Rattle.host_recover.specs.Stage.{left_checks}
 use Rattle.host_recover.specs.Words.{Words, Empty, One, Many, ◌then◌, ◌or◌, Has, asked, drain, failed_drain, checks, halts, full, checks_out, checks_in, into, words_of}
 use Rattle.host_recover.proofs.Phases.{Phase, AbortsOut, ChecksOut, AbortsIn, DrainsIn, ChecksIn, Clears, Checks, Drains, Halts, BehindIn, BehindNotify, Done, said_abort_out, said_abort_in, abort_out, check_out, abort_in, check_in, clear, check, drains, halted, behind_in, behind_notify, go, all, all_none, none_some, tag_is}
-
-abbrev pub left_checks : Words
-left_checks = (checks then asked class.CheckClear Queued then failed_drain then full) or (checks then asked class.CheckClear Success then halts)
 
 -- the words that are left
 abbrev pub left : Phase → Words
@@ -247,7 +245,7 @@ all_go p (l ∷ letters) q e rest h = step (λ x k. all_go x letters q k rest h)
     step again (Some x) f k = goes p l x f (letters ++ rest) (again x k)
 
 -- each phase ends some word
-own : (tag : ℕ) (o : Option Phase) → (if tag == tag then o else None) ≡ o
+pub own : (tag : ℕ) (o : Option Phase) → (if tag == tag then o else None) ≡ o
 own tag o = rw (eq-eqb tag tag refl) refl
 
 abbrev cleared : List Letter

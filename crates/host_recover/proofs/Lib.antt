@@ -4,3 +4,6 @@ pub mod Lefts
 pub mod Words
 pub mod Next
 pub mod Some
+pub mod Stages
+pub mod Steps
+pub mod Follows

@@ -266,7 +266,7 @@ says_abort_out tag status second = says_all (class.AbortOut tag) refl refl refl 
 pub says_abort_in : (tag status second : ℕ) → may_say (class.AbortIn tag) (says_of (class.AbortIn tag) status second) ≡ true
 says_abort_in tag status second = says_all (class.AbortIn tag) refl refl refl (λ s. refl) status second
 
-clash : {P : Type 0} → false ≡ true → P
+pub clash : {P : Type 0} → false ≡ true → P
 clash e = absurd (no e)
   where
     no : false ≡ true → ⊥

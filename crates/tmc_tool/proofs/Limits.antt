@@ -1,6 +1,5 @@
 -- the limits of a script
-use Rattle.std.proofs.Common.{◌≡◌, ℕ, ◌+◌, ◌<◌, ◌≤◌, Bool, true, false, ltb, ◌==◌, cond, Result, Ok, Err, List, [], ◌∷◌, ◌++◌, length, refl, sym, ap, ◌∙◌, subst, arith, length-append, append_assoc, append-nil, take, get_or, suc}
-use Rattle.std.proofs.Math.Seq.{take-suc}
+use Rattle.std.proofs.Common.{◌≡◌, ℕ, ◌+◌, ◌<◌, ◌≤◌, Bool, true, false, ltb, ◌==◌, cond, Result, Ok, Err, List, [], ◌∷◌, ◌++◌, length, refl, sym, ap, ◌∙◌, subst, arith, length-append, append_assoc, append-nil}
 use Rattle.std.proofs.lemmas.Bool.{ltb-false}
 use Rattle.std.specs.List.{AllByRecursion, onto_first}
 use Rattle.usbip_wire.specs.declared.urb.Dir.{Dir}
@@ -8,8 +7,8 @@ use Rattle.event_text.specs.declared.line_fault.LineWhat.{LineWhat}
 use Rattle.event_text.specs.declared.line_fault.LineWhat.TheVariants.{TooLong, TooMany}
 use Rattle.event_text.specs.Script.{lines_most, line_most, judged, later_words, first_words, Say}
 use Rattle.event_text.specs.Shown.{ShownOf}
-use Rattle.event_text.specs.Words.{lines_of, words_of}
-use Rattle.tmc_tool.specs.Script.{IsShortLine, KeepsLimits, PassesLimit, IsBounded, IsInside, IsAt, Stands}
+use Rattle.event_text.specs.Words.{IsInside, lines_of, words_of}
+use Rattle.tmc_tool.specs.Script.{IsShortLine, KeepsLimits, PassesLimit, IsBounded, IsAt, Stands}
 use Rattle.tmc_tool.specs.declared.script.Place.{Place}
 
 -- ---- more bytes
@@ -122,22 +121,26 @@ behind_nl bytes ended begun below at = record {
       ∙ (ap (λ xs. at.lines ++ xs) (nl_ends at.line rest at.inside) ∙ sym (append_assoc at.lines (at.line ∷ []) (lines_of rest))));
 }
 
--- behind another byte
-pub behind_inside : (bytes : List ℕ) (byte ended begun : ℕ) → ended < lines_most → begun < line_most → IsInside byte → IsAt bytes ended begun
-    → IsAt (bytes ++ byte ∷ []) ended (begun + 1)
-behind_inside bytes byte ended begun below fits inside at = record {
+each-append : {X : Type 0} → (P : X → Type 0) (xs ys : List X) → AllByRecursion P xs → AllByRecursion P ys → AllByRecursion P (xs ++ ys)
+each-append P [] ys each more = more
+each-append P (x ∷ xs) ys each more = (each.0, each-append P xs ys each.1 more)
+
+-- behind more bytes of a line
+pub behind_inside : (bytes line : List ℕ) (ended begun count : ℕ) → ended < lines_most → begun + count ≤ line_most → AllByRecursion IsInside line → length line ≡ count
+    → IsAt bytes ended begun → IsAt (bytes ++ line) ended (begun + count)
+behind_inside bytes line ended begun count below fits inside size at = record {
   lines = at.lines;
-  line = at.line ++ byte ∷ [];
+  line = at.line ++ line;
   many = at.many;
-  size = omega (arith, at.size, length-append at.line (byte ∷ []));
-  inside = each-push IsInside at.line byte at.inside inside;
+  size = omega (arith, at.size, size, length-append at.line line);
+  inside = each-append IsInside at.line line at.inside inside;
   each = at.each;
   short = omega (arith, fits);
   few = at.few;
   room = λ some. below;
   cut = λ rest.
-      ap lines_of (append_assoc bytes (byte ∷ []) rest) ∙ (at.cut (byte ∷ rest)
-      ∙ ap (λ xs. at.lines ++ lines_of xs) (sym (append_assoc at.line (byte ∷ []) rest)));
+      ap lines_of (append_assoc bytes line rest) ∙ (at.cut (line ++ rest)
+      ∙ ap (λ xs. at.lines ++ lines_of xs) (sym (append_assoc at.line line rest)));
 }
 
 last_of : (P : List ℕ → Type 0) (xs : List (List ℕ)) (x : List ℕ) → AllByRecursion P (xs ++ x ∷ []) → P x
@@ -149,15 +152,22 @@ pub past_lines : (bytes : List ℕ) (byte ended begun : ℕ) → lines_most ≤ 
 past_lines bytes byte ended begun above at = λ keeps.
     absurd (omega (arith, keeps.0, ap length (at.cut (byte ∷ [])), length-append at.lines (lines_of (at.line ++ byte ∷ [])), some_behind at.line byte, at.many, above))
 
--- a byte behind the longest line
-pub past_line : (bytes : List ℕ) (byte ended begun : ℕ) → line_most ≤ begun → IsInside byte → IsAt bytes ended begun → PassesLimit (bytes ++ byte ∷ [])
-past_line bytes byte ended begun above inside at = λ keeps.
-    let line : List ℕ = at.line ++ byte ∷ [] in
-    let size : length line ≡ length at.line + 1 = omega (arith, length-append at.line (byte ∷ [])) in
-    let alone : lines_of line ≡ line ∷ [] = one_line line (each-push IsInside at.line byte at.inside inside) (omega (arith, size)) in
-    let all : lines_of (bytes ++ byte ∷ []) ≡ at.lines ++ line ∷ [] = at.cut (byte ∷ []) ∙ ap (λ xs. at.lines ++ xs) alone in
+-- bytes behind the last line that a script may have
+pub past_some : (bytes line : List ℕ) (ended begun : ℕ) → lines_most ≤ ended → 0 < length line → IsAt bytes ended begun → PassesLimit (bytes ++ line)
+past_some bytes [] ended begun above some at = absurd (omega (arith, some))
+past_some bytes (byte ∷ line) ended begun above some at =
+    subst PassesLimit (append_assoc bytes (byte ∷ []) line) (past_stays (bytes ++ byte ∷ []) line (past_lines bytes byte ended begun above at))
+
+-- bytes behind the longest line
+pub past_line : (bytes more : List ℕ) (ended begun count : ℕ) → line_most < begun + count → AllByRecursion IsInside more → length more ≡ count → IsAt bytes ended begun
+    → PassesLimit (bytes ++ more)
+past_line bytes more ended begun count above inside many at = λ keeps.
+    let line : List ℕ = at.line ++ more in
+    let size : length line ≡ length at.line + length more = omega (arith, length-append at.line more) in
+    let alone : lines_of line ≡ line ∷ [] = one_line line (each-append IsInside at.line more at.inside inside) (omega (arith, size, at.size, many, above)) in
+    let all : lines_of (bytes ++ more) ≡ at.lines ++ line ∷ [] = at.cut more ∙ ap (λ xs. at.lines ++ xs) alone in
     let short : IsShortLine line = last_of IsShortLine at.lines line (subst (λ xs. AllByRecursion IsShortLine xs) all keeps.1) in
-    absurd (omega (arith, short, size, at.size, above))
+    absurd (omega (arith, short, size, at.size, many, above))
 
 -- what the lines that are ended and the next one keep
 keeps_line : (lines : List (List ℕ)) (line : List ℕ) → AllByRecursion IsInside line → AllByRecursion IsShortLine lines → length line ≤ line_most
@@ -223,11 +233,36 @@ shown_keeps way source text shown =
 pub none_bounded : IsBounded []
 none_bounded = record { front = []; last = []; cut = refl; keeps = (omega arith, tt); few = omega arith }
 
--- where the reading stands behind one more byte of a piece
-pub stands_next : (place : Place) (bytes piece : List ℕ) (i : ℕ) → i < length piece → Stands ((bytes ++ take i piece) ++ get_or piece i 0 ∷ []) place
-    → Stands (bytes ++ take (i + 1) piece) place
-stands_next place bytes piece i below stands =
-    let next : suc i ≡ i + 1 = omega arith in
-    let step : take (i + 1) piece ≡ take i piece ++ get_or piece i 0 ∷ [] =
-    subst (λ n. take n piece ≡ take i piece ++ get_or piece i 0 ∷ []) next (take-suc piece i 0 below) in
-    subst (λ xs. Stands xs place) (append_assoc bytes (take i piece) (get_or piece i 0 ∷ []) ∙ ap (λ xs. bytes ++ xs) (sym step)) stands
+-- of a piece this much is left, and the reading stands here behind what came before
+pub record Followed (piece rest : List ℕ) (place now : Place) : Type 0 where
+  pub front : List ℕ
+  pub cut : piece ≡ front ++ rest
+  pub stands : (bytes : List ℕ) → Stands bytes place → Stands (bytes ++ front) now
+
+pub none_followed : (piece : List ℕ) (place : Place) → Followed piece piece place place
+none_followed piece place = record {
+  front = [];
+  cut = refl;
+  stands = λ bytes at. subst (λ xs. Stands xs place) (sym (append-nil bytes)) at;
+}
+
+-- one more line
+pub line_followed : (piece rest line more : List ℕ) (place now inside next : Place) → Followed piece rest place now → AllByRecursion IsInside line → rest ≡ line ++ 10 ∷ more
+    → ((bytes : List ℕ) → Stands bytes now → Stands (bytes ++ line) inside) → ((bytes : List ℕ) → Stands bytes inside → Stands (bytes ++ 10 ∷ []) next)
+    → Followed piece more place next
+line_followed piece rest line more place now inside next followed none cut through behind = record {
+  front = followed.front ++ (line ++ 10 ∷ []);
+  cut =
+      followed.cut ∙ (ap (λ xs. followed.front ++ xs) (cut ∙ sym (append_assoc line (10 ∷ []) more)) ∙ sym (append_assoc followed.front (line ++ 10 ∷ []) more));
+  stands = λ bytes at.
+      subst (λ xs. Stands xs next)
+      (append_assoc (bytes ++ followed.front) line (10 ∷ []) ∙ append_assoc bytes followed.front (line ++ 10 ∷ []))
+      (behind ((bytes ++ followed.front) ++ line) (through (bytes ++ followed.front) (followed.stands bytes at)));
+}
+
+-- and what stands behind the last
+pub all_followed : (piece rest : List ℕ) (place now last : Place) → Followed piece rest place now
+    → ((bytes : List ℕ) → Stands bytes now → Stands (bytes ++ rest) last) → (bytes : List ℕ) → Stands bytes place → Stands (bytes ++ piece) last
+all_followed piece rest place now last followed through bytes at =
+    subst (λ xs. Stands xs last) (append_assoc bytes followed.front rest ∙ ap (λ xs. bytes ++ xs) (sym followed.cut))
+    (through (bytes ++ followed.front) (followed.stands bytes at))

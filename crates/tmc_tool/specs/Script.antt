@@ -1,8 +1,8 @@
 -- the limits of a script, and where its reading stands
-use Rattle.std.specs.Prelude.{◌≡◌, ℕ, ◌<◌, ◌≤◌, false, ◌==◌, List, ◌++◌, length}
+use Rattle.std.specs.Prelude.{◌≡◌, ℕ, ◌<◌, ◌≤◌, List, ◌++◌, length}
 use Rattle.std.specs.List.{AllByRecursion}
 use Rattle.event_text.specs.Script.{lines_most, line_most}
-use Rattle.event_text.specs.Words.{lines_of}
+use Rattle.event_text.specs.Words.{IsInside, lines_of}
 use Rattle.tmc_tool.specs.declared.script.Place.{Place}
 use Rattle.tmc_tool.specs.declared.script.Place.TheVariants.{Within, Past}
 
@@ -25,10 +25,6 @@ pub record IsBounded (bytes : List ℕ) : Type 0 where
   pub cut : bytes ≡ front ++ last
   pub keeps : KeepsLimits front
   pub few : length last ≤ 4096
-
--- a byte that ends no line
-abbrev pub IsInside : ℕ → Type 0
-IsInside byte = (byte == 10) ≡ false
 
 -- in these bytes so many lines are ended, and so many bytes of the next have come, within the limits: whatever
 -- follows, its lines stand behind the ended ones, and the first of them begins with those bytes

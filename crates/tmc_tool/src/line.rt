@@ -5,7 +5,7 @@ ghost use Rattle.tmc_tool.specs.Line.{IsFirstLine, IsAsked, Responds, message_mo
 ghost use Rattle.tmc_tool.specs.Judged.{IsRefusal};
 
 use crate::ask_limits::{ASK_LIMIT, MESSAGE_MOST, TRANSFER_MOST};
-use event_text::{LineFault, LineWhat};
+use event_text::{LineFault, LineWhat, split_line};
 use instr_plain::Instrument;
 use std::alloc::Global;
 use tmc_base::Memory;
@@ -17,8 +17,8 @@ pub(crate) const LINE_MOST: usize = MESSAGE_MOST + 2;
 pub(crate) fn first_line(bytes: &[u8]) -> (&[u8], &[u8])
     ensures { IsFirstLine bytes.now result.0.now result.1.now }
 {
-    match bytes.iter().position(|byte| *byte == b'\n') {
-        Some(at) => (&bytes[..at], &bytes[at + 1..]),
+    match split_line(bytes) {
+        Some(cut) => cut,
         None => (bytes, &[]),
     }
 }

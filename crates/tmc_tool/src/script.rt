@@ -1,13 +1,15 @@
 //! The script that `show` reads.
 
-ghost use Rattle.std.specs.Prelude.{◌≡◌, ◌⊎◌, ◌∷◌, ◌++◌, [], true, false, List, ℕ, IfOk, Err};
+ghost use Rattle.std.specs.Prelude.{◌≡◌, ◌⊎◌, ◌∷◌, ◌++◌, [], length, true, false, List, ℕ, IfOk, Err};
+ghost use Rattle.std.specs.List.{AllByRecursion};
 ghost use Rattle.tmc_base.specs.declared.reading.ReadFault.TheVariants.{Failed};
 ghost use Rattle.tmc_base.specs.Faults.{Rose};
 ghost use Rattle.tmc_base.specs.Source.{GivesFirst, HasEnded};
 ghost use Rattle.tmc_base.specs.Reading.{NoRead, AtEnd, AtFault, ReadRun};
+ghost use Rattle.event_text.specs.Words.{IsInside};
 ghost use Rattle.tmc_tool.specs.Script.{KeepsLimits, PassesLimit, IsBounded, Stands};
 
-use event_text::{LINE_MOST, LINES_MOST};
+use event_text::{LINE_MOST, LINES_MOST, split_line};
 use std::alloc::Global;
 use tmc_base::{ReadFault, ReadStep, Source};
 
@@ -29,25 +31,38 @@ enum Place {
 }
 
 impl Place {
-    /// Behind one more byte.
-    fn behind(self, byte: u8) -> Place
-        ensures { (bytes : List ℕ) → Stands bytes self → Stands (bytes ++ byte ∷ []) result }
+    /// Behind so many bytes more that end no line.
+    fn inside(self, count: u64) -> Place
+        ensures { (bytes line : List ℕ) → AllByRecursion IsInside line → length line ≡ count → Stands bytes self → Stands (bytes ++ line) result }
     {
+        if count == 0 {
+            return self;
+        }
         match self {
             Place::Within { ended, begun } => {
-                if ended >= LINES {
+                let begun = begun.saturating_add(count);
+                if ended >= LINES || begun > LINE {
                     Place::Past
-                } else if byte == b'\n' {
-                    Place::Within {
-                        ended: ended + 1,
-                        begun: 0,
-                    }
-                } else if begun >= LINE {
+                } else {
+                    Place::Within { ended, begun }
+                }
+            }
+            Place::Past => Place::Past,
+        }
+    }
+
+    /// Behind an NL.
+    fn behind_nl(self) -> Place
+        ensures { (bytes : List ℕ) → Stands bytes self → Stands (bytes ++ 10 ∷ []) result }
+    {
+        match self {
+            Place::Within { ended, .. } => {
+                if ended >= LINES {
                     Place::Past
                 } else {
                     Place::Within {
-                        ended,
-                        begun: begun + 1,
+                        ended: ended + 1,
+                        begun: 0,
                     }
                 }
             }
@@ -72,10 +87,12 @@ fn follow(piece: &[u8], place: Place) -> Place
     ensures { (bytes : List ℕ) → Stands bytes place → Stands (bytes ++ piece.now) result }
 {
     let mut at = place;
-    'bytes: for byte in piece {
-        at = at.behind(*byte);
+    let mut rest = piece;
+    'lines: while let Some((line, more)) = split_line(rest) {
+        at = at.inside(line.len() as u64).behind_nl();
+        rest = more;
     }
-    at
+    at.inside(rest.len() as u64)
 }
 
 /// Reads a script until its source ends, or until a read passes a limit of a script. No read stands behind one that ended

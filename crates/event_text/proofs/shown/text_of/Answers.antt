@@ -1,4 +1,4 @@
-use Rattle.std.proofs.Common.{refl, arith}
+use Rattle.std.proofs.Common.{refl, sym, arith}
 use Rattle.event_text.specs.Read.{standing_of}
 use Rattle.event_text.proofs.Progress.{first_read, line_read}
 use Rattle.event_text.proofs.shown.text_of.Goals as goal
@@ -7,7 +7,7 @@ pub lines-init : goal.lines-init
 lines-init c = record {
   progress =
       first_read c.args.way c.args.source.now c.first_line.result.0.now c.first_line.result.1.now c.in-Ok.phase
-      (standing_of c.in_ok-reading.reading.reader c.in_ok-reading.reading.dirs) 2 _ c.first_line.ensures.cut c.in-Ok.ensures c.in_ok-reading.ensures.begun refl c.new-text.ensures.items;
+      (standing_of c.in_ok-reading.reading.reader c.in_ok-reading.reading.dirs) 2 _ c.first_line.ensures.cut (sym c.in-Ok.ensures) c.in_ok-reading.ensures.begun refl c.new-text.ensures.items;
   sound = c.in_ok-reading.ensures.sound;
   few = omega arith;
 }

@@ -8,7 +8,7 @@ use Rattle.event_text.proofs.shown.text_of.Given as goal
 abbrev pub invariant-lines : goal.invariant-lines
 invariant-lines l = record {
   progress : Progress l.way l.source l.rest l.number (standing_of l.reading.reader l.reading.dirs) l.text.items;
-  sound : IsSound l.reading.reader l.reading.dirs l.reading.rest;
+  sound : IsSound l.reading.reader l.reading.dirs l.reading.refused;
   few : l.number ≤ lines_most + 1;
 }
 

@@ -1,7 +1,6 @@
-use Rattle.std.proofs.Common.{eqb, rules, tests}
-use Rattle.std.proofs.lemmas.Iterator.{YieldsList-from_slice}
-use Rattle.std.proofs.lemmas.Iterator.Search.{position_from_yields_List}
+use Rattle.std.proofs.Common.{eqb}
+use Rattle.event_text.proofs.Cuts.{place_found}
 use Rattle.event_text.proofs.words.place_of.Goals as goal
 
 pub returns : goal.returns
-returns c = position_from_yields_List (λ b. eqb b c.args.value) _ _ _ c.position.ensures.ran (YieldsList-from_slice c.args.bytes.now cc) (λ x b q k. search (rules, tests))
+returns c = place_found (λ b. eqb b c.args.value) c.args.bytes.now c.memchr.result c.memchr.ensures

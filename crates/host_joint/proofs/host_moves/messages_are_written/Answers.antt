@@ -3,7 +3,7 @@ use Rattle.usbip_wire.specs.Up as up
 use Rattle.host_joint.specs.Asking.{Asking}
 use Rattle.host_joint.specs.Jobs.{Job}
 use Rattle.host_joint.proofs.Ahead.{request_ahead}
-use Rattle.host_joint.proofs.Hosting.{part_written, request_written, read_written, other_written, unlinks_written}
+use Rattle.host_joint.proofs.Sending.{part_written, request_written, read_written, other_written, unlinks_written}
 use Rattle.host_joint.proofs.host_moves.messages_are_written.Goals as goal
 
 pub returns-clause-part : goal.returns-clause-part

@@ -52,3 +52,11 @@ returns-clause-stopped c = c.tickets_end.ensures.read 2 spaced first_data 5 [] [
 pub returns-clause-skipped : goal.returns-clause-skipped
 returns-clause-skipped c waits next ups downs tie =
     not_skipped (λ response ran. c.what_ran_is_one.ensures.response 2 spaced spaced response identity second_log ran (returns-clause-whole c).1) (c.ties_own.ensures skipping waits next ups downs behind_second tie)
+
+pub returns-clause-reached : goal.returns-clause-reached
+returns-clause-reached c =
+    let one = c.headers_are_read_again.ensures.out_one in
+    let join = c.runs_join.ensures.together in
+    join sending_parts (requesting_first ++ (giving_first ++ requesting_second)) start told_to requested_second c.a_message_comes_in_parts.ensures
+    (join requesting_first (giving_first ++ requesting_second) told_to requested_first requested_second (requests_first one)
+    (join giving_first requesting_second requested_first behind_first requested_second gives_first (requests_second one)))

@@ -1,14 +1,13 @@
-use Rattle.std.proofs.Common.{◌++◌, take, subst, arith}
-use Rattle.std.proofs.lemmas.List.{take_all}
-use Rattle.tmc_tool.specs.Script.{Stands}
-use Rattle.tmc_tool.proofs.Limits.{stands_next}
+use Rattle.std.proofs.Common.{refl}
+use Rattle.tmc_tool.proofs.Limits.{line_followed, all_followed}
 use Rattle.tmc_tool.proofs.script.follow.Goals as goal
 
-pub bytes-preserved : goal.bytes-preserved
-bytes-preserved c = λ bytes at.
-    stands_next c.behind-at.result bytes c.args.piece.now c.bytes.byte-index (omega arith)
-    (c.behind-at.ensures (bytes ++ take c.bytes.byte-index c.args.piece.now) (c.bytes.invariant bytes at))
+pub lines-preserved : goal.lines-preserved
+lines-preserved c =
+    line_followed c.args.piece.now c.lines.rest.now c.in-Some.line.now c.in-Some.more.now c.args.place c.lines.at c.inside.result c.behind_nl-at.result
+    c.lines.invariant c.in-Some.ensures.0 c.in-Some.ensures.1 (λ bytes at. c.inside.ensures bytes c.in-Some.line.now c.in-Some.ensures.0 refl at) c.behind_nl-at.ensures
 
 pub returns : goal.returns
-returns c = λ bytes at.
-    subst (λ xs. Stands (bytes ++ xs) c.bytes.at) (take_all c.bytes.byte-index c.args.piece.now (omega arith)) (c.bytes.invariant bytes at)
+returns c =
+    all_followed c.args.piece.now c.lines.rest.now c.args.place c.lines.at c.inside-2.result c.lines.invariant
+    (λ bytes at. c.inside-2.ensures bytes c.lines.rest.now c.in_default.ensures refl at)

@@ -1,6 +1,9 @@
-use Rattle.std.proofs.Common.{◌++◌, List, ℕ, take}
-use Rattle.tmc_tool.specs.Script.{Stands}
+use Rattle.std.proofs.Common.{length}
+use Rattle.tmc_tool.proofs.Limits.{Followed}
 use Rattle.tmc_tool.proofs.script.follow.Given as goal
 
-abbrev pub invariant-bytes : goal.invariant-bytes
-invariant-bytes l = (bytes : List ℕ) → Stands bytes l.fn.place → Stands (bytes ++ take l.byte-index l.piece) l.at
+abbrev pub invariant-lines : goal.invariant-lines
+invariant-lines l = Followed l.piece l.rest l.fn.place l.at
+
+abbrev pub decreases-lines : goal.decreases-lines
+decreases-lines l = length l.rest

@@ -1,5 +1,5 @@
 use Rattle.std.proofs.Common.{sym, ap, ◌∙◌}
-use Rattle.event_text.specs.EventLine.{if_none}
+use Rattle.event_text.specs.Script.{if_none}
 use Rattle.event_text.specs.Read.{words_behind}
 use Rattle.event_text.proofs.Cuts.{some_word}
 use Rattle.event_text.proofs.behind.Behind.none.Goals as goal

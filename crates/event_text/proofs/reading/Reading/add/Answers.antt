@@ -4,8 +4,8 @@ use Rattle.event_text.proofs.reading.Reading.add.Goals as goal
 
 pub returns-in-Submit-clause-sound : goal.returns-in-Submit-clause-sound
 returns-in-Submit-clause-sound c =
-    sound_added c.entries_may_be_added.ensures.neither c.args.self.now.reader c.args.self.now.dirs (Submit c.in-Submit.seqnum c.in-Submit.dir c.in-Submit.length) c.add_submit.new.self c.args.self.now.rest c.add_submit.ensures c.requires.sound
+    sound_added c.entries_may_be_added.ensures.neither c.args.self.now.reader c.args.self.now.dirs (Submit c.in-Submit.seqnum c.in-Submit.dir c.in-Submit.length) c.add_submit.new.self c.args.self.now.refused c.add_submit.ensures c.requires.sound
 
 pub returns-in-Unlink-clause-sound : goal.returns-in-Unlink-clause-sound
 returns-in-Unlink-clause-sound c =
-    sound_added c.entries_may_be_added.ensures.neither c.args.self.now.reader c.args.self.now.dirs (Unlink c.in-Unlink.seqnum) c.add_unlink.new.self c.args.self.now.rest c.add_unlink.ensures c.requires.sound
+    sound_added c.entries_may_be_added.ensures.neither c.args.self.now.reader c.args.self.now.dirs (Unlink c.in-Unlink.seqnum) c.add_unlink.new.self c.args.self.now.refused c.add_unlink.ensures c.requires.sound

@@ -7,7 +7,7 @@ use Rattle.event_text.proofs.reading.Reading.give.Given as goal
 abbrev pub invariant-loop-used : goal.invariant-loop-used
 invariant-loop-used l = record {
   given : Given (standing_of l.fn.self.reader l.fn.self.dirs) l.fn.piece l.left (standing_of l.self.reader l.self.dirs) l.fn.text.items l.text.items;
-  sound : IsSound l.self.reader l.self.dirs l.self.rest;
+  sound : IsSound l.self.reader l.self.dirs l.self.refused;
 }
 
 abbrev pub decreases-loop-used : goal.decreases-loop-used

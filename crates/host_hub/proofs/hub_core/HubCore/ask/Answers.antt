@@ -1,17 +1,13 @@
 use Rattle.std.proofs.Common.{◌≡◌, ◌∙◌, ◌+◌, ℕ, refl, sym, ap, subst, arith, None, Some}
 use Rattle.std.specs.Prelude.{Option}
 use Rattle.host_hub.specs.declared.hub_core.HubCore.{HubCore}
-use Rattle.host_hub.specs.declared.hub_core.Phase.{Phase}
-use Rattle.host_hub.specs.declared.outcome.End.{End}
 use Rattle.host_hub.specs.declared.refusals.AskFault.{AskFault}
 use Rattle.host_hub.specs.Record.{Asking}
 use Rattle.host_hub.specs.Refusals.{ask_fault}
-use Rattle.host_hub.specs.Knows.{Knows}
 use Rattle.host_hub.specs.Stands.{Rests}
 use Rattle.host_hub.specs.Steps.{asked}
 use Rattle.host_hub.specs.Asks.{IsWhy}
-use Rattle.host_hub.proofs.Knowing.{knows_roomier}
-use Rattle.host_hub.proofs.Asks.{Unrefused, unrefused, tells, fewer, idle_ready, queued_rests, enters_queued, enters_begun, roomier_rests, ready_by, queued_by}
+use Rattle.host_hub.proofs.Asks.{unrefused, tells, fewer, enters_queued, enters_begun, roomier_rests, ready_by, queued_by}
 use Rattle.host_hub.proofs.hub_core.HubCore.ask.Goals as goal
 
 pub returns-in-Some : goal.returns-in-Some
@@ -70,7 +66,7 @@ returns-in-Idle c = λ s past sent r.
       none,
       c.in-Ok.ensures.number ∙ ap (λ (n : ℕ). n + 1) r.knows.shows.count,
       enters_begun s past sent (record { session = c.args.session; kind = c.args.kind; limit = c.args.limit; message = c.args.message.now }) c.begin.new.self
-          (c.begin.ensures s (asked past (record { session = c.args.session; kind = c.args.kind; limit = c.args.limit; message = c.args.message.now })) sent
+          (c.begin.ensures.goes s (asked past (record { session = c.args.session; kind = c.args.kind; limit = c.args.limit; message = c.args.message.now })) sent
           (ready_by s past sent c.args.self.now c.enter.new.self (record { session = c.args.session; kind = c.args.kind; limit = c.args.limit; message = c.args.message.now })
           r (r.knows.over ∙ u.running) (c.in-Ok.ensures.rest) c.in-Idle.is (c.in-Ok.ensures.goes s past sent r.kept.lawful r.knows))),
     )

@@ -1,4 +1,4 @@
-use Rattle.std.proofs.Common.{Some, ◌∷◌, ◌∙◌, ◌≡◌, ap, sym, subst, List, ℕ}
+use Rattle.std.proofs.Common.{Some, ◌∷◌, ◌∙◌, ap, sym, subst}
 use Rattle.usbip_wire.specs.Down as down
 use Rattle.host_hub.specs.declared.hub_core.HubCore.{HubCore}
 use Rattle.host_hub.specs.Record.{Fell}
@@ -20,11 +20,22 @@ settle_all-requires c =
       keeps = (lawful_book k.setting k.past k.hears.lawful, tt);
     }
 
-pub returns : goal.returns
-returns c = λ s past sent bytes h kept may ends.
+pub returns-clause-goes : goal.returns-clause-goes
+returns-clause-goes c = λ s past sent bytes h kept may ends.
     fell_goes s past sent c.settle_all.new.self (down.RetSubmit c.args.head bytes) c.args.end kept (sym h.knows.over ∙ c.requires.running) may ends
     (ap (λ (x : HubCore). x.end) c.settle_all.ensures.rest)
     (c.settle_all.ensures.goes s (Fell (down.RetSubmit c.args.head bytes) c.args.end ∷ past) sent (lawful_book s past h.lawful, tt)
     (subst (λ (x : HubCore). Knows s (Fell (down.RetSubmit c.args.head bytes) c.args.end ∷ past) sent (record x { end = Some c.args.end })) (sym c.take.ensures.rest)
     (knows_fell s past sent c.args.self.now (down.RetSubmit c.args.head bytes) c.args.end c.take.new.self.urbs h.knows c.requires.running
     (c.take.ensures.follows s past sent bytes h) c.take.ensures.device)))
+
+pub returns-clause-leaves : goal.returns-clause-leaves
+returns-clause-leaves c = record {
+  keeps = record {
+    first = ap (λ (h : HubCore). h.first) c.settle_all.ensures.rest ∙ ap (λ (h : HubCore). h.first) c.take.ensures.rest;
+    ends = ap (λ (h : HubCore). h.ends) c.settle_all.ensures.rest ∙ ap (λ (h : HubCore). h.ends) c.take.ensures.rest;
+    turned = ap (λ (h : HubCore). h.turned) c.settle_all.ensures.rest ∙ ap (λ (h : HubCore). h.turned) c.take.ensures.rest;
+    births = c.settle_all.ensures.births ∙ ap (λ (h : HubCore). h.notes.births) c.take.ensures.rest;
+  };
+  reader = ap (λ (h : HubCore). h.reader) c.settle_all.ensures.rest ∙ ap (λ (h : HubCore). h.reader) c.take.ensures.rest;
+}

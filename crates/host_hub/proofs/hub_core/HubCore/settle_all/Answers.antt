@@ -1,16 +1,15 @@
-use Rattle.std.proofs.Common.{refl, sym, ◌∙◌, ◌≡◌, ◌∷◌, Some, ◌+◌, subst, arith, ap, List, ℕ}
+use Rattle.std.proofs.Common.{refl, sym, ◌∙◌, ◌≡◌, ◌∷◌, Some, ◌+◌, subst, arith, ap, ℕ}
 use Rattle.host_hub.specs.declared.outcome.Outcome.{Outcome}
 use Rattle.host_hub.specs.declared.hub_core.HubCore.{HubCore}
-use Rattle.host_hub.specs.Order.{Setting}
-use Rattle.host_hub.specs.Record.{Past, Settled}
-use Rattle.host_hub.specs.Book.{KeepsBook, active, live}
+use Rattle.host_hub.specs.Record.{Settled}
+use Rattle.host_hub.specs.Book.{active, live}
 use Rattle.host_hub.specs.Knows.{Knows}
 use Rattle.host_hub.proofs.Lists.{first_has}
 use Rattle.host_hub.proofs.Knowing.{begins, goes_further, all_settled, has_active}
 use Rattle.host_hub.proofs.hub_core.HubCore.settle_all.Goals as goal
 
 pub live-init : goal.live-init
-live-init c = record { known = c.requires; goes = λ s sent. begins s c.args.end sent c.args.self.now; rest = refl }
+live-init c = record { known = c.requires; goes = λ s sent. begins s c.args.end sent c.args.self.now; rest = refl; births = refl }
 
 pub settle-requires-clause-known : goal.settle-requires-clause-known
 settle-requires-clause-known c =
@@ -35,6 +34,7 @@ live-preserved c =
           (c.settle.ensures.goes s past sent now knows));
       rest = c.settle.ensures.rest ∙ ap (λ (h : HubCore). record h { book = c.settle.new.self.book; notes = c.settle.new.self.notes; active = c.live.self.active + 1 }) c.live.invariant.rest
           ∙ ap (λ (n : ℕ). record c.args.self.now { book = c.settle.new.self.book; notes = c.settle.new.self.notes; active = n }) (sym (ap (λ (h : HubCore). h.active) c.settle.ensures.rest));
+      births = c.settle.ensures.births ∙ c.live.invariant.births;
     }
 
 pub live-smaller : goal.live-smaller

@@ -9,6 +9,7 @@ invariant-live l = record {
   known : HasBook l.self;
   goes : (s : Setting) (sent : List ℕ) → GoesOnTo s l.fn.end sent l.fn.self l.self;
   rest : l.self ≡ record l.fn.self { book = l.self.book; notes = l.self.notes; active = l.self.active };
+  births : l.self.notes.births ≡ l.fn.self.notes.births;
 }
 
 abbrev pub decreases-live : goal.decreases-live

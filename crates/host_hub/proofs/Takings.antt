@@ -1,0 +1,611 @@
+-- bytes come: the answers in them are heard
+use Rattle.std.specs.Int.{to_be_bytes, w32}
+use Rattle.std.proofs.Common.{◌≡◌, ◌≤◌, ◌<◌, ℕ, zero, suc, ◌+◌, ◌-◌, true, false, List, [], ◌∷◌, ◌++◌, length, take, drop, Option, Some, None, refl, sym, subst, ◌∙◌, ap, arith, append_assoc, append-nil}
+use Rattle.std.specs.Prelude.{is_some}
+use Rattle.std.proofs.lemmas.List.{length-drop, take_all}
+use Rattle.tmc_base.specs.declared.field.Field.{Field}
+use Rattle.usbip_wire.specs.declared.dirs.Outstanding.{Outstanding}
+use Rattle.usbip_wire.specs.declared.down.Down.{Down}
+use Rattle.usbip_wire.specs.declared.down.Down.TheVariants as what
+use Rattle.usbip_wire.specs.declared.down.DownPhase.{DownPhase}
+use Rattle.usbip_wire.specs.declared.down.DownPhase.TheVariants.{Urbs}
+use Rattle.usbip_wire.specs.declared.down.DownStep.{DownStep}
+use Rattle.usbip_wire.specs.declared.ret_submit.RetSubmitHead.{RetSubmitHead}
+use Rattle.usbip_wire.specs.Awaited.{entries_of}
+use Rattle.usbip_wire.specs.Down as down
+use Rattle.usbip_wire.specs.Down.{SpellsAnswer}
+use Rattle.usbip_wire.specs.DownFed as down_fed
+use Rattle.usbip_wire.specs.DownFed.{Answers, BadAt, NoneWhole, data_of, kept}
+use Rattle.usbip_wire.specs.RetSubmit.{ret_submit_bytes}
+use Rattle.usbip_wire.specs.RetUnlink.{ret_unlink_bytes}
+use Rattle.usbip_wire.specs.Urb.{fields}
+use Rattle.host_urbs.specs.Entries as entries
+use Rattle.host_urbs.specs.Law as urbs_law
+use Rattle.host_urbs.specs.Record as urbs
+use Rattle.host_urbs.specs.Unanswered.{AreInARow}
+use Rattle.host_hub.specs.declared.hub_core.HubCore.{HubCore}
+use Rattle.host_hub.specs.declared.hub_core.Phase.{Phase}
+use Rattle.host_hub.specs.declared.hub_core.Phase.TheVariants as phase
+use Rattle.host_hub.specs.declared.outcome.End.{End}
+use Rattle.host_hub.specs.declared.outcome.End.TheVariants as end
+use Rattle.host_hub.specs.Order.{Setting}
+use Rattle.host_hub.specs.Record.{Asked, Cancelled, Cleared, Fell, GaveUp, Happening, Past, Recovers, Settled, Stopped, Took, Wrote, written}
+use Rattle.host_hub.specs.Book.{KeepsBook, live}
+use Rattle.host_hub.specs.Calls.{All, IsOfTurn}
+use Rattle.host_hub.specs.Crossings.{crossings}
+use Rattle.host_hub.specs.Hand.{ended}
+use Rattle.host_hub.specs.Law.{ByBytes}
+use Rattle.host_hub.specs.Steps.{settle_all}
+use Rattle.host_hub.specs.Tied.{AllTaken, AreSent, IsDueIn, IsRefused, NothingLies, Received, Tied, below, entries_sent, seqnum_of, spelled, stopped, takes_all, takes_all_by}
+use Rattle.host_hub.specs.Knows.{HasBook, Knows}
+use Rattle.host_hub.specs.OneOut.{OneOut}
+use Rattle.host_hub.specs.Stands.{Rests, Stands}
+use Rattle.host_hub.specs.Hears.{GoesByAnswer, HearsOut, IsBehind, OfItself, Takes}
+use Rattle.host_hub.specs.Fed.{Fed, FedAnswer, Feeds}
+use Rattle.host_hub.proofs.Begins.{ended_rests}
+use Rattle.host_hub.proofs.Counts.{AtMost, Nothing, Single, entries_here, low_found, none_unlinks, sent_on, stands_so}
+use Rattle.host_hub.proofs.Endings.{stopped_kept}
+use Rattle.host_hub.proofs.Failed.{OutNow, out_now}
+use Rattle.host_hub.proofs.Falls.{AllEnds, IsSettling, all_added, all_ends, settling_all, settling_stopped}
+use Rattle.host_hub.proofs.Lawful.{lawful_book}
+use Rattle.host_hub.proofs.Lists.{clash}
+use Rattle.host_hub.proofs.Sends.{rests_aside}
+use Rattle.host_hub.proofs.Answering.{sent_whole}
+use Rattle.host_hub.proofs.Tying.{tied_got}
+
+-- ---- where a hub runs, at most one submit is out
+
+pub at_most : (p : Phase) (s : Setting) (past : Past) (core : HubCore) → Stands p s past core → AtMost past × OneOut core.urbs
+at_most phase.Idle s past core i = (Nothing i.nothing, i.queue)
+at_most phase.Message s past core m = (Single _ refl m.out.alone, m.out.queue)
+at_most phase.Request s past core m = (Single _ refl m.out.alone, m.out.queue)
+at_most phase.Response s past core m = (Single _ refl m.out.alone, m.out.queue)
+
+-- ---- no answer has no bytes
+
+no_empty : (es : List Outstanding) (m : down.Message) (front : List ℕ) → SpellsAnswer es m front → front ≡ [] → ⊥
+unfolding ret_submit_bytes ret_unlink_bytes fields
+no_empty es (down.RetSubmit head bytes) front h e = omega (arith, ap (λ (l : List ℕ). length l) (sym e ∙ h.2.layout))
+no_empty es (down.RetUnlink head) front h e = omega (arith, ap (λ (l : List ℕ). length l) (sym e ∙ h.1.layout))
+
+front_none : (a b : List ℕ) → [] ≡ a ++ b → a ≡ []
+front_none [] b e = refl
+front_none (x ∷ a) b e = absurd (no e)
+  where
+    no : [] ≡ x ∷ (a ++ b) → ⊥
+    no k = cc
+
+nothing_lies : (s : Setting) (past : Past) (count : ℕ) → NothingLies s past count []
+nothing_lies s past count = record {
+  none_whole = λ m front tail h e. no_empty (entries_sent s past count) m front h (front_none front tail e);
+  none_bad = λ f bad. no_bad f bad;
+}
+  where
+    no_bad : (f : Field) → BadAt Urbs (entries_sent s past count) [] f → ⊥
+    no_bad f bad = let e : [] ≡ to_be_bytes w32 bad.0 ++ bad.1 = bad.3 in cc
+
+-- ---- what a hub does behind an answer
+
+behind_turn : (more : Past) → All IsBehind more → All IsOfTurn more
+behind_turn [] h = tt
+behind_turn (Wrote n o k ∷ more) h = (tt, behind_turn more h.1)
+behind_turn (Recovers ∷ more) h = (tt, behind_turn more h.1)
+behind_turn (Settled t o ∷ more) h = (tt, behind_turn more h.1)
+behind_turn (Stopped e ∷ more) h = (by e h.0, behind_turn more h.1)
+  where
+    by : (e : End) → OfItself e → e ≡ end.GivenUp → ⊥
+    by (end.DeviceFault status) i k = cc
+    by end.Exhausted i k = cc
+    by end.Unplugged i k = i
+    by (end.DeviceSays status) i k = i
+    by (end.PeerFault field) i k = i
+    by end.LinkFault i k = i
+    by end.GivenUp i k = i
+behind_turn (Took m ∷ more) h = absurd h.0
+behind_turn (Fell m e ∷ more) h = absurd h.0
+behind_turn (Asked t a ∷ more) h = absurd h.0
+behind_turn (Cancelled t ∷ more) h = absurd h.0
+behind_turn (Cleared w ∷ more) h = absurd h.0
+behind_turn (GaveUp ∷ more) h = absurd h.0
+
+behind_due : (s : Setting) (count : ℕ) (more : Past) → All IsBehind more → All (IsDueIn s count) more
+behind_due s count [] h = tt
+behind_due s count (Wrote n o k ∷ more) h = (tt, behind_due s count more h.1)
+behind_due s count (Recovers ∷ more) h = (tt, behind_due s count more h.1)
+behind_due s count (Settled t o ∷ more) h = (tt, behind_due s count more h.1)
+behind_due s count (Stopped e ∷ more) h = (tt, behind_due s count more h.1)
+behind_due s count (Took m ∷ more) h = absurd h.0
+behind_due s count (Fell m e ∷ more) h = absurd h.0
+behind_due s count (Asked t a ∷ more) h = absurd h.0
+behind_due s count (Cancelled t ∷ more) h = absurd h.0
+behind_due s count (Cleared w ∷ more) h = absurd h.0
+behind_due s count (GaveUp ∷ more) h = absurd h.0
+
+takes_turn : (m : down.Message) (x : Happening) → Takes m x → IsOfTurn x
+takes_turn m (Took answer) h = tt
+takes_turn m (Fell answer e) h = tt
+takes_turn m (Wrote n o k) h = absurd h
+takes_turn m (Stopped e) h = absurd h
+takes_turn m Recovers h = absurd h
+takes_turn m (Asked t a) h = absurd h
+takes_turn m (Cancelled t) h = absurd h
+takes_turn m (Cleared w) h = absurd h
+takes_turn m GaveUp h = absurd h
+takes_turn m (Settled t o) h = absurd h
+
+takes_due : (s : Setting) (count : ℕ) (m : down.Message) (x : Happening) → Takes m x → seqnum_of m < s.first + count → IsDueIn s count x
+takes_due s count m (Took answer) h less = subst (λ (k : down.Message). seqnum_of k < s.first + count) (sym h) less
+takes_due s count m (Fell answer e) h less = subst (λ (k : down.Message). seqnum_of k < s.first + count) (sym h) less
+takes_due s count m (Wrote n o k) h less = absurd h
+takes_due s count m (Stopped e) h less = absurd h
+takes_due s count m Recovers h less = absurd h
+takes_due s count m (Asked t a) h less = absurd h
+takes_due s count m (Cancelled t) h less = absurd h
+takes_due s count m (Cleared w) h less = absurd h
+takes_due s count m GaveUp h less = absurd h
+takes_due s count m (Settled t o) h less = absurd h
+
+takes_stop : (m : down.Message) (x : Happening) → Takes m x → stopped (x ∷ []) ≡ None
+takes_stop m (Took answer) h = refl
+takes_stop m (Fell answer e) h = refl
+takes_stop m (Wrote n o k) h = absurd h
+takes_stop m (Stopped e) h = absurd h
+takes_stop m Recovers h = absurd h
+takes_stop m (Asked t a) h = absurd h
+takes_stop m (Cancelled t) h = absurd h
+takes_stop m (Cleared w) h = absurd h
+takes_stop m GaveUp h = absurd h
+takes_stop m (Settled t o) h = absurd h
+
+same_end : (e f : End) → Some e ≡ Some f → e ≡ f
+same_end e f k = cc
+
+behind_stop : (m : down.Message) (more : Past) (x : Happening) (e : End) → All IsBehind more → Takes m x → stopped (more ++ x ∷ []) ≡ Some e → OfItself e
+behind_stop m [] x e h takes k = absurd (let f : None ≡ Some e = sym (takes_stop m x takes) ∙ k in no f)
+  where
+    no : None ≡ Some e → ⊥
+    no f = cc
+behind_stop m (Wrote n o k ∷ more) x e h takes f = behind_stop m more x e h.1 takes f
+behind_stop m (Recovers ∷ more) x e h takes f = behind_stop m more x e h.1 takes f
+behind_stop m (Settled t o ∷ more) x e h takes f = behind_stop m more x e h.1 takes f
+behind_stop m (Stopped g ∷ more) x e h takes f = subst OfItself (same_end g e f) h.0
+behind_stop m (Took n ∷ more) x e h takes f = absurd h.0
+behind_stop m (Fell n g ∷ more) x e h takes f = absurd h.0
+behind_stop m (Asked t a ∷ more) x e h takes f = absurd h.0
+behind_stop m (Cancelled t ∷ more) x e h takes f = absurd h.0
+behind_stop m (Cleared w ∷ more) x e h takes f = absurd h.0
+behind_stop m (GaveUp ∷ more) x e h takes f = absurd h.0
+
+-- the answer is received, and nothing else
+received_by : (s : Setting) (m : down.Message) (more : Past) (x : Happening) (past : Past) (front this : List ℕ) → All IsBehind more → Takes m x → Received (crossings s past) front
+    → SpellsAnswer (entries_of (urbs.outstanding (crossings s past))) m this → Received (crossings s (more ++ x ∷ past)) (front ++ this)
+received_by s m [] (Took answer) past front this h takes r sp =
+    (front, this, refl, r, subst (λ (k : down.Message). SpellsAnswer (entries_of (urbs.outstanding (crossings s past))) k this) (sym takes) sp)
+received_by s m [] (Fell answer e) past front this h takes r sp =
+    (front, this, refl, r, subst (λ (k : down.Message). SpellsAnswer (entries_of (urbs.outstanding (crossings s past))) k this) (sym takes) sp)
+received_by s m [] (Wrote n o k) past front this h takes r sp = absurd takes
+received_by s m [] (Stopped e) past front this h takes r sp = absurd takes
+received_by s m [] Recovers past front this h takes r sp = absurd takes
+received_by s m [] (Asked t a) past front this h takes r sp = absurd takes
+received_by s m [] (Cancelled t) past front this h takes r sp = absurd takes
+received_by s m [] (Cleared w) past front this h takes r sp = absurd takes
+received_by s m [] GaveUp past front this h takes r sp = absurd takes
+received_by s m [] (Settled t o) past front this h takes r sp = absurd takes
+received_by s m (Wrote n o k ∷ more) x past front this h takes r sp = received_by s m more x past front this h.1 takes r sp
+received_by s m (Recovers ∷ more) x past front this h takes r sp = received_by s m more x past front this h.1 takes r sp
+received_by s m (Settled t o ∷ more) x past front this h takes r sp = received_by s m more x past front this h.1 takes r sp
+received_by s m (Stopped e ∷ more) x past front this h takes r sp = received_by s m more x past front this h.1 takes r sp
+received_by s m (Took n ∷ more) x past front this h takes r sp = absurd h.0
+received_by s m (Fell n e ∷ more) x past front this h takes r sp = absurd h.0
+received_by s m (Asked t a ∷ more) x past front this h takes r sp = absurd h.0
+received_by s m (Cancelled t ∷ more) x past front this h takes r sp = absurd h.0
+received_by s m (Cleared w ∷ more) x past front this h takes r sp = absurd h.0
+received_by s m (GaveUp ∷ more) x past front this h takes r sp = absurd h.0
+
+-- settling and ending move nothing
+still_crossings : (s : Setting) (more past : Past) → All IsSettling more → crossings s (more ++ past) ≡ crossings s past
+still_crossings s [] past h = refl
+still_crossings s (Settled t o ∷ more) past h = still_crossings s more past h.1
+still_crossings s (Wrote n o k ∷ more) past h = absurd h.0
+still_crossings s (Took m ∷ more) past h = absurd h.0
+still_crossings s (Fell m e ∷ more) past h = absurd h.0
+still_crossings s (Stopped e ∷ more) past h = absurd h.0
+still_crossings s (Recovers ∷ more) past h = absurd h.0
+still_crossings s (Asked t a ∷ more) past h = absurd h.0
+still_crossings s (Cancelled t ∷ more) past h = absurd h.0
+still_crossings s (Cleared w ∷ more) past h = absurd h.0
+still_crossings s (GaveUp ∷ more) past h = absurd h.0
+
+-- ---- one call of the reader
+
+abbrev pub Rows : Type 0
+Rows = (first : ℕ) (past : urbs.Past) → urbs_law.Lawful first past → AreInARow first (urbs.written past)
+
+none_some : {P : Type 0} (e : End) → None ≡ Some e → P
+none_some e k = absurd (no k)
+  where
+    no : None ≡ Some e → ⊥
+    no h = cc
+
+module _ (rows : Rows) (core : HubCore) (piece : List ℕ) (step : DownStep) (r : down_fed.Held) (es : List Outstanding)
+    (same : es ≡ entries_of (entries.sent core.urbs.entries)) (fed : down_fed.Fed core.reader es piece step r)
+    (s : Setting) (past : Past) (sent received rest : List ℕ) (count : ℕ) (f : Feeds s past sent received rest count core) where
+  stands_so_far : AtMost past × OneOut core.urbs
+  stands_so_far = at_most core.phase s past core (f.rests.stands f.running)
+
+  here : es ≡ entries_sent s past count
+  here = same ∙ entries_here rows s past sent core count f.rests.kept.lawful f.rests.knows stands_so_far.1 f.counted stands_so_far.0
+
+  pub judged : Answers Urbs (entries_sent s past count) rest piece step.used step.what r
+  judged =
+      subst (λ (l : List Outstanding). Answers Urbs l rest piece step.used step.what r) here
+      (subst (λ (l : List ℕ). Answers Urbs es l piece step.used step.what r) f.reads.held
+      (subst (λ (p : DownPhase). Answers p es (kept core.reader) piece step.used step.what r) f.reads.urbs
+      (fed.fresh f.reads.good
+      (subst (λ (p : DownPhase). NoneWhole p es (kept core.reader)) (sym f.reads.urbs)
+      (subst (λ (l : List ℕ). NoneWhole Urbs es l) (sym f.reads.held)
+      (subst (λ (l : List Outstanding). NoneWhole Urbs l rest) (sym here) f.lies.none_whole))))))
+
+  judged_as : (w : Down) → step.what ≡ w → Answers Urbs (entries_sent s past count) rest piece step.used w r
+  judged_as w is = subst (λ (x : Down). Answers Urbs (entries_sent s past count) rest piece step.used x r) is judged
+
+  abbrev read_core : HubCore
+  read_core = record core { reader = r }
+
+  pub rests_now : Rests s past sent read_core
+  rests_now = rests_aside s past sent sent core core.urbs r f.rests f.rests.knows.follows refl (λ q. q)
+
+  -- no answer is whole
+  pub fed_more : step.what ≡ what.More → Fed s past sent received count piece read_core
+  fed_more is =
+      let j = judged_as what.More is in
+      record {
+        more = [];
+        own = tt;
+        due = tt;
+        fault = λ e. none_some end.LinkFault e;
+        closing = λ e. none_some end.Unplugged e;
+        left = rest ++ piece;
+        refused = λ g e. none_some (end.PeerFault g) e;
+        rests = rests_now;
+        tied = tied_got s past sent core.urbs.outbox received rest piece f.tied;
+        counted = f.counted;
+        lies = λ e. record { none_whole = j.1; none_bad = j.2 };
+        reads = λ e. record { urbs = ap (λ (h : down_fed.Held). h.phase) j.3; held = ap kept j.3; good = ap (λ (h : down_fed.Held). h.bad) j.3 };
+      }
+
+  -- an answer is whole
+  module _ (head : RetSubmitHead) (is : step.what ≡ what.RetSubmit head) where
+    abbrev raw : List ℕ
+    raw = rest ++ take step.used piece
+
+    answer : Answers Urbs (entries_sent s past count) rest piece step.used (what.RetSubmit head) r
+    answer = judged_as (what.RetSubmit head) is
+
+    reader_is : r ≡ record { phase = Urbs; rest = raw; whole = true; bad = None }
+    reader_is = answer.3
+
+    spelled_now : SpellsAnswer (entries_sent s past count) (down.RetSubmit head (data_of r)) raw
+    spelled_now = subst (λ (l : List ℕ). SpellsAnswer (entries_sent s past count) (down.RetSubmit head l) raw) (sym (ap data_of reader_is)) answer.1
+
+    pub hears_now : HearsOut s past sent read_core head (data_of r)
+    hears_now = record {
+      rests = rests_now;
+      running = f.running;
+      raw = raw;
+      spelled = subst (λ (l : List Outstanding). SpellsAnswer l (down.RetSubmit head (data_of r)) raw) (sym here ∙ same) spelled_now;
+    }
+
+    pub uses_some : (0 < step.used) × (step.used ≤ length piece)
+    uses_some = (by step.used refl, answer.0)
+      where
+        by : (n : ℕ) → step.used ≡ n → 0 < step.used
+        by zero e =
+            absurd (f.lies.none_whole (down.RetSubmit head (data_of r)) rest []
+            (subst (λ (l : List ℕ). SpellsAnswer (entries_sent s past count) (down.RetSubmit head (data_of r)) l)
+            (ap (λ (n : ℕ). rest ++ take n piece) e ∙ append-nil rest) spelled_now) (sym (append-nil rest)))
+        by (suc n) e = omega (arith, e)
+
+    outstanding_now : entries_of (entries.sent core.urbs.entries) ≡ entries_of (urbs.outstanding (crossings s past))
+    outstanding_now =
+        let o : OutNow s past read_core = out_now s past sent read_core head (data_of r) hears_now in
+        ap entries_of (sent_whole s past sent read_core _ head.seqnum f.rests.kept.lawful rests_now.knows o.out.alone (ap is_some hears_now.spelled.1))
+
+    pub fed_answer : (new : HubCore) → GoesByAnswer s past sent (down.RetSubmit head (data_of r)) new → new.reader ≡ r → FedAnswer s past sent received count (take step.used piece) new
+    fed_answer new g reader = record {
+      fed = record {
+        more = g.more ++ g.first ∷ [];
+        own = all_added IsOfTurn g.more g.first (behind_turn g.more g.behind) (takes_turn (down.RetSubmit head (data_of r)) g.first g.takes);
+        due = all_added (IsDueIn s count) g.more g.first (behind_due s count g.more g.behind)
+            (takes_due s count (down.RetSubmit head (data_of r)) g.first g.takes (low_found (s.first + count) head.seqnum (urbs.outstanding (crossings s past)) (ap is_some spelled_now.1)));
+        fault = λ e. stop end.LinkFault e;
+        closing = λ e. stop end.Unplugged e;
+        left = [];
+        refused = λ h e. absurd (stop (end.PeerFault h) e);
+        rests = subst (λ (p : Past). Rests s p sent new) (sym joined) g.rests;
+        tied = record {
+          front = f.tied.front ++ raw;
+          written = subst (λ (p : Past). sent ++ new.urbs.outbox ≡ spelled (written s p)) (sym joined) (stands_so s (g.more ++ g.first ∷ past) sent new g.rests.knows);
+          taken = ap (λ (l : List ℕ). l ++ take step.used piece) f.tied.taken
+              ∙ (append_assoc f.tied.front rest (take step.used piece) ∙ sym (append-nil (f.tied.front ++ raw)));
+          answers = subst (λ (p : Past). Received (crossings s p) (f.tied.front ++ raw)) (sym joined)
+              (received_by s (down.RetSubmit head (data_of r)) g.more g.first past f.tied.front raw g.behind g.takes f.tied.answers
+              (subst (λ (l : List Outstanding). SpellsAnswer l (down.RetSubmit head (data_of r)) raw) (sym here ∙ (same ∙ outstanding_now)) spelled_now));
+        };
+        counted = sent_on s (g.more ++ g.first ∷ []) past sent count f.counted;
+        lies = λ e. nothing_lies s ((g.more ++ g.first ∷ []) ++ past) count;
+        reads = λ e. record {
+          urbs = ap (λ (h : down_fed.Held). h.phase) (reader ∙ reader_is);
+          held = ap kept (reader ∙ reader_is);
+          good = ap (λ (h : down_fed.Held). h.bad) (reader ∙ reader_is);
+        };
+      };
+      unrefused = λ h e. stop (end.PeerFault h) e;
+    }
+      where
+        joined : (g.more ++ g.first ∷ []) ++ past ≡ g.more ++ g.first ∷ past
+        joined = append_assoc g.more (g.first ∷ []) past
+
+        stop : (e : End) → stopped (g.more ++ g.first ∷ []) ≡ Some e → OfItself e
+        stop e k = behind_stop (down.RetSubmit head (data_of r)) g.more g.first e g.behind g.takes k
+
+  -- a field is refused
+  module _ (field : Field) (is : step.what ≡ what.Bad field) where
+    refuses : Answers Urbs (entries_sent s past count) rest piece step.used (what.Bad field) r
+    refuses = judged_as (what.Bad field) is
+
+    pub refused_book : HasBook read_core
+    refused_book = record { setting = s; past = past; sent = sent; knows = rests_now.knows; keeps = lawful_book s past f.rests.kept.lawful }
+
+    pub fed_refused : (new : HubCore)
+        → ((s : Setting) (past : Past) (sent : List ℕ) → KeepsBook past → Knows s past sent read_core
+        → Knows s (settle_all (end.PeerFault field) (live past) (Stopped (end.PeerFault field) ∷ past)) sent new)
+        → new.end ≡ Some (end.PeerFault field) → new.urbs ≡ core.urbs → Fed s past sent received count piece new
+    fed_refused new stops ended_by urbs_same =
+        let e : End = end.PeerFault field in
+        let a : AllEnds e (live past) (Stopped e ∷ past) = all_ends e (live past) (Stopped e ∷ past) in
+        let stop : stopped (a.more ++ Stopped e ∷ []) ≡ Some e = settling_stopped a.more (Stopped e ∷ []) a.settling in
+        let joined : (a.more ++ Stopped e ∷ []) ++ past ≡ a.more ++ Stopped e ∷ past = append_assoc a.more (Stopped e ∷ []) past in
+        let still : crossings s ((a.more ++ Stopped e ∷ []) ++ past) ≡ crossings s past =
+        ap (λ (p : Past). crossings s p) joined ∙ still_crossings s a.more (Stopped e ∷ past) a.settling in
+        let rests_new : Rests s ((a.more ++ Stopped e ∷ []) ++ past) sent new =
+        subst (λ (p : Past). Rests s p sent new) (a.same ∙ sym joined)
+        (ended_rests s (settle_all e (live past) (Stopped e ∷ past)) sent new e ended_by (stops s past sent (lawful_book s past f.rests.kept.lawful) rests_now.knows)
+        (stopped_kept s past e f.rests.kept.lawful (sym f.rests.knows.over ∙ f.running) (ByBytes field refl f.rests.kept.quiet))) in
+        record {
+          more = a.more ++ Stopped e ∷ [];
+          own = all_added IsOfTurn a.more (Stopped e) (settling_all IsOfTurn (λ t o. tt) a.more a.settling) other;
+          due = all_added (IsDueIn s count) a.more (Stopped e) (settling_all (IsDueIn s count) (λ t o. tt) a.more a.settling) tt;
+          fault = λ k. by_field end.LinkFault (sym stop ∙ k);
+          closing = λ k. by_closing (sym stop ∙ k);
+          left = rest ++ piece;
+          refused = λ g k. subst (λ (h : Field). IsRefused s ((a.more ++ Stopped e ∷ []) ++ past) count (rest ++ piece) h) (same_field g (sym stop ∙ k))
+              (subst (λ (l : List Outstanding). BadAt Urbs l (rest ++ piece) field) (ap (λ (p : urbs.Past). entries_of (below (s.first + count) (urbs.outstanding p))) (sym still)) refuses.2);
+          rests = rests_new;
+          tied = record {
+            front = f.tied.front;
+            written = stands_so s ((a.more ++ Stopped e ∷ []) ++ past) sent new rests_new.knows;
+            taken = ap (λ (l : List ℕ). l ++ piece) f.tied.taken ∙ append_assoc f.tied.front rest piece;
+            answers = subst (λ (p : urbs.Past). Received p f.tied.front) (sym still) f.tied.answers;
+          };
+          counted = sent_on s (a.more ++ Stopped e ∷ []) past sent count f.counted;
+          lies = λ k. clash (sym (takes_not ((a.more ++ Stopped e ∷ []) ++ past) rests_new (ap (λ (p : Past). stopped p) joined ∙ settling_stopped a.more (Stopped e ∷ past) a.settling)) ∙ k);
+          reads = λ k. none_some e (sym k ∙ ended_by);
+        }
+      where
+        other : end.PeerFault field ≡ end.GivenUp → ⊥
+        other k = cc
+
+        by_field : (g : End) → Some (end.PeerFault field) ≡ Some end.LinkFault → ⊥
+        by_field g k = cc
+
+        by_closing : Some (end.PeerFault field) ≡ Some end.Unplugged → ⊥
+        by_closing k = cc
+
+        same_field : (g : Field) → Some (end.PeerFault field) ≡ Some (end.PeerFault g) → field ≡ g
+        same_field g k = cc
+
+        takes_not : (p : Past) → Rests s p sent new → stopped p ≡ Some (end.PeerFault field) → takes_all p ≡ false
+        takes_not p h k =
+            ap (λ (o : Option End). takes_all_by o (stopped p)) (sym h.knows.over ∙ ended_by) ∙ ap (λ (o : Option End). takes_all_by (Some (end.PeerFault field)) o) k
+
+  -- nothing else comes
+  pub nothing_else : (step.what ≡ what.More → ⊥) → ((h : RetSubmitHead) → step.what ≡ what.RetSubmit h → ⊥) → ((g : Field) → step.what ≡ what.Bad g → ⊥) → ⊥
+  nothing_else more submit bad = by step.what refl
+    where
+      by : (w : Down) → step.what ≡ w → ⊥
+      by what.More e = more e
+      by (what.RetSubmit h) e = submit h e
+      by (what.Bad g) e = bad g e
+      by (what.RetUnlink h) e =
+          clash (sym (none_unlinks s past h.seqnum count f.rests.kept.lawful stands_so_far.0) ∙ (judged_as (what.RetUnlink h) e).1.0)
+      by (what.Count status devices) e = (judged_as (what.Count status devices) e).1
+      by (what.Device device) e = (judged_as (what.Device device) e).1
+      by (what.Interface class subclass protocol) e = (judged_as (what.Interface class subclass protocol) e).1
+      by (what.Import status device) e = (judged_as (what.Import status device) e).1
+
+-- ---- one answer behind another
+
+-- behind a hub that runs and was fed, it may be fed on
+pub feeds_on : (s : Setting) (past : Past) (sent received : List ℕ) (count : ℕ) (bytes : List ℕ) (core : HubCore) → (f : Fed s past sent received count bytes core) → core.end ≡ None
+    → Feeds s (f.more ++ past) sent (received ++ bytes) f.left count core
+feeds_on s past sent received count bytes core f running = record {
+  rests = f.rests;
+  running = running;
+  tied = f.tied;
+  counted = f.counted;
+  lies = f.lies (ap (λ (o : Option End). takes_all_by o (stopped (f.more ++ past))) (sym f.rests.knows.over ∙ running) ∙ takes_running (stopped (f.more ++ past)));
+  reads = f.reads running;
+}
+  where
+    takes_running : (o : Option End) → takes_all_by None o ≡ true
+    takes_running o = refl
+
+stop_none : (more past : Past) → stopped past ≡ None → stopped (more ++ past) ≡ stopped more
+stop_none [] past e = e
+stop_none (Stopped g ∷ more) past e = refl
+stop_none (Wrote n o k ∷ more) past e = stop_none more past e
+stop_none (Took m ∷ more) past e = stop_none more past e
+stop_none (Fell m g ∷ more) past e = stop_none more past e
+stop_none (Recovers ∷ more) past e = stop_none more past e
+stop_none (Asked t a ∷ more) past e = stop_none more past e
+stop_none (Cancelled t ∷ more) past e = stop_none more past e
+stop_none (Cleared w ∷ more) past e = stop_none more past e
+stop_none (GaveUp ∷ more) past e = stop_none more past e
+stop_none (Settled t o ∷ more) past e = stop_none more past e
+
+-- a hub that runs did not end
+pub not_stopped_yet : (past : Past) → ended past ≡ None → stopped past ≡ None
+not_stopped_yet [] e = refl
+not_stopped_yet (Stopped g ∷ past) e = none_some g (sym e)
+not_stopped_yet (Fell m g ∷ past) e = none_some g (sym e)
+not_stopped_yet (Wrote n o k ∷ past) e = not_stopped_yet past e
+not_stopped_yet (Took m ∷ past) e = not_stopped_yet past e
+not_stopped_yet (Recovers ∷ past) e = not_stopped_yet past e
+not_stopped_yet (Asked t a ∷ past) e = not_stopped_yet past e
+not_stopped_yet (Cancelled t ∷ past) e = not_stopped_yet past e
+not_stopped_yet (Cleared w ∷ past) e = not_stopped_yet past e
+not_stopped_yet (GaveUp ∷ past) e = not_stopped_yet past e
+not_stopped_yet (Settled t o ∷ past) e = not_stopped_yet past e
+
+front_of : (more past : Past) → stopped (more ++ past) ≡ None → stopped more ≡ None
+front_of [] past e = refl
+front_of (Stopped h ∷ more) past e = e
+front_of (Wrote n o k ∷ more) past e = front_of more past e
+front_of (Took m ∷ more) past e = front_of more past e
+front_of (Fell m h ∷ more) past e = front_of more past e
+front_of (Recovers ∷ more) past e = front_of more past e
+front_of (Asked t a ∷ more) past e = front_of more past e
+front_of (Cancelled t ∷ more) past e = front_of more past e
+front_of (Cleared w ∷ more) past e = front_of more past e
+front_of (GaveUp ∷ more) past e = front_of more past e
+front_of (Settled t o ∷ more) past e = front_of more past e
+
+all_both : (Is : Happening → Type 0) (more past : Past) → All Is more → All Is past → All Is (more ++ past)
+all_both Is [] past h k = k
+all_both Is (x ∷ more) past h k = (h.0, all_both Is more past h.1 k)
+
+pub fed_then : (s : Setting) (past : Past) (sent received : List ℕ) (count : ℕ) (first behind : List ℕ) (mid new : HubCore) → (f : Fed s past sent received count first mid) → mid.end ≡ None
+    → Fed s (f.more ++ past) sent (received ++ first) count behind new → Fed s past sent received count (first ++ behind) new
+fed_then s past sent received count first behind mid new f running g =
+    let joined : (g.more ++ f.more) ++ past ≡ g.more ++ (f.more ++ past) = append_assoc g.more f.more past in
+    record {
+      more = g.more ++ f.more;
+      own = all_both IsOfTurn g.more f.more g.own f.own;
+      due = all_both (IsDueIn s count) g.more f.more g.due f.due;
+      fault = λ e. g.fault (sym same ∙ e);
+      closing = λ e. g.closing (sym same ∙ e);
+      left = g.left;
+      refused = λ h e. subst (λ (p : Past). IsRefused s p count g.left h) (sym joined) (g.refused h (sym same ∙ e));
+      rests = subst (λ (p : Past). Rests s p sent new) (sym joined) g.rests;
+      tied = subst (λ (p : Past). Tied s p sent new.urbs.outbox (received ++ (first ++ behind)) g.left) (sym joined)
+          (subst (λ (l : List ℕ). Tied s (g.more ++ (f.more ++ past)) sent new.urbs.outbox l g.left) (append_assoc received first behind) g.tied);
+      counted = subst (λ (p : Past). AreSent s p sent count) (sym joined) g.counted;
+      lies = subst (λ (p : Past). AllTaken s p count g.left) (sym joined) g.lies;
+      reads = g.reads;
+    }
+  where
+    front : stopped f.more ≡ None
+    front = front_of f.more past (not_stopped_yet (f.more ++ past) (sym f.rests.knows.over ∙ running))
+
+    same : stopped (g.more ++ f.more) ≡ stopped g.more
+    same = stop_none g.more f.more front
+
+-- one that ended takes nothing more of what came
+pub fed_ended : (s : Setting) (past : Past) (sent received : List ℕ) (count : ℕ) (first behind : List ℕ) (core : HubCore) (e : End) → FedAnswer s past sent received count first core
+    → stopped past ≡ None → core.end ≡ Some e → Fed s past sent received count (first ++ behind) core
+fed_ended s past sent received count first behind core e a none over =
+    let f : Fed s past sent received count first core = a.fed in
+    record {
+      more = f.more;
+      own = f.own;
+      due = f.due;
+      fault = f.fault;
+      closing = f.closing;
+      left = f.left ++ behind;
+      refused = λ h k. absurd (a.unrefused h k);
+      rests = f.rests;
+      tied = subst (λ (l : List ℕ). Tied s (f.more ++ past) sent core.urbs.outbox l (f.left ++ behind)) (append_assoc received first behind)
+          (tied_got s (f.more ++ past) sent core.urbs.outbox (received ++ first) f.left behind f.tied);
+      counted = f.counted;
+      lies = λ k. clash (sym (takes_not (stopped f.more) refl) ∙ k);
+      reads = λ k. none_some e (sym k ∙ over);
+    }
+  where
+    ended_so : ended (a.fed.more ++ past) ≡ Some e
+    ended_so = sym a.fed.rests.knows.over ∙ over
+
+    takes_not : (o : Option End) → stopped a.fed.more ≡ o → takes_all (a.fed.more ++ past) ≡ false
+    takes_not o k =
+        ap (λ (x : Option End). takes_all_by x (stopped (a.fed.more ++ past))) ended_so
+        ∙ (ap (λ (x : Option End). takes_all_by (Some e) x) (stop_none a.fed.more past none ∙ k) ∙ by o k)
+      where
+        by : (o : Option End) → stopped a.fed.more ≡ o → takes_all_by (Some e) o ≡ false
+        by None k = refl
+        by (Some end.LinkFault) k = absurd (a.fed.fault k)
+        by (Some end.Unplugged) k = absurd (a.fed.closing k)
+        by (Some end.GivenUp) k = absurd (never_given a.fed.more a.fed.own k)
+          where
+            never_given : (more : Past) → All IsOfTurn more → stopped more ≡ Some end.GivenUp → ⊥
+            never_given [] h k = none_some end.GivenUp k
+            never_given (Stopped g ∷ more) h k = h.0 (same_end g end.GivenUp k)
+            never_given (Wrote n o k ∷ more) h e = never_given more h.1 e
+            never_given (Took m ∷ more) h e = never_given more h.1 e
+            never_given (Fell m g ∷ more) h e = never_given more h.1 e
+            never_given (Recovers ∷ more) h e = never_given more h.1 e
+            never_given (Asked t a ∷ more) h e = absurd h.0
+            never_given (Cancelled t ∷ more) h e = absurd h.0
+            never_given (Cleared w ∷ more) h e = absurd h.0
+            never_given (GaveUp ∷ more) h e = absurd h.0
+            never_given (Settled t o ∷ more) h e = never_given more h.1 e
+        by (Some (end.PeerFault g)) k = refl
+        by (Some (end.DeviceFault status)) k = refl
+        by (Some (end.DeviceSays status)) k = refl
+        by (Some end.Exhausted) k = refl
+
+-- nothing was fed yet
+pub fed_nothing : (s : Setting) (past : Past) (sent received rest : List ℕ) (count : ℕ) (core : HubCore) → Feeds s past sent received rest count core → FedAnswer s past sent received count [] core
+fed_nothing s past sent received rest count core f = record {
+  fed = record {
+    more = [];
+    own = tt;
+    due = tt;
+    fault = λ e. none_some end.LinkFault e;
+    closing = λ e. none_some end.Unplugged e;
+    left = rest;
+    refused = λ h e. none_some (end.PeerFault h) e;
+    rests = f.rests;
+    tied = subst (λ (l : List ℕ). Tied s past sent core.urbs.outbox l rest) (sym (append-nil received)) f.tied;
+    counted = f.counted;
+    lies = λ e. f.lies;
+    reads = λ e. f.reads;
+  };
+  unrefused = λ h e. none_some (end.PeerFault h) e;
+}
+
+-- one more answer
+pub fed_again : (s : Setting) (past : Past) (sent received : List ℕ) (count : ℕ) (first behind : List ℕ) (mid new : HubCore) → (a : FedAnswer s past sent received count first mid) → mid.end ≡ None
+    → FedAnswer s (a.fed.more ++ past) sent (received ++ first) count behind new → FedAnswer s past sent received count (first ++ behind) new
+unfolding fed_then
+fed_again s past sent received count first behind mid new a running b = record {
+  fed = fed_then s past sent received count first behind mid new a.fed running b.fed;
+  unrefused = λ h e. b.unrefused h (sym (stop_none b.fed.more a.fed.more front) ∙ e);
+}
+  where
+    front : stopped a.fed.more ≡ None
+    front = front_of a.fed.more past (not_stopped_yet (a.fed.more ++ past) (sym a.fed.rests.knows.over ∙ running))
+
+-- ---- whether it has ended
+
+pub runs_on : (o : Option End) → is_some o ≡ false → o ≡ None
+runs_on None e = refl
+runs_on (Some x) e = clash (sym e)
+
+pub ended_some : (o : Option End) → is_some o ≡ true → (e : End) × (o ≡ Some e)
+ended_some None e = clash e
+ended_some (Some x) e = (x, refl)
+
+-- ---- what is left of the bytes behind some
+
+pub left_behind : (n : ℕ) (xs : List ℕ) → take (length xs - n) (drop n xs) ≡ drop n xs
+left_behind n xs = take_all (length xs - n) (drop n xs) (omega (arith, length-drop n xs))

@@ -1,0 +1,29 @@
+-- the query `*IDN?` with its request written ahead, and both unlinked before a packet of them was taken
+use Rattle.std.specs.Prelude.{List, [], ◌∷◌}
+use Rattle.usbip_wire.specs.declared.submit.SubmitHead.{SubmitHead}
+use Rattle.usbip_wire.specs.declared.unlink.UnlinkHead.{UnlinkHead}
+use Rattle.usbip_wire.specs.Up as up
+use Rattle.tmc_law.specs.Endpoint.{Endpoint, Control, BulkOut, BulkIn, InterruptIn}
+use Rattle.tmc_law.specs.Put.{Unlinked, unlinked}
+use Rattle.tmc_law.specs.Step.{Comes}
+use Rattle.tmc_law.specs.Run.{Entry}
+use Rattle.tmc_law.specs.WorkedQuery.{query_submit, request_submit, query_text, request_text}
+use Rattle.tmc_law.specs.WorkedSession.{unlink, submits, step}
+
+-- its submits, and their unlinks, the last one first
+abbrev pub ahead_asked : Endpoint → List SubmitHead
+ahead_asked Control = []
+ahead_asked BulkOut = query_submit ∷ request_submit ∷ []
+ahead_asked BulkIn = []
+ahead_asked InterruptIn = []
+
+abbrev pub ahead_unlinks : List UnlinkHead
+ahead_unlinks = unlink 3 2 ∷ unlink 4 1 ∷ []
+
+abbrev pub cancelling_ahead : List Entry
+cancelling_ahead =
+    submits query_submit query_text
+    ∷ submits request_submit request_text
+    ∷ step (Comes (up.Unlink (unlink 3 2))) (Unlinked (unlink 3 2) (record { seqnum = 3; status = unlinked }) ∷ [])
+    ∷ step (Comes (up.Unlink (unlink 4 1))) (Unlinked (unlink 4 1) (record { seqnum = 4; status = unlinked }) ∷ [])
+    ∷ []

@@ -1,0 +1,59 @@
+//! What ties a host to a lawful device while the transfer of a trigger ticket is not answered. The function does nothing, and its contract is the
+//! law.
+
+ghost use Rattle.std.specs.Prelude.{◌≡◌, ℕ, ◌+◌, Some, None, List, [], ◌∷◌, ◌++◌};
+ghost use Rattle.tmc_base.specs.declared.run_step.RunStep.{RunStep};
+ghost use Rattle.tmc_base.specs.Told.{in_bytes, IsFront};
+ghost use Rattle.usbip_wire.specs.declared.ret_submit.RetSubmitHead.{RetSubmitHead};
+ghost use Rattle.usbip_wire.specs.declared.submit.SubmitHead.{SubmitHead};
+ghost use Rattle.usbip_wire.specs.Up as up;
+ghost use Rattle.tmc_law.specs.State.{State};
+ghost use Rattle.tmc_law.specs.Put.{Put, Submitted};
+ghost use Rattle.tmc_law.specs.Run.{Entry, Runs, inputs, outputs};
+ghost use Rattle.host_joint.specs.Jobs.{Job};
+ghost use Rattle.host_joint.specs.Asking.{StaysPlugged};
+ghost use Rattle.host_joint.specs.Bond.{Stands, Resting, Bound};
+ghost use Rattle.host_joint.specs.Joint.{TellsPlugged, JointBy};
+ghost use Rattle.host_joint.specs.Triggers.{IsTrigger, Triggering, Triggered};
+
+use crate::no_submit_is_refused;
+use instr_plain::one_response;
+use tmc_law::{
+    a_step_logs_at_most_once, answers_fit, halts_have_causes,
+    messages_are_refused_by_what_is_pending, numbers_rise, pending_submits_are_sound, runs_join,
+    runs_take_in_messages, steps_act, the_log_grows,
+};
+use tmc_wire::headers_are_read_again;
+use usbip_wire::urbs_are_determined;
+
+/// A host that stands at rest may write the transfer of a trigger. The two stay tied under each run of a device that is not unplugged, over a
+/// link too. The answer says that the trigger was taken, and then the instrument was triggered exactly once under its number; or that Bulk-OUT is
+/// halted, and then it was not. The host stands at rest again.
+pub fn trigger_tickets_are_tied()
+    ensures begins { (job : Job) (next : ℕ) (ups : List up.Message) (downs : List Put) (s : State) → IsTrigger job → job.head.seqnum ≡ next
+        → Bound (Stands Resting) None [] next ups downs s → Triggering job (next + 1) (ups ++ up.Submit job.head job.bytes ∷ []) downs s }
+    ensures stays { (job : Job) (run : List Entry) (next : ℕ) (ups : List up.Message) (downs : List Put) (s t : State)
+        → Runs s run t → StaysPlugged run → Triggering job next (inputs run ++ ups) downs s → Triggering job next ups (downs ++ outputs run) t }
+    ensures answer { (job : Job) (next : ℕ) (asked : SubmitHead) (answer : RetSubmitHead) (transferred : List ℕ) (ups : List up.Message) (downs : List Put) (s : State)
+        → Triggering job next ups (Submitted asked answer transferred ∷ downs) s
+        → (asked ≡ job.head) × (answer.seqnum ≡ job.head.seqnum) × Triggered job answer next ups downs s }
+    ensures joined { (devid : ℕ) (job : Job) (next : ℕ) (written read : List ℕ) (steps more : List RunStep) (s t : State)
+        → TellsPlugged devid s more t → IsFront (in_bytes (steps ++ more)) written
+        → JointBy (λ ups downs t. Triggering job next ups downs t) devid written read steps s
+        → JointBy (λ ups downs t. Triggering job next ups downs t) devid written read (steps ++ more) t }
+{
+    pending_submits_are_sound();
+    steps_act();
+    runs_join();
+    the_log_grows();
+    headers_are_read_again();
+    numbers_rise();
+    answers_fit();
+    halts_have_causes();
+    a_step_logs_at_most_once();
+    one_response();
+    no_submit_is_refused();
+    runs_take_in_messages();
+    messages_are_refused_by_what_is_pending();
+    urbs_are_determined();
+}
