@@ -1,7 +1,7 @@
 use Rattle.std.proofs.Common.{[]}
 use Rattle.tmc_world.specs.Telling.{told_of}
 use Rattle.tmc_world.proofs.Moving.{telling_same, telling_on, front_told, shown_moved}
-use Rattle.tmc_world.proofs.loop_link.LoopLink.act.Goals as goal
+use Rattle.tmc_world.proofs.loop_link.LoopLink.step.Goals as goal
 
 pub invariant_of-self : goal.invariant_of-self
 invariant_of-self c =
@@ -17,7 +17,7 @@ invariant_of-self-in-Memory c = telling_same _ _ _ c.self.invariant (c.in-Memory
 
 pub returns-in-Applied : goal.returns-in-Applied
 returns-in-Applied c = record {
-  goes = rw (← c.self.view_is) (record {
+  ends = rw (← c.self.view_is) (record {
     drives = c.act.ensures.applied c.in-Applied.is;
     tells = front_told _ _ _ c.and-self-inside.ensures;
     is = shown_moved c.self.inside.pace c.self.inside.send_fails c.self.inside.poll_fails c.self.inside.tally (told_of [] c.self.inside.history.moments)
