@@ -2,7 +2,7 @@
 use Rattle.std.proofs.Common.{◌≡◌, ℕ, ◌+◌, Option, Some, None, Ok, List, [], ◌∷◌, ◌++◌, refl, sym, ap, subst, ◌∙◌}
 use Rattle.std.specs.List.{flat_map}
 use Rattle.tmc_base.specs.declared.field.Field.{Field}
-use Rattle.usbip_wire.specs.declared.urb.Dir.{Dir}
+use Rattle.event_text.specs.declared.way.Way.{Way}
 use Rattle.event_text.specs.declared.script.Line.{Line}
 use Rattle.event_text.specs.declared.script.Line.TheVariants.{Adds, Bytes}
 use Rattle.event_text.specs.Message.{Message}
@@ -79,10 +79,10 @@ print_all_one laws old (line ∷ lines) text other new after (front, back, middl
       news = rest.news;
     }
 
-pub said_one : (way : Dir) (number : ℕ) (text : List ℕ) (line other : Line) → later_said way number text ≡ Ok line → later_said way number text ≡ Ok other → line ≡ other
+pub said_one : (way : Way) (number : ℕ) (text : List ℕ) (line other : Line) → later_said way number text ≡ Ok line → later_said way number text ≡ Ok other → line ≡ other
 said_one way number text line other p q = let both : Ok line ≡ Ok other = sym p ∙ q in cc
 
-pub say_one : (way : Dir) (number : ℕ) (texts : List (List ℕ)) (lines others : List Line) → Say way number texts lines → Say way number texts others → lines ≡ others
+pub say_one : (way : Way) (number : ℕ) (texts : List (List ℕ)) (lines others : List Line) → Say way number texts lines → Say way number texts others → lines ≡ others
 say_one way number [] [] [] p q = refl
 say_one way number [] [] (o ∷ others) p q = absurd q
 say_one way number [] (l ∷ lines) others p q = absurd p

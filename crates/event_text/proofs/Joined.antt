@@ -2,7 +2,7 @@
 use Rattle.std.proofs.Common.{◌≡◌, ℕ, Option, Some, None, List, [], ◌∷◌, ◌++◌, refl, sym, ap, subst, ◌∙◌, append-nil, append_assoc}
 use Rattle.std.specs.List.{flat_map}
 use Rattle.tmc_base.specs.declared.field.Field.{Field}
-use Rattle.usbip_wire.specs.declared.urb.Dir.{Dir}
+use Rattle.event_text.specs.declared.way.Way.{Way}
 use Rattle.event_text.specs.declared.script.Line.{Line}
 use Rattle.event_text.specs.declared.script.Line.TheVariants.{Adds, Bytes}
 use Rattle.event_text.specs.declared.script.Phase.{Phase}
@@ -114,7 +114,7 @@ merged_prints laws s (Bytes p ∷ lines) text last (front, back, middle, e, firs
     (onto_prints laws s p (merged lines) front back middle last first (merged_prints laws middle lines back last more))
 
 -- lines that are the same when their pieces are joined have one text
-pub cuts_one : Lawful → (way : Dir) (phase : Phase) (lines others : List Line) (text other : List ℕ) → merged lines ≡ merged others
+pub cuts_one : Lawful → (way : Way) (phase : Phase) (lines others : List Line) (text other : List ℕ) → merged lines ≡ merged others
     → Shown way phase lines text → Shown way phase others other → text ≡ other
 cuts_one laws way phase lines others text other same p q =
     let first = merged_prints laws (begun way phase) lines p.body p.last p.prints in

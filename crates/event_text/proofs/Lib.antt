@@ -26,3 +26,7 @@ pub mod Spelled
 pub mod Numbered
 pub mod StreamLines
 pub mod Reported
+pub mod TextCuts
+pub mod LogCuts
+pub mod BookCuts
+pub mod ReportCuts

@@ -3,7 +3,7 @@ use Rattle.std.proofs.Common.{◌≡◌, ◌⊎◌, inl, inr, ℕ, Option, Some,
 use Rattle.std.specs.List.{flat_map}
 use Rattle.tmc_base.specs.declared.field.Field.{Field}
 use Rattle.usbip_wire.specs.declared.dirs.Outstanding.{Outstanding}
-use Rattle.usbip_wire.specs.declared.urb.Dir.{Dir}
+use Rattle.event_text.specs.declared.way.Way.{Way}
 use Rattle.event_text.specs.declared.script.Line.{Line}
 use Rattle.event_text.specs.declared.script.Line.TheVariants.{Adds, Bytes}
 use Rattle.event_text.specs.declared.script.Phase.{Phase}
@@ -241,7 +241,7 @@ lines_parted laws s (Bytes p ∷ lines) text last prints =
     (r.0, r.1, r.2, r.3, r.4, lines_parted laws r.2 lines r.1 last r.5)
 
 -- lines that are the same when their pieces are joined show the same
-pub cuts_same : Lawful → (way : Dir) (phase : Phase) (lines others : List Line) (text : List ℕ) → merged lines ≡ merged others
+pub cuts_same : Lawful → (way : Way) (phase : Phase) (lines others : List Line) (text : List ℕ) → merged lines ≡ merged others
     → Shown way phase lines text → Shown way phase others text
 cuts_same laws way phase lines others text same shown = record {
   body = shown.body;

@@ -1,12 +1,12 @@
 -- a script is shown or refused, and refused for one fault of one line
 use Rattle.std.proofs.Common.{⊎_elim, ◌≡◌, ℕ, ◌+◌, Some, None, Result, Ok, Err, List, [], ◌∷◌, ◌++◌, length, refl, sym, ap, subst, ◌∙◌, arith}
-use Rattle.usbip_wire.specs.declared.urb.Dir.{Dir}
+use Rattle.event_text.specs.declared.way.Way.{Way}
 use Rattle.event_text.specs.declared.line_fault.LineWhat.{LineWhat}
 use Rattle.event_text.specs.declared.script.Line.{Line}
 use Rattle.event_text.specs.declared.script.Line.TheVariants.{Adds, Bytes}
 use Rattle.event_text.specs.declared.script.Phase.{Phase}
 use Rattle.event_text.specs.Script.{first_said, later_said, Say, said_fault}
-use Rattle.event_text.specs.Shown.{Standing, begun, Prints, PrintAll, ShownOf, IsScript, IsFirstFault, IsLaterFault, IsRefused, ending}
+use Rattle.event_text.specs.Shown.{Standing, begun, Prints, PrintAll, SourceShown, IsScript, IsFirstFault, IsLaterFault, SourceRefused, ending}
 use Rattle.event_text.specs.Words.{lines_of}
 use Rattle.event_text.proofs.Lawful.{Lawful}
 use Rattle.event_text.proofs.Determined.{prints_one, print_all_one, said_one, say_one}
@@ -28,7 +28,7 @@ no_fault : (old : Standing) (line : Line) (text : List ℕ) (new : Standing) →
 no_fault old (Adds entry) text new p = p.0
 no_fault old (Bytes piece) text new p = refl
 
-clash : (way : Dir) (number place : ℕ) (text other : List ℕ) (old last : Standing) (line : Line) (printed : List ℕ) (new : Standing) (what : LineWhat)
+clash : (way : Way) (number place : ℕ) (text other : List ℕ) (old last : Standing) (line : Line) (printed : List ℕ) (new : Standing) (what : LineWhat)
     → later_said way number text ≡ Ok line → Prints old line printed new → other ≡ text → last ≡ old → place ≡ number
     → said_fault last.entries (later_said way place other) ≡ Some what → ⊥
 clash way number place text other old last line printed new what said prints same stands placed fault =
@@ -40,7 +40,7 @@ clash way number place text other old last line printed new what said prints sam
     some_none what (sym moved ∙ none)
 
 -- lines that are all shown have no refused one among them
-pub none_refused : Lawful → (way : Dir) (old : Standing) (number : ℕ) (texts : List (List ℕ)) (lines : List Line) (body : List ℕ) (end : Standing)
+pub none_refused : Lawful → (way : Way) (old : Standing) (number : ℕ) (texts : List (List ℕ)) (lines : List Line) (body : List ℕ) (end : Standing)
     (before : List (List ℕ)) (said : List Line) (printed : List ℕ) (last : Standing) (line : List ℕ) (others : List (List ℕ)) (what : LineWhat)
     → texts ≡ before ++ line ∷ others → Say way number texts lines → PrintAll old lines body end
     → Say way number before said → PrintAll old said printed last → said_fault last.entries (later_said way (number + length before) line) ≡ Some what → ⊥
@@ -70,7 +70,7 @@ pub record OneFault (before other : List (List ℕ)) (what worse : LineWhat) : T
   pub whats : what ≡ worse
 
 -- one line is the first that is refused
-pub one_refused : Lawful → (way : Dir) (old : Standing) (number : ℕ) (before : List (List ℕ)) (said : List Line) (printed : List ℕ) (last : Standing) (line : List ℕ) (others : List (List ℕ)) (what : LineWhat)
+pub one_refused : Lawful → (way : Way) (old : Standing) (number : ℕ) (before : List (List ℕ)) (said : List Line) (printed : List ℕ) (last : Standing) (line : List ℕ) (others : List (List ℕ)) (what : LineWhat)
     (before2 : List (List ℕ)) (said2 : List Line) (printed2 : List ℕ) (last2 : Standing) (line2 : List ℕ) (others2 : List (List ℕ)) (what2 : LineWhat)
     → before ++ line ∷ others ≡ before2 ++ line2 ∷ others2
     → Say way number before said → PrintAll old said printed last → said_fault last.entries (later_said way (number + length before) line) ≡ Some what
@@ -113,7 +113,7 @@ pub record SameScript (phase other : Phase) (lines more : List Line) : Type 0 wh
   pub phases : phase ≡ other
   pub said : lines ≡ more
 
-same_script : (way : Dir) (source : List ℕ) (phase other : Phase) (lines more : List Line) → IsScript way source phase lines → IsScript way source other more
+same_script : (way : Way) (source : List ℕ) (phase other : Phase) (lines more : List Line) → IsScript way source phase lines → IsScript way source other more
     → SameScript phase other lines more
 same_script way source phase other lines more a b =
     let e : a.first ∷ a.others ≡ b.first ∷ b.others = sym a.cut ∙ b.cut in
@@ -124,7 +124,7 @@ same_script way source phase other lines more a b =
       said = say_one way 2 b.others lines more (subst (λ (z : List (List ℕ)). Say way 2 z lines) rests a.said) b.said;
     }
 
-pub texts_one : Lawful → (way : Dir) (source text other : List ℕ) → ShownOf way source text → ShownOf way source other → text ≡ other
+pub texts_one : Lawful → (way : Way) (source text other : List ℕ) → SourceShown way source text → SourceShown way source other → text ≡ other
 texts_one laws way source text other a b =
     let same = same_script way source a.phase b.phase a.lines b.lines a.script b.script in
     let moved : PrintAll (begun way b.phase) b.lines a.shown.body a.shown.last =
@@ -167,11 +167,11 @@ first_one source what other a b =
     b)
     a
 
-placed : (way : Dir) (number place : ℕ) (line : List ℕ) (last : Standing) (what : LineWhat) → number ≡ place
+placed : (way : Way) (number place : ℕ) (line : List ℕ) (last : Standing) (what : LineWhat) → number ≡ place
     → said_fault last.entries (later_said way number line) ≡ Some what → said_fault last.entries (later_said way place line) ≡ Some what
 placed way number place line last what e f = subst (λ k. said_fault last.entries (later_said way k line) ≡ Some what) e f
 
-later_one : Lawful → (way : Dir) (source : List ℕ) (number second : ℕ) (what other : LineWhat) → IsLaterFault way source number what → IsLaterFault way source second other
+later_one : Lawful → (way : Way) (source : List ℕ) (number second : ℕ) (what other : LineWhat) → IsLaterFault way source number what → IsLaterFault way source second other
     → (number ≡ second) × (what ≡ other)
 later_one laws way source number second what other a b =
     let e : a.first ∷ (a.before ++ a.line ∷ a.others) ≡ b.first ∷ (b.before ++ b.line ∷ b.others) = sym a.cut ∙ b.cut in
@@ -185,7 +185,7 @@ later_one laws way source number second what other a b =
     b.said b.prints (placed way second (2 + length b.before) b.line b.last other b.place b.refused) in
     (omega (arith, a.place, b.place, one.places), one.whats)
 
-pub refusals_one : Lawful → (way : Dir) (source : List ℕ) (number second : ℕ) (what other : LineWhat) → IsRefused way source number what → IsRefused way source second other
+pub refusals_one : Lawful → (way : Way) (source : List ℕ) (number second : ℕ) (what other : LineWhat) → SourceRefused way source number what → SourceRefused way source second other
     → (number ≡ second) × (what ≡ other)
 refusals_one laws way source number second what other r s =
     ⊎_elim
@@ -199,7 +199,7 @@ refusals_one laws way source number second what other r s =
     s)
     r
 
-pub not_both : Lawful → (way : Dir) (source text : List ℕ) (number : ℕ) (what : LineWhat) → ShownOf way source text → IsRefused way source number what → ⊥
+pub not_both : Lawful → (way : Way) (source text : List ℕ) (number : ℕ) (what : LineWhat) → SourceShown way source text → SourceRefused way source number what → ⊥
 not_both laws way source text number what shown refused =
     ⊎_elim
     (λ a. not_named source shown.script.first shown.script.others shown.phase what a.1 shown.script.cut shown.script.named)

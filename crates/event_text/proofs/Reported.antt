@@ -3,18 +3,18 @@ use Rattle.std.proofs.Common.{◌≡◌, ℕ, Option, Result, Ok, Err, List, ◌
 use Rattle.std.specs.Prelude.{OnOk}
 use Rattle.std.specs.Fmt.{decimal}
 use Rattle.tmc_base.specs.declared.memory.Memory.{Memory}
-use Rattle.usbip_wire.specs.declared.urb.Dir.{Dir}
-use Rattle.usbip_wire.specs.declared.urb.Dir.TheVariants.{Out, In}
 use Rattle.host_hub.specs.BookSeen.{BookSeen}
 use Rattle.host_hub.specs.declared.outcome.End.{End}
 use Rattle.instr_plain.specs.declared.log.LogEntry.{LogEntry}
+use Rattle.event_text.specs.declared.way.Way.TheVariants as ways
+use Rattle.event_text.specs.declared.way.Way.{Way}
 use Rattle.event_text.specs.declared.answer.EventAnswer.{EventAnswer}
-use Rattle.event_text.specs.Report.{IsReport, IsStream, StreamLines, stream_letter, stream_word, numbered, answer_line, log_line, book_text}
+use Rattle.event_text.specs.Report.{IsReport, StreamText, StreamLines, stream_letter, stream_word, numbered, answer_line, log_line, book_text}
 
-pub stream_put : (way : Dir) (bytes old middle new : List ℕ) (count : ℕ) (result : Result (Unit {0}) Memory) → count ≡ length bytes
+pub stream_put : (way : Way) (bytes old middle new : List ℕ) (count : ℕ) (result : Result (Unit {0}) Memory) → count ≡ length bytes
     → middle ≡ old ++ (stream_word way ++ (decimal count ++ codes "\n"))
     → OnOk result ((lines : List ℕ) × StreamLines (stream_letter way) bytes lines × (new ≡ middle ++ lines))
-    → OnOk result ((text : List ℕ) × IsStream way bytes text × (new ≡ old ++ text))
+    → OnOk result ((text : List ℕ) × StreamText way bytes text × (new ≡ old ++ text))
 stream_put way bytes old middle new count (Ok done) size begun (lines, are, appended) =
     let text : List ℕ = stream_word way ++ (decimal (length bytes) ++ (codes "\n" ++ lines)) in (
       text,
@@ -31,8 +31,8 @@ stream_put way bytes old middle new count (Err memory) size begun put = tt
 
 pub report_put : (answers : List (Option EventAnswer)) (end : Option End) (book : BookSeen) (log : List LogEntry) (up down old first second third fourth text new : List ℕ)
     (result : Result (Unit {0}) Memory) → first ≡ numbered answer_line 1 answers → second ≡ first ++ book_text end book → third ≡ second ++ numbered log_line 1 log
-    → (lines : List ℕ) × IsStream Out up lines × (fourth ≡ third ++ lines)
-    → (lines : List ℕ) × IsStream In down lines × (text ≡ fourth ++ lines)
+    → (lines : List ℕ) × StreamText ways.Up up lines × (fourth ≡ third ++ lines)
+    → (lines : List ℕ) × StreamText ways.Down down lines × (text ≡ fourth ++ lines)
     → OnOk result (new ≡ old ++ text)
     → OnOk result ((report : List ℕ) × IsReport answers end book log up down report × (new ≡ old ++ report))
 report_put answers end book log up down old first second third fourth text new (Ok done) answered booked logged (up_text, sent, upward) (down_text, taken, downward) put =

@@ -2,9 +2,9 @@
 use Rattle.std.proofs.Common.{◌≡◌, ℕ, false, Option, Some, None, List, [], length, sym, ap, subst, ◌∙◌}
 use Rattle.tmc_base.specs.declared.field.Field.{Field}
 use Rattle.usbip_wire.specs.declared.dirs.Outstanding.{Outstanding}
-use Rattle.usbip_wire.specs.declared.urb.Dir.{Dir}
 use Rattle.usbip_wire.specs.DownFed as down_fed
 use Rattle.usbip_wire.specs.UpFed as up_fed
+use Rattle.event_text.specs.declared.way.Way.{Way}
 use Rattle.event_text.specs.declared.reading.Reader.{Reader}
 use Rattle.event_text.specs.declared.reading.Reader.TheVariants.{Client, Device}
 use Rattle.event_text.specs.declared.reading.Step.{Step}
@@ -17,7 +17,7 @@ use Rattle.event_text.proofs.Long.{no_message, no_bad}
 some_none : {A : Type 0} (x : A) → Some x ≡ None → ⊥
 some_none {A} x e = cc
 
-pub begun_sound : (reader : Reader) (entries : List Outstanding) (way : Dir) (phase : Phase) → entries ≡ [] → standing_of reader [] ≡ begun way phase → IsOurReader reader
+pub begun_sound : (reader : Reader) (entries : List Outstanding) (way : Way) (phase : Phase) → entries ≡ [] → standing_of reader [] ≡ begun way phase → IsOurReader reader
     → IsSound reader entries false
 begun_sound reader entries way phase none is ours =
     let st : standing_of reader entries ≡ begun way phase = ap (standing_of reader) none ∙ is in

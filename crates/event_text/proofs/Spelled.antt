@@ -1,4 +1,4 @@
--- a line says an event exactly where it is the event's line
+-- a line says an event exactly where it is the event's line, and so it is with the lines before the events
 use Rattle.std.proofs.Common.{◌≡◌, ℕ, zero, suc, ◌-◌, ◌<◌, ◌≤◌, ◌^◌, ◌/◌, ◌%◌, Bool, true, false, cond, eqb, leb, ltb, not, ◌&&◌, Option, Some, None, Result, Ok, Err, List, [], ◌∷◌, ◌++◌, codes, slice_index, refl, sym, ap, subst, ◌∙◌, arith}
 use Rattle.std.proofs.lemmas.Bool.{and_parts, ne_eqb, le-leb, leb-true, ltb-true}
 use Rattle.std.proofs.lemmas.Fmt.{decimal_is_IsNumeral}
@@ -12,14 +12,19 @@ use Rattle.std.specs.Str.Parse.{AllDigits, digits_value}
 use Rattle.hex.proofs.HexLemmas.{decode_of-ok}
 use Rattle.hex.specs.Hex.{IsBytes, decode_of, encode_lower, encode_with, lower_digits}
 use Rattle.hex.specs.declared.error.FromHexError.{FromHexError}
+use Rattle.host_hub.specs.declared.limits.TheConstants.{MAX_DEPTH}
 use Rattle.tmc_law.specs.declared.dev_event.DevEvent.{DevEvent}
 use Rattle.tmc_law.specs.declared.dev_event.DevEvent.TheVariants.{Take, Exec, Begin, Fill, Answer, Pending, Poll, Notify, Halt, Unplug}
 use Rattle.event_text.specs.declared.event.Event.{Event}
 use Rattle.event_text.specs.declared.event.Event.TheVariants.{Ask, Tell, GiveUp, Up, Down, Dev, FailSend, FailPoll, Rest}
+use Rattle.event_text.specs.declared.event_line.Place.{Place}
+use Rattle.event_text.specs.declared.event_line.Place.TheVariants.{Start, BehindFirst, BehindOthers}
+use Rattle.event_text.specs.declared.event_line.Said.{Said}
+use Rattle.event_text.specs.declared.event_line.Said.TheVariants.{First, Depth, Does}
 use Rattle.event_text.specs.declared.line_fault.LineWhat.{LineWhat}
-use Rattle.event_text.specs.declared.line_fault.LineWhat.TheVariants.{Unknown, Words, Number, Hex}
-use Rattle.event_text.specs.EventLine.{if_within, number_within, session_of, count_said, endpoint_said, made, alone, plain_dev, dev_said, ask_said, tell_said, failing, fail_said, short_said, event_said}
-use Rattle.event_text.specs.EventSpelled.{dev_line, event_line, IsCount, DevMayStand, MayStand}
+use Rattle.event_text.specs.declared.line_fault.LineWhat.TheVariants.{Unknown, Words, Number, Hex, Depth as bad_depth}
+use Rattle.event_text.specs.EventLine.{if_within, number_within, session_of, count_said, endpoint_said, made, alone, plain_dev, dev_said, ask_said, tell_said, failing, fail_said, short_said, event_said, depth_said, line_words}
+use Rattle.event_text.specs.EventSpelled.{dev_line, event_line, said_line, IsCount, DevMayStand, MayStand, SaidMayStand}
 use Rattle.event_text.specs.Script.{need, if_none, if_one, if_two, if_three, and_one, and_two}
 use Rattle.event_text.specs.Words.{words_of, number_of, bytes_of, if_written, hex_word}
 use Rattle.event_text.proofs.Hexes.{bytes_is, bytes_was}
@@ -33,20 +38,20 @@ ok_is {A} x y e = cc
 
 -- ---- a word without a space is one word
 
-word_by : (c : ℕ) (cs : List ℕ) (b : Bool) → eqb c 32 ≡ b → b ≡ false → words_of cs ≡ cs ∷ [] → words_of (c ∷ cs) ≡ (c ∷ cs) ∷ []
+pub word_by : (c : ℕ) (cs : List ℕ) (b : Bool) → eqb c 32 ≡ b → b ≡ false → words_of cs ≡ cs ∷ [] → words_of (c ∷ cs) ≡ (c ∷ cs) ∷ []
 word_by c cs true e other again = absurd (cc other)
 word_by c cs false e other again =
     let words : words_of (c ∷ cs) ≡ onto_first c (words_of cs) = rw e refl in
     words ∙ ap (onto_first c) again
 
-digits_word : (ds : List ℕ) → AllDigits 10 ds → words_of ds ≡ ds ∷ []
+pub digits_word : (ds : List ℕ) → AllDigits 10 ds → words_of ds ≡ ds ∷ []
 digits_word [] all = refl
 digits_word (c ∷ cs) all =
     let d = digit_from_value c all.0 in
     let other : eqb c 32 ≡ false = ne_eqb _ _ (λ e. omega (arith, d, e)) in
     word_by c cs (eqb c 32) refl other (digits_word cs all.1)
 
-number_word : (n : ℕ) → n < 2 ^ 32 → words_of (decimal n) ≡ decimal n ∷ []
+pub number_word : (n : ℕ) → n < 2 ^ 32 → words_of (decimal n) ≡ decimal n ∷ []
 number_word n small = digits_word (decimal n) (decimal_is_IsNumeral n (omega (arith, small))).0.1
 
 index_all : (p : ℕ → Bool) (xs : List ℕ) (d : ℕ) → p 0 ≡ true → list_all p xs ≡ true → p (slice_index xs d) ≡ true
@@ -68,25 +73,37 @@ encoded_word (b ∷ bytes) =
     word_by (slice_index lower_digits (b / 16)) (slice_index lower_digits (b % 16) ∷ encode_lower bytes) _ refl (no_space (b / 16))
     (word_by (slice_index lower_digits (b % 16)) (encode_lower bytes) _ refl (no_space (b % 16)) (encoded_word bytes))
 
-hex_one : (bytes : List ℕ) → words_of (hex_word bytes) ≡ hex_word bytes ∷ []
+pub hex_one : (bytes : List ℕ) → words_of (hex_word bytes) ≡ hex_word bytes ∷ []
 hex_one [] = refl
 hex_one (b ∷ bytes) = encoded_word (b ∷ bytes)
 
 -- a number, a space, and more words
-then_by : (c : ℕ) (cs more : List ℕ) (b : Bool) → eqb c 32 ≡ b → b ≡ false → words_of (cs ++ 32 ∷ more) ≡ cs ∷ words_of more → words_of ((c ∷ cs) ++ 32 ∷ more) ≡ (c ∷ cs) ∷ words_of more
+pub then_by : (c : ℕ) (cs more : List ℕ) (b : Bool) → eqb c 32 ≡ b → b ≡ false → words_of (cs ++ 32 ∷ more) ≡ cs ∷ words_of more → words_of ((c ∷ cs) ++ 32 ∷ more) ≡ (c ∷ cs) ∷ words_of more
 then_by c cs more true e other again = absurd (cc other)
 then_by c cs more false e other again =
     let words : words_of ((c ∷ cs) ++ 32 ∷ more) ≡ onto_first c (words_of (cs ++ 32 ∷ more)) = rw e refl in
     words ∙ ap (onto_first c) again
 
-digits_then : (ds more : List ℕ) → AllDigits 10 ds → words_of (ds ++ 32 ∷ more) ≡ ds ∷ words_of more
+pub digits_then : (ds more : List ℕ) → AllDigits 10 ds → words_of (ds ++ 32 ∷ more) ≡ ds ∷ words_of more
 digits_then [] more all = refl
 digits_then (c ∷ cs) more all =
     let d = digit_from_value c all.0 in
     let other : eqb c 32 ≡ false = ne_eqb _ _ (λ e. omega (arith, d, e)) in
     then_by c cs more (eqb c 32) refl other (digits_then cs more all.1)
 
-number_then : (n : ℕ) (more : List ℕ) → n < 2 ^ 32 → words_of (decimal n ++ 32 ∷ more) ≡ decimal n ∷ words_of more
+-- HEX, a space, and more words
+encoded_then : (bytes more : List ℕ) → words_of (encode_lower bytes ++ 32 ∷ more) ≡ encode_lower bytes ∷ words_of more
+unfolding encode_with
+encoded_then [] more = refl
+encoded_then (b ∷ bytes) more =
+    then_by (slice_index lower_digits (b / 16)) (slice_index lower_digits (b % 16) ∷ encode_lower bytes) more _ refl (no_space (b / 16))
+    (then_by (slice_index lower_digits (b % 16)) (encode_lower bytes) more _ refl (no_space (b % 16)) (encoded_then bytes more))
+
+pub hex_then : (bytes more : List ℕ) → words_of (hex_word bytes ++ 32 ∷ more) ≡ hex_word bytes ∷ words_of more
+hex_then [] more = refl
+hex_then (b ∷ bytes) more = encoded_then (b ∷ bytes) more
+
+pub number_then : (n : ℕ) (more : List ℕ) → n < 2 ^ 32 → words_of (decimal n ++ 32 ∷ more) ≡ decimal n ∷ words_of more
 number_then n more small = digits_then (decimal n) more (decimal_is_IsNumeral n (omega (arith, small))).0.1
 
 -- ---- numbers in their ranges
@@ -460,3 +477,116 @@ event_is (Dev event) fits = dev_event event fits
 event_is FailSend fits = refl
 event_is FailPoll fits = refl
 event_is Rest fits = refl
+
+-- ---- a line, behind what was said before
+
+abbrev IsSaid : Place → List ℕ → Said → Type 0
+IsSaid place line said = (line ≡ said_line said) × SaidMayStand place said
+
+record Deep (line : List ℕ) (said : Said) : Type 0 where
+  depth : ℕ
+  low : 1 ≤ depth
+  high : depth ≤ MAX_DEPTH
+  text : line ≡ said_line (Depth depth)
+  is : Depth depth ≡ said
+
+depth_was : (line head : List ℕ) (words : List (List ℕ)) (said : Said) → words_of line ≡ head ∷ words → bytes_eq head (codes "depth") ≡ true
+    → made Depth (depth_said words) ≡ Ok said → Deep line said
+depth_was line head words said e h is =
+    let m = made_was Depth (depth_said words) said is in
+    let one = needed Words (if_one words) _ m.0 m.1 in
+    let n = needed Number (number_of one.value) _ m.0 one.gives in
+    let w = needed bad_depth (if_within 1 MAX_DEPTH (Some n.value)) (λ depth. Ok depth) m.0 n.gives in
+    let same : w.value ≡ m.0 = ok_is w.value m.0 w.gives in
+    let within = within_was 1 MAX_DEPTH w.value one.value (Some n.value) n.is w.is in
+    record {
+      depth = w.value;
+      low = within.low;
+      high = within.high;
+      text = two_words line head (codes "depth") (decimal w.value) words e h (one_was words one.value one.is ∙ ap (λ (z : List ℕ). z ∷ []) within.written);
+      is = ap (λ (z : ℕ). Depth z) same ∙ m.2;
+    }
+
+does_was : (place : Place) (line head : List ℕ) (words : List (List ℕ)) (said : Said) → ((event : Event) → MayStand event → SaidMayStand place (Does event))
+    → words_of line ≡ head ∷ words → made Does (event_said (head ∷ words)) ≡ Ok said → IsSaid place line said
+does_was place line head words said may e is =
+    let m = made_was Does (event_said (head ∷ words)) said is in
+    let event = event_was_by line (head ∷ words) m.0 e m.1 in
+    subst (λ (z : Said). IsSaid place line z) m.2 (event.0, may m.0 event.1)
+
+first_was : (line head : List ℕ) (words : List (List ℕ)) (said : Said) → words_of line ≡ head ∷ words → bytes_eq head (codes "first") ≡ true
+    → made First (count_said words) ≡ Ok said → IsSaid Start line said
+first_was line head words said e h is =
+    let c = counted_was words First 1 (2 ^ 32 - 1) said is in
+    let small : c.n < 2 ^ 32 = omega (arith, c.high) in
+    subst (λ (z : Said). IsSaid Start line z) c.is (two_words line head (codes "first") (decimal c.n) words e h c.are, (c.low, small))
+
+start_by : (line head : List ℕ) (words : List (List ℕ)) (said : Said) (a b : Bool) → words_of line ≡ head ∷ words
+    → bytes_eq head (codes "first") ≡ a → bytes_eq head (codes "depth") ≡ b
+    → cond a (made First (count_said words)) (cond b (made Depth (depth_said words)) (made Does (event_said (head ∷ words)))) ≡ Ok said → IsSaid Start line said
+start_by line head words said true b e ea eb is = first_was line head words said e ea is
+start_by line head words said false true e ea eb is =
+    let d = depth_was line head words said e eb is in
+    subst (λ (z : Said). IsSaid Start line z) d.is (d.text, (d.low, d.high))
+start_by line head words said false false e ea eb is = does_was Start line head words said (λ event may. may) e is
+
+behind_by : (line head : List ℕ) (words : List (List ℕ)) (said : Said) (b : Bool) → words_of line ≡ head ∷ words → bytes_eq head (codes "depth") ≡ b
+    → cond b (made Depth (depth_said words)) (made Does (event_said (head ∷ words))) ≡ Ok said → IsSaid BehindFirst line said
+behind_by line head words said true e eb is =
+    let d = depth_was line head words said e eb is in
+    subst (λ (z : Said). IsSaid BehindFirst line z) d.is (d.text, (d.low, d.high))
+behind_by line head words said false e eb is = does_was BehindFirst line head words said (λ event may. may) e is
+
+said_was_by : (place : Place) (line : List ℕ) (words : List (List ℕ)) (said : Said) → words_of line ≡ words → line_words place words ≡ Ok said → IsSaid place line said
+said_was_by place line [] said e is = absurd (cc is)
+said_was_by Start line (head ∷ words) said e is = start_by line head words said _ _ e refl refl is
+said_was_by BehindFirst line (head ∷ words) said e is = behind_by line head words said _ e refl is
+said_was_by BehindOthers line (head ∷ words) said e is = does_was BehindOthers line head words said (λ event may. may) e is
+
+-- a line that says something is the line that is written of it
+pub said_was : (place : Place) (line : List ℕ) (said : Said) → line_words place (words_of line) ≡ Ok said → IsSaid place line said
+said_was place line said is = said_was_by place line (words_of line) said refl is
+
+depth_is : (depth : ℕ) → 1 ≤ depth → depth ≤ MAX_DEPTH → depth_said (words_of (decimal depth)) ≡ Ok depth
+depth_is depth low high =
+    let small : depth < 2 ^ 32 = omega (arith, high) in
+    ap depth_said (number_word depth small)
+    ∙ (ap (λ (o : Option ℕ). need Number o (λ depth. need bad_depth (if_within 1 MAX_DEPTH (Some depth)) (λ depth. Ok depth))) (sym (number_is (decimal depth) depth small refl))
+    ∙ ap (λ (o : Option ℕ). need bad_depth o (λ depth. Ok depth)) (within_is 1 MAX_DEPTH depth low high))
+
+-- no event is written with these words
+no_first : (words : List (List ℕ)) (event : Event) → event_said (codes "first" ∷ words) ≡ Ok event → ⊥
+no_first words event is = cc is
+
+no_depth : (words : List (List ℕ)) (event : Event) → event_said (codes "depth" ∷ words) ≡ Ok event → ⊥
+no_depth words event is = cc is
+
+does_start : (head : List ℕ) (words : List (List ℕ)) (event : Event) (a b : Bool) → bytes_eq head (codes "first") ≡ a → bytes_eq head (codes "depth") ≡ b
+    → event_said (head ∷ words) ≡ Ok event
+    → cond a (made First (count_said words)) (cond b (made Depth (depth_said words)) (made Does (event_said (head ∷ words)))) ≡ Ok (Does event)
+does_start head words event true b ea eb is = absurd (no_first words event (subst (λ (h : List ℕ). event_said (h ∷ words) ≡ Ok event) (head_is head (codes "first") ea) is))
+does_start head words event false true ea eb is = absurd (no_depth words event (subst (λ (h : List ℕ). event_said (h ∷ words) ≡ Ok event) (head_is head (codes "depth") eb) is))
+does_start head words event false false ea eb is = ap (made Does) is
+
+does_behind : (head : List ℕ) (words : List (List ℕ)) (event : Event) (b : Bool) → bytes_eq head (codes "depth") ≡ b → event_said (head ∷ words) ≡ Ok event
+    → cond b (made Depth (depth_said words)) (made Does (event_said (head ∷ words))) ≡ Ok (Does event)
+does_behind head words event true eb is = absurd (no_depth words event (subst (λ (h : List ℕ). event_said (h ∷ words) ≡ Ok event) (head_is head (codes "depth") eb) is))
+does_behind head words event false eb is = ap (made Does) is
+
+does_is : (place : Place) (words : List (List ℕ)) (event : Event) → event_said words ≡ Ok event → line_words place words ≡ Ok (Does event)
+does_is place [] event is = absurd (cc is)
+does_is Start (head ∷ words) event is = does_start head words event _ _ refl refl is
+does_is BehindFirst (head ∷ words) event is = does_behind head words event _ refl is
+does_is BehindOthers (head ∷ words) event is = ap (made Does) is
+
+-- and the line that is written of what may be said there says it
+pub said_is : (place : Place) (said : Said) → SaidMayStand place said → line_words place (words_of (said_line said)) ≡ Ok said
+said_is Start (First number) fits = ap (made First) (count_is number fits)
+said_is Start (Depth depth) fits = ap (made Depth) (depth_is depth fits.0 fits.1)
+said_is Start (Does event) fits = does_is Start (words_of (event_line event)) event (event_is event fits)
+said_is BehindFirst (First number) fits = absurd fits
+said_is BehindFirst (Depth depth) fits = ap (made Depth) (depth_is depth fits.0 fits.1)
+said_is BehindFirst (Does event) fits = does_is BehindFirst (words_of (event_line event)) event (event_is event fits)
+said_is BehindOthers (First number) fits = absurd fits
+said_is BehindOthers (Depth depth) fits = absurd fits
+said_is BehindOthers (Does event) fits = does_is BehindOthers (words_of (event_line event)) event (event_is event fits)

@@ -1,11 +1,16 @@
--- the line that each event is written as
+-- the line that each event is written as, and the two lines that may stand before the events
 use Rattle.std.specs.Prelude.{ℕ, ◌<◌, ◌≤◌, ◌^◌, ⊤, List, ◌++◌, codes}
 use Rattle.std.specs.Fmt.{decimal}
 use Rattle.hex.specs.Hex.{IsBytes}
+use Rattle.host_hub.specs.declared.limits.TheConstants.{MAX_DEPTH}
 use Rattle.tmc_law.specs.declared.dev_event.DevEvent.{DevEvent}
 use Rattle.tmc_law.specs.declared.dev_event.DevEvent.TheVariants.{Take, Exec, Begin, Fill, Answer, Pending, Poll, Notify, Halt, Unplug}
 use Rattle.event_text.specs.declared.event.Event.{Event}
 use Rattle.event_text.specs.declared.event.Event.TheVariants.{Ask, Tell, GiveUp, Up, Down, Dev, FailSend, FailPoll, Rest}
+use Rattle.event_text.specs.declared.event_line.Place.{Place}
+use Rattle.event_text.specs.declared.event_line.Place.TheVariants.{Start, BehindFirst, BehindOthers}
+use Rattle.event_text.specs.declared.event_line.Said.{Said}
+use Rattle.event_text.specs.declared.event_line.Said.TheVariants.{First, Depth, Does}
 use Rattle.event_text.specs.Words.{hex_word}
 
 abbrev pub dev_line : DevEvent → List ℕ
@@ -31,6 +36,11 @@ event_line FailSend = codes "fail send"
 event_line FailPoll = codes "fail poll"
 event_line Rest = codes "rest"
 
+abbrev pub said_line : Said → List ℕ
+said_line (First number) = codes "first " ++ decimal number
+said_line (Depth depth) = codes "depth " ++ decimal depth
+said_line (Does event) = event_line event
+
 -- ---- the numbers that may stand in a line
 
 abbrev pub IsCount : ℕ → Type 0
@@ -50,3 +60,13 @@ MayStand (Up count) = IsCount count
 MayStand (Down count) = IsCount count
 MayStand (Dev event) = DevMayStand event
 MayStand event = ⊤
+
+-- what may be said behind what was said before: `first` behind nothing, and `depth` behind nothing or behind `first`
+abbrev pub SaidMayStand : Place → Said → Type 0
+SaidMayStand Start (First number) = IsCount number
+SaidMayStand Start (Depth depth) = (1 ≤ depth) × (depth ≤ MAX_DEPTH)
+SaidMayStand BehindFirst (First number) = ⊥
+SaidMayStand BehindFirst (Depth depth) = (1 ≤ depth) × (depth ≤ MAX_DEPTH)
+SaidMayStand BehindOthers (First number) = ⊥
+SaidMayStand BehindOthers (Depth depth) = ⊥
+SaidMayStand place (Does event) = MayStand event

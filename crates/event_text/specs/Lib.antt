@@ -1,5 +1,7 @@
 pub mod Words
+pub mod Way
 pub mod Script
+pub mod Fault
 pub mod Message
 pub mod Printed
 pub mod Shown
@@ -11,3 +13,4 @@ pub mod EventScript
 pub mod EventSpelled
 pub mod Outcome
 pub mod Report
+pub mod Told

@@ -7,8 +7,6 @@ use Rattle.usbip_wire.specs.declared.down.Down.TheVariants.{Count, Device, Inter
 use Rattle.usbip_wire.specs.declared.down.DownPhase.TheVariants as down_phase
 use Rattle.usbip_wire.specs.declared.op_request.OpRequest.{OpRequest}
 use Rattle.usbip_wire.specs.declared.up.UpPhase.TheVariants as up_phase
-use Rattle.usbip_wire.specs.declared.urb.Dir.{Dir}
-use Rattle.usbip_wire.specs.declared.urb.Dir.TheVariants.{Out, In}
 use Rattle.usbip_wire.specs.Awaited.{entries_left}
 use Rattle.usbip_wire.specs.DevList.{SpellsPart}
 use Rattle.usbip_wire.specs.Down as down
@@ -17,6 +15,8 @@ use Rattle.usbip_wire.specs.OpRequest.{SpellsRequest}
 use Rattle.usbip_wire.specs.Stream as stream
 use Rattle.usbip_wire.specs.Up as up
 use Rattle.usbip_wire.specs.UpFed as up_fed
+use Rattle.event_text.specs.declared.way.Way.{Way}
+use Rattle.event_text.specs.declared.way.Way.TheVariants as ways
 use Rattle.event_text.specs.declared.script.Phase.{Phase}
 use Rattle.event_text.specs.declared.script.Phase.TheVariants.{Op, Urb}
 
@@ -35,11 +35,11 @@ pub data Message : Type 0 where
   Answer : (message : down.Message) → Message
 
 -- the stream of a script
-abbrev pub stream_of : Dir → Phase → Stream
-stream_of Out Op = Requests
-stream_of Out Urb = Urbs
-stream_of In Op = Parts 0 0
-stream_of In Urb = Answers
+abbrev pub stream_of : Way → Phase → Stream
+stream_of ways.Up Op = Requests
+stream_of ways.Up Urb = Urbs
+stream_of ways.Down Op = Parts 0 0
+stream_of ways.Down Urb = Answers
 
 -- the device that URB messages go to: bus 1, device 2
 abbrev pub devid : ℕ

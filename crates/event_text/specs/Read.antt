@@ -14,10 +14,10 @@ use Rattle.usbip_wire.specs.declared.up.Up.{Up}
 use Rattle.usbip_wire.specs.declared.up.Up.TheVariants as sent
 use Rattle.usbip_wire.specs.declared.up.UpPhase.{UpPhase}
 use Rattle.usbip_wire.specs.declared.up.UpPhase.TheVariants as up_phase
-use Rattle.usbip_wire.specs.declared.urb.Dir.{Dir}
 use Rattle.usbip_wire.specs.Dirs.{IsShort, others}
 use Rattle.usbip_wire.specs.DownFed as down_fed
 use Rattle.usbip_wire.specs.UpFed as up_fed
+use Rattle.event_text.specs.declared.way.Way.{Way}
 use Rattle.event_text.specs.declared.line_fault.LineFault.{LineFault}
 use Rattle.event_text.specs.declared.line_fault.LineFault.TheVariants.{At, Memory as no_memory}
 use Rattle.event_text.specs.declared.line_fault.LineWhat.{LineWhat}
@@ -172,7 +172,7 @@ Stepped old piece Bad text new = (f : Field) × Stops (fed_with old piece) (Some
 -- ---- one line
 
 -- a line was taken, or it is refused, or memory was wanting
-abbrev pub LinePut : Dir → ℕ → List ℕ → Standing → List ℕ → Result Unit LineStop → Standing → List ℕ → Type 0
+abbrev pub LinePut : Way → ℕ → List ℕ → Standing → List ℕ → Result Unit LineStop → Standing → List ℕ → Type 0
 LinePut way number line old before (Ok done) new text =
     (number ≤ lines_most)
     × ((said : Line) × (later_said way number line ≡ Ok said) × ((printed : List ℕ) × Prints old said printed new × (text ≡ before ++ printed)))

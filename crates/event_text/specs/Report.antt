@@ -18,7 +18,9 @@ use Rattle.instr_plain.specs.declared.log.LogEntry.TheVariants as logged
 use Rattle.instr_plain.specs.declared.remote.RemoteAct.{RemoteAct}
 use Rattle.instr_plain.specs.declared.remote.RemoteAct.TheVariants.{On, Off, GoLocal, Lockout}
 use Rattle.usbip_wire.specs.declared.urb.Dir.{Dir}
-use Rattle.usbip_wire.specs.declared.urb.Dir.TheVariants.{Out, In}
+use Rattle.event_text.specs.declared.way.Way.{Way}
+use Rattle.event_text.specs.declared.way.Way.TheVariants as ways
+use Rattle.event_text.specs.Way.{way_of}
 use Rattle.event_text.specs.declared.answer.EventAnswer.{EventAnswer}
 use Rattle.event_text.specs.declared.answer.EventAnswer.TheVariants.{Ticket, Refused, CancelSaid, DropSaid, NotCleared, Done}
 use Rattle.event_text.specs.Outcome.{outcome_words, end_words, refusal_words, clear_refusal_words}
@@ -135,14 +137,14 @@ log_line number (logged.Remote act) = codes "log " ++ (decimal number ++ (codes 
 
 -- ---- the bytes of a direction: up, which the hub sends, and down, which it takes
 
-abbrev pub stream_word : Dir → List ℕ
-stream_word Out = codes "up "
-stream_word In = codes "down "
+abbrev pub stream_word : Way → List ℕ
+stream_word ways.Up = codes "up "
+stream_word ways.Down = codes "down "
 
 -- what each line of bytes begins with
-abbrev pub stream_letter : Dir → List ℕ
-stream_letter Out = codes "u "
-stream_letter In = codes "d "
+abbrev pub stream_letter : Way → List ℕ
+stream_letter ways.Up = codes "u "
+stream_letter ways.Down = codes "d "
 
 abbrev pub stream_line : List ℕ → List ℕ → List ℕ
 stream_line letter piece = letter ++ (encode_lower piece ++ codes "\n")
@@ -155,10 +157,13 @@ pub data StreamLines (letter : List ℕ) : List ℕ → List ℕ → Type 0 wher
       → StreamLines letter (piece ++ bytes) (stream_line letter piece ++ lines)
 
 -- how many bytes there are, and then their lines
-pub record IsStream (way : Dir) (bytes text : List ℕ) : Type 0 where
+pub record StreamText (way : Way) (bytes text : List ℕ) : Type 0 where
   pub lines : List ℕ
   pub are : StreamLines (stream_letter way) bytes lines
   pub written : text ≡ stream_word way ++ (decimal (length bytes) ++ (codes "\n" ++ lines))
+
+abbrev pub IsStream : Dir → List ℕ → List ℕ → Type 0
+IsStream dir bytes text = StreamText (way_of dir) bytes text
 
 -- ---- a report
 
@@ -166,6 +171,6 @@ pub record IsStream (way : Dir) (bytes text : List ℕ) : Type 0 where
 pub record IsReport (answers : List (Option EventAnswer)) (end : Option End) (book : BookSeen) (log : List LogEntry) (up down text : List ℕ) : Type 0 where
   pub up_text : List ℕ
   pub down_text : List ℕ
-  pub sent : IsStream Out up up_text
-  pub taken : IsStream In down down_text
+  pub sent : StreamText ways.Up up up_text
+  pub taken : StreamText ways.Down down down_text
   pub written : text ≡ numbered answer_line 1 answers ++ (book_text end book ++ (numbered log_line 1 log ++ (up_text ++ down_text)))

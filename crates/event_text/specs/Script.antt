@@ -8,6 +8,8 @@ use Rattle.usbip_wire.specs.declared.dirs.TheConstants.{DIRS_MAX}
 use Rattle.usbip_wire.specs.declared.urb.Dir.{Dir}
 use Rattle.usbip_wire.specs.declared.urb.Dir.TheVariants.{Out, In}
 use Rattle.usbip_wire.specs.Dirs.{find, number_of as seqnum_of}
+use Rattle.event_text.specs.declared.way.Way.{Way}
+use Rattle.event_text.specs.declared.way.Way.TheVariants as ways
 use Rattle.event_text.specs.declared.limits.TheConstants.{LINES_MOST, LINE_MOST}
 use Rattle.event_text.specs.declared.line_fault.LineWhat.{LineWhat}
 use Rattle.event_text.specs.declared.line_fault.LineWhat.TheVariants.{Unknown, Words, Number, Hex, TooLong, TooMany, Twice}
@@ -110,20 +112,20 @@ adds (Ok entry) = Ok (Adds entry)
 adds (Err what) = Err what
 
 -- only answers have something outstanding
-abbrev pub later_words : Dir → List (List ℕ) → Result Line LineWhat
+abbrev pub later_words : Way → List (List ℕ) → Result Line LineWhat
 later_words way [] = Err Unknown
-later_words Out (head ∷ words) = if bytes_eq head (codes "bytes") then bytes_said words else Err Unknown
-later_words In (head ∷ words) =
+later_words ways.Up (head ∷ words) = if bytes_eq head (codes "bytes") then bytes_said words else Err Unknown
+later_words ways.Down (head ∷ words) =
     if bytes_eq head (codes "bytes") then bytes_said words
     else if bytes_eq head (codes "submit") then adds (submit_said words)
     else if bytes_eq head (codes "unlink") then adds (unlink_said words)
     else Err Unknown
 
-abbrev pub later_said : Dir → ℕ → List ℕ → Result Line LineWhat
+abbrev pub later_said : Way → ℕ → List ℕ → Result Line LineWhat
 later_said way number line = judged number line (later_words way)
 
 -- these lines, numbered from here on, say this
-abbrev pub Say : Dir → ℕ → List (List ℕ) → List Line → Type 0
+abbrev pub Say : Way → ℕ → List (List ℕ) → List Line → Type 0
 Say way number [] [] = Unit {0}
 Say way number (line ∷ lines) (said ∷ more) = (later_said way number line ≡ Ok said) × Say way (number + 1) lines more
 Say way number lines said = ⊥

@@ -4,6 +4,8 @@ use Rattle.std.specs.List.{flat_map}
 use Rattle.tmc_base.specs.declared.field.Field.{Field}
 use Rattle.usbip_wire.specs.declared.dirs.Outstanding.{Outstanding}
 use Rattle.usbip_wire.specs.declared.urb.Dir.{Dir}
+use Rattle.event_text.specs.declared.way.Way.{Way}
+use Rattle.event_text.specs.Way.{way_of}
 use Rattle.event_text.specs.declared.line_fault.LineFault.{LineFault}
 use Rattle.event_text.specs.declared.line_fault.LineFault.TheVariants.{At, Memory}
 use Rattle.event_text.specs.declared.line_fault.LineWhat.{LineWhat}
@@ -25,7 +27,7 @@ pub record Standing : Type 0 where
   pub bad : Option Field
 
 -- before the first of them
-abbrev pub begun : Dir → Phase → Standing
+abbrev pub begun : Way → Phase → Standing
 begun way phase = record { reading = stream_of way phase; entries = []; rest = []; bad = None }
 
 -- behind a message, which leaves this rest
@@ -88,14 +90,14 @@ ending None rest = more_line (length rest)
 ending (Some f) rest = []
 
 -- this text is shown of these lines
-pub record Shown (way : Dir) (phase : Phase) (lines : List Line) (text : List ℕ) : Type 0 where
+pub record Shown (way : Way) (phase : Phase) (lines : List Line) (text : List ℕ) : Type 0 where
   pub body : List ℕ
   pub last : Standing
   pub prints : PrintAll (begun way phase) lines body last
   pub ended : text ≡ body ++ ending last.bad last.rest
 
 -- the source is a script: its first line names the phase, and the others say these lines
-pub record IsScript (way : Dir) (source : List ℕ) (phase : Phase) (lines : List Line) : Type 0 where
+pub record IsScript (way : Way) (source : List ℕ) (phase : Phase) (lines : List Line) : Type 0 where
   pub first : List ℕ
   pub others : List (List ℕ)
   pub cut : lines_of source ≡ first ∷ others
@@ -103,11 +105,14 @@ pub record IsScript (way : Dir) (source : List ℕ) (phase : Phase) (lines : Lis
   pub said : Say way 2 others lines
 
 -- this text is shown of exactly the source's lines
-pub record ShownOf (way : Dir) (source text : List ℕ) : Type 0 where
+pub record SourceShown (way : Way) (source text : List ℕ) : Type 0 where
   pub phase : Phase
   pub lines : List Line
   pub script : IsScript way source phase lines
   pub shown : Shown way phase lines text
+
+abbrev pub ShownOf : Dir → List ℕ → List ℕ → Type 0
+ShownOf dir source text = SourceShown (way_of dir) source text
 
 -- the first line names no phase, or there is none
 abbrev pub IsFirstFault : List ℕ → LineWhat → Type 0
@@ -116,7 +121,7 @@ IsFirstFault source what =
     ⊎ ((first : List ℕ) × (others : List (List ℕ)) × (lines_of source ≡ first ∷ others) × (first_said first ≡ Err what))
 
 -- a later line has this for its first fault, where the lines before it have none
-pub record IsLaterFault (way : Dir) (source : List ℕ) (number : ℕ) (what : LineWhat) : Type 0 where
+pub record IsLaterFault (way : Way) (source : List ℕ) (number : ℕ) (what : LineWhat) : Type 0 where
   pub first : List ℕ
   pub before : List (List ℕ)
   pub line : List ℕ
@@ -133,10 +138,16 @@ pub record IsLaterFault (way : Dir) (source : List ℕ) (number : ℕ) (what : L
   pub refused : said_fault last.entries (later_said way number line) ≡ Some what
 
 -- this line, counted from 1, is the first that is refused, with its first fault
+abbrev pub SourceRefused : Way → List ℕ → ℕ → LineWhat → Type 0
+SourceRefused way source number what = ((number ≡ 1) × IsFirstFault source what) ⊎ IsLaterFault way source number what
+
 abbrev pub IsRefused : Dir → List ℕ → ℕ → LineWhat → Type 0
-IsRefused way source number what = ((number ≡ 1) × IsFirstFault source what) ⊎ IsLaterFault way source number what
+IsRefused dir source number what = SourceRefused (way_of dir) source number what
 
 -- the fault of a call: a line is refused, or memory is wanting
+abbrev pub SourceFault : Way → List ℕ → LineFault → Type 0
+SourceFault way source (At number what) = SourceRefused way source number what
+SourceFault way source Memory = ⊤
+
 abbrev pub IsFaultOf : Dir → List ℕ → LineFault → Type 0
-IsFaultOf way source (At number what) = IsRefused way source number what
-IsFaultOf way source Memory = ⊤
+IsFaultOf dir source fault = SourceFault (way_of dir) source fault

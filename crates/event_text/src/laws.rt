@@ -1,15 +1,18 @@
 //! What holds of scripts. No function does anything, and its contract is the law.
 
-ghost use Rattle.std.specs.Prelude.{◌≡◌, ◌↔◌, ◌<◌, ◌^◌, ◌++◌, ℕ, List, Some, Ok};
+ghost use Rattle.std.specs.Prelude.{◌≡◌, ◌↔◌, ◌<◌, ◌^◌, ◌++◌, ℕ, Option, List, Some, Ok};
 ghost use Rattle.std.specs.Fmt.{decimal};
 ghost use Rattle.hex.specs.Hex.{IsBytes};
 ghost use Rattle.event_text.specs.Words.{number_of, bytes_of, hex_word, words_of};
 ghost use Rattle.tmc_law.specs.declared.dev_event.DevEvent.{DevEvent};
 ghost use Rattle.event_text.specs.declared.event.Event.{Event};
-ghost use Rattle.event_text.specs.EventLine.{dev_said, event_said};
-ghost use Rattle.event_text.specs.EventSpelled.{dev_line, event_line, DevMayStand, MayStand};
+ghost use Rattle.event_text.specs.EventLine.{dev_said, event_said, line_words};
+ghost use Rattle.event_text.specs.EventSpelled.{dev_line, event_line, said_line, DevMayStand, MayStand, SaidMayStand};
+ghost use Rattle.event_text.specs.declared.event_line.Place.{Place};
+ghost use Rattle.event_text.specs.declared.event_line.Said.{Said};
 ghost use Rattle.usbip_wire.specs.declared.urb.Dir.{Dir};
-ghost use Rattle.usbip_wire.specs.declared.urb.Dir.TheVariants.{Out};
+ghost use Rattle.event_text.specs.declared.way.Way.{Way};
+ghost use Rattle.event_text.specs.declared.way.Way.TheVariants.{Up};
 ghost use Rattle.event_text.specs.declared.line_fault.LineWhat.{LineWhat};
 ghost use Rattle.event_text.specs.declared.script.Line.{Line};
 ghost use Rattle.event_text.specs.declared.script.Line.TheVariants.{Bytes};
@@ -18,6 +21,12 @@ ghost use Rattle.event_text.specs.declared.event.Script.{Script};
 ghost use Rattle.event_text.specs.EventScript.{IsEventScript, IsRefusedEvent};
 ghost use Rattle.event_text.specs.Message.{stream_of};
 ghost use Rattle.event_text.specs.Pieces.{merged, bytes_in, IsTextOf};
+ghost use Rattle.host_hub.specs.BookSeen.{BookSeen};
+ghost use Rattle.host_hub.specs.declared.outcome.End.{End};
+ghost use Rattle.instr_plain.specs.declared.log.LogEntry.{LogEntry};
+ghost use Rattle.event_text.specs.declared.answer.EventAnswer.{EventAnswer};
+ghost use Rattle.event_text.specs.Report.{IsReport};
+ghost use Rattle.event_text.specs.Told.{MayBeReported, SuitAll};
 ghost use Rattle.event_text.specs.Shown.{Standing, Prints, Shown, ShownOf, IsRefused};
 
 use usbip_wire::{
@@ -49,10 +58,13 @@ pub fn scripts_are_determined()
 }
 
 /// A line says an event of a device, or an event, exactly where it is the line that is written of the event, and the
-/// numbers of the event may stand in a line.
+/// numbers of the event may stand in a line. So it is with each line of a script, `first` and `depth` too, behind what
+/// was said before it.
 pub fn events_have_their_lines()
     ensures dev { (line : List ℕ) (event : DevEvent) → (dev_said (words_of line) ≡ Ok event) ↔ ((line ≡ dev_line event) × DevMayStand event) }
     ensures event { (line : List ℕ) (event : Event) → (event_said (words_of line) ≡ Ok event) ↔ ((line ≡ event_line event) × MayStand event) }
+    ensures line { (place : Place) (line : List ℕ) (said : Said)
+        → (line_words place (words_of line) ≡ Ok said) ↔ ((line ≡ said_line said) × SaidMayStand place said) }
 {}
 
 /// No text is both a script of events and refused. It is at most one script, and at most one line of it is refused, for
@@ -71,12 +83,12 @@ pub fn event_scripts_are_determined()
 pub fn pieces_are_one_text()
     ensures joined { (old middle new : Standing) (piece more text other : List ℕ)
         → Prints old (Bytes piece) text middle → Prints middle (Bytes more) other new → Prints old (Bytes (piece ++ more)) (text ++ other) new }
-    ensures cuts { (way : Dir) (phase : Phase) (lines others : List Line) (text : List ℕ)
+    ensures cuts { (way : Way) (phase : Phase) (lines others : List Line) (text : List ℕ)
         → merged lines ≡ merged others → Shown way phase lines text → Shown way phase others text }
-    ensures one { (way : Dir) (phase : Phase) (lines others : List Line) (text other : List ℕ)
+    ensures one { (way : Way) (phase : Phase) (lines others : List Line) (text other : List ℕ)
         → merged lines ≡ merged others → Shown way phase lines text → Shown way phase others other → text ≡ other }
-    ensures client { (phase : Phase) (lines : List Line) (text : List ℕ) → Shown Out phase lines text
-        → IsTextOf (stream_of Out phase) (bytes_in lines) text }
+    ensures client { (phase : Phase) (lines : List Line) (text : List ℕ) → Shown Up phase lines text
+        → IsTextOf (stream_of Up phase) (bytes_in lines) text }
 {
     requests_are_determined();
     urbs_are_determined();
@@ -85,3 +97,16 @@ pub fn pieces_are_one_text()
     bad_fields_are_alone();
     bad_fields_stay();
 }
+
+/// A report determines its book and whether the hub runs, its log, and the bytes sent and taken, where numbers and bytes
+/// are as their types hold them; and with its events, of which each answers what it may, its answers.
+pub fn reports_are_determined()
+    ensures told { (answers others : List (Option EventAnswer)) (end ending : Option End) (book second : BookSeen) (log entries : List LogEntry) (up sent down taken text : List ℕ)
+        → MayBeReported answers end book log up down → MayBeReported others ending second entries sent taken
+        → IsReport answers end book log up down text → IsReport others ending second entries sent taken text
+        → (end ≡ ending) × (book ≡ second) × (log ≡ entries) × (up ≡ sent) × (down ≡ taken) }
+    ensures answers { (events : List Event) (answers others : List (Option EventAnswer)) (end ending : Option End) (book second : BookSeen) (log entries : List LogEntry) (up sent down taken text : List ℕ)
+        → MayBeReported answers end book log up down → MayBeReported others ending second entries sent taken → SuitAll events answers → SuitAll events others
+        → IsReport answers end book log up down text → IsReport others ending second entries sent taken text
+        → answers ≡ others }
+{}

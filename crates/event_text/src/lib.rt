@@ -32,6 +32,7 @@ mod stream;
 #[cfg(test)]
 mod tests;
 mod text;
+mod way;
 mod words;
 
 pub use answer::EventAnswer;
@@ -42,7 +43,7 @@ pub use event_script::read_script;
 pub use field::put_field;
 pub use laws::{
     event_scripts_are_determined, events_have_their_lines, pieces_are_one_text,
-    scripts_are_determined, words_spell_their_values,
+    reports_are_determined, scripts_are_determined, words_spell_their_values,
 };
 pub use limits::{LINE_MOST, LINES_MOST, script_limits_are_the_products};
 pub use line_fault::{LineFault, LineWhat};

@@ -30,6 +30,31 @@ pub enum LineWhat {
     NotYet,
 }
 
+impl LineWhat {
+    ghost use Rattle.std.specs.Prelude.{◌≡◌};
+    ghost use Rattle.event_text.specs.Fault.{name_of};
+
+    /// Its name, as it is printed.
+    pub fn name(self) -> &'static str
+        ensures { result.now ≡ name_of self }
+    {
+        match self {
+            LineWhat::Unknown => "Unknown",
+            LineWhat::Words => "Words",
+            LineWhat::Number => "Number",
+            LineWhat::Hex => "Hex",
+            LineWhat::TooLong => "TooLong",
+            LineWhat::TooMany => "TooMany",
+            LineWhat::Depth => "Depth",
+            LineWhat::EmptyMessage => "EmptyMessage",
+            LineWhat::LongMessage => "LongMessage",
+            LineWhat::Session => "Session",
+            LineWhat::Twice => "Twice",
+            LineWhat::NotYet => "NotYet",
+        }
+    }
+}
+
 /// Why a script is refused. Lines are counted from 1.
 #[derive(Clone, Copy, Debug, PartialEq, Eq, Error)]
 pub enum LineFault {

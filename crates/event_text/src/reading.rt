@@ -15,10 +15,11 @@ ghost use Rattle.event_text.specs.Shown.{begun, Prints, ending};
 use crate::line_fault::LineWhat;
 use crate::printed::{put_client, put_device, put_more};
 use crate::script::Phase;
+use crate::way::Way;
 use std::alloc::Global;
 use tmc_base::Memory;
 use usbip_wire::{
-    DIRS_MAX, Dir, Dirs, Down, DownReader, Outstanding, Up, UpReader, entries_may_be_added,
+    DIRS_MAX, Dirs, Down, DownReader, Outstanding, Up, UpReader, entries_may_be_added,
 };
 
 /// The device that URB messages go to: bus 1, device 2.
@@ -33,15 +34,15 @@ pub(crate) enum Reader {
 
 impl Reader {
     /// The reader of a script's stream.
-    fn new(alloc: Global, way: Dir, phase: Phase) -> Result<Reader, Memory>
+    fn new(alloc: Global, way: Way, phase: Phase) -> Result<Reader, Memory>
         ensures begun { IfOk result (λ reader. standing_of reader [] ≡ begun way phase) }
         ensures ours { IfOk result IsOurReader }
     {
         Ok(match (way, phase) {
-            (Dir::Out, Phase::Op) => Reader::Client(UpReader::ops(alloc)?),
-            (Dir::Out, Phase::Urb) => Reader::Client(UpReader::urbs(alloc, DEVID)?),
-            (Dir::In, Phase::Op) => Reader::Device(DownReader::ops(alloc)?),
-            (Dir::In, Phase::Urb) => Reader::Device(DownReader::urbs(alloc)?),
+            (Way::Up, Phase::Op) => Reader::Client(UpReader::ops(alloc)?),
+            (Way::Up, Phase::Urb) => Reader::Client(UpReader::urbs(alloc, DEVID)?),
+            (Way::Down, Phase::Op) => Reader::Device(DownReader::ops(alloc)?),
+            (Way::Down, Phase::Urb) => Reader::Device(DownReader::urbs(alloc)?),
         })
     }
 
@@ -88,7 +89,7 @@ pub(crate) struct Reading {
 
 impl Reading {
     /// The stream of a script, before its first byte.
-    pub(crate) fn new(alloc: Global, way: Dir, phase: Phase) -> Result<Reading, Memory>
+    pub(crate) fn new(alloc: Global, way: Way, phase: Phase) -> Result<Reading, Memory>
         ensures begun { IfOk result (λ reading. standing_of reading.reader reading.dirs ≡ begun way phase) }
         ensures sound { IfOk result (λ reading. IsSound reading.reader reading.dirs reading.refused) }
     {

@@ -8,10 +8,10 @@ use crate::book::put_book_lines;
 use crate::log::put_log_lines;
 use crate::stream::put_stream_lines;
 use crate::text::hand_over;
+use crate::way::Way;
 use host_hub::{Book, End};
 use tmc_base::Memory;
 use tmc_law::Log;
-use usbip_wire::Dir;
 
 /// Appends a report: what each event answered, of which `None` was not enabled; the text of the hub's book; the
 /// instrument's log; the bytes that were sent up; and those that were taken down. Where memory is wanting `out` is as
@@ -32,7 +32,7 @@ pub fn put_report(
     put_answers(answers, &mut text)?;
     put_book_lines(end, book, &mut text)?;
     put_log_lines(log.entries(), &mut text)?;
-    put_stream_lines(Dir::Out, up, &mut text)?;
-    put_stream_lines(Dir::In, down, &mut text)?;
+    put_stream_lines(Way::Up, up, &mut text)?;
+    put_stream_lines(Way::Down, down, &mut text)?;
     hand_over(text, out)
 }

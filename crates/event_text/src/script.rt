@@ -10,6 +10,7 @@ use crate::behind::{Behind, first_word};
 use crate::limits::{LINE_MOST, LINES_MOST};
 use crate::line_fault::LineWhat;
 use crate::line_stop::LineStop;
+use crate::way::Way;
 use crate::words::{is, octets_of, read_number};
 use std::alloc::Global;
 use tmc_base::{Octets, SUBMIT_MAX};
@@ -45,7 +46,7 @@ pub(crate) fn read_first(line: &[u8]) -> Result<Phase, LineWhat>
 /// What this line says.
 pub(crate) fn read_later(
     alloc: Global,
-    way: Dir,
+    way: Way,
     number: u32,
     line: &[u8],
 ) -> Result<Line, LineStop>
@@ -94,7 +95,7 @@ fn read_phase(behind: Behind) -> Result<Phase, LineWhat>
     }
 }
 
-fn later_words(alloc: Global, way: Dir, head: &[u8], behind: Behind) -> Result<Line, LineStop>
+fn later_words(alloc: Global, way: Way, head: &[u8], behind: Behind) -> Result<Line, LineStop>
     ensures read { IsRead result (later_words way (head.now ∷ words_behind behind.entry)) }
     ensures short { IfOk result IsShortLine }
 {
@@ -102,8 +103,8 @@ fn later_words(alloc: Global, way: Dir, head: &[u8], behind: Behind) -> Result<L
         return read_bytes(alloc, behind);
     }
     match way {
-        Dir::In if is(head, "submit") => Ok(Line::Adds(read_submit(behind)?)),
-        Dir::In if is(head, "unlink") => Ok(Line::Adds(read_unlink(behind)?)),
+        Way::Down if is(head, "submit") => Ok(Line::Adds(read_submit(behind)?)),
+        Way::Down if is(head, "unlink") => Ok(Line::Adds(read_unlink(behind)?)),
         _ => Err(LineStop::Wrong(LineWhat::Unknown)),
     }
 }

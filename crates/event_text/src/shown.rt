@@ -4,13 +4,14 @@ ghost use Rattle.std.specs.Prelude.{◌≡◌, ◌⊎◌, ◌++◌, Ok, Err, ℕ
 ghost use Rattle.event_text.specs.declared.line_fault.LineFault.TheVariants.{At, Memory};
 ghost use Rattle.event_text.specs.declared.line_fault.LineWhat.{LineWhat};
 ghost use Rattle.event_text.specs.Read.{LinePut, IsSound, standing_of};
-ghost use Rattle.event_text.specs.Shown.{ShownOf, IsFaultOf, IsRefused};
+ghost use Rattle.event_text.specs.Shown.{ShownOf, IsFaultOf, IsRefused, SourceShown, SourceFault};
 
 use crate::laws::scripts_are_determined;
 use crate::line_fault::{LineFault, LineWhat};
 use crate::line_stop::LineStop;
 use crate::reading::Reading;
 use crate::script::{Line, read_first, read_later};
+use crate::way::Way;
 use crate::words::first_line;
 use std::alloc::Global;
 use usbip_wire::Dir;
@@ -27,7 +28,7 @@ pub fn put_shown(way: Dir, source: &[u8], out: &mut Vec<u8>) -> Result<(), LineF
         → (result ≡ Err (At number what)) ⊎ (result ≡ Err Memory) }
 {
     scripts_are_determined();
-    let text = text_of(*out.allocator(), way, source)?;
+    let text = text_of(*out.allocator(), Way::of(way), source)?;
     if out.is_empty() {
         *out = text;
         return Ok(());
@@ -36,9 +37,9 @@ pub fn put_shown(way: Dir, source: &[u8], out: &mut Vec<u8>) -> Result<(), LineF
 }
 
 /// What is shown of a script.
-fn text_of(alloc: Global, way: Dir, source: &[u8]) -> Result<Vec<u8>, LineFault>
-    ensures shown { IfOk result (λ text. ShownOf way source.now text.items) }
-    ensures refused { IfErr result (IsFaultOf way source.now) }
+fn text_of(alloc: Global, way: Way, source: &[u8]) -> Result<Vec<u8>, LineFault>
+    ensures shown { IfOk result (λ text. SourceShown way source.now text.items) }
+    ensures refused { IfErr result (SourceFault way source.now) }
 {
     if source.is_empty() {
         return Err(LineFault::At {
@@ -70,7 +71,7 @@ fn text_of(alloc: Global, way: Dir, source: &[u8]) -> Result<Vec<u8>, LineFault>
 /// Reads one line, and appends what it prints.
 fn put_line(
     reading: &mut Reading,
-    way: Dir,
+    way: Way,
     number: u32,
     line: &[u8],
     text: &mut Vec<u8>,

@@ -2,9 +2,10 @@
 
 ghost use Rattle.std.specs.Prelude.{◌≡◌, ◌++◌, OnOk, OnErr, List, ℕ, length, codes};
 ghost use Rattle.std.specs.Fmt.{decimal};
-ghost use Rattle.event_text.specs.Report.{IsStream, StreamLines, stream_line, stream_word, stream_letter};
+ghost use Rattle.event_text.specs.Report.{IsStream, StreamText, StreamLines, stream_line, stream_word, stream_letter};
 
 use crate::text::{Part, hand_over, put_parts};
+use crate::way::Way;
 use tmc_base::Memory;
 use usbip_wire::Dir;
 
@@ -18,19 +19,19 @@ pub fn put_stream(way: Dir, bytes: &[u8], out: &mut Vec<u8>) -> Result<(), Memor
     ensures kept { OnErr result (out.new.items ≡ out.old.items) }
 {
     let mut text = Vec::new(*out.allocator());
-    put_stream_lines(way, bytes, &mut text)?;
+    put_stream_lines(Way::of(way), bytes, &mut text)?;
     hand_over(text, out)
 }
 
-pub(crate) fn put_stream_lines(way: Dir, bytes: &[u8], text: &mut Vec<u8>) -> Result<(), Memory>
-    ensures { OnOk result ((lines : List ℕ) × IsStream way bytes.now lines × (text.new.items ≡ text.old.items ++ lines)) }
+pub(crate) fn put_stream_lines(way: Way, bytes: &[u8], text: &mut Vec<u8>) -> Result<(), Memory>
+    ensures { OnOk result ((lines : List ℕ) × StreamText way bytes.now lines × (text.new.items ≡ text.old.items ++ lines)) }
 {
     put_count(way, bytes.len(), text)?;
     put_lines(way, bytes, text)
 }
 
 /// The line that says how many bytes there are.
-fn put_count(way: Dir, count: usize, text: &mut Vec<u8>) -> Result<(), Memory>
+fn put_count(way: Way, count: usize, text: &mut Vec<u8>) -> Result<(), Memory>
     ensures { OnOk result (text.new.items ≡ text.old.items ++ (stream_word way ++ (decimal count ++ codes "\n"))) }
 {
     put_parts(
@@ -43,7 +44,7 @@ fn put_count(way: Dir, count: usize, text: &mut Vec<u8>) -> Result<(), Memory>
     )
 }
 
-fn put_lines(way: Dir, bytes: &[u8], text: &mut Vec<u8>) -> Result<(), Memory>
+fn put_lines(way: Way, bytes: &[u8], text: &mut Vec<u8>) -> Result<(), Memory>
     ensures { OnOk result ((lines : List ℕ) × StreamLines (stream_letter way) bytes.now lines × (text.new.items ≡ text.old.items ++ lines)) }
 {
     let mut rest = bytes;
@@ -55,7 +56,7 @@ fn put_lines(way: Dir, bytes: &[u8], text: &mut Vec<u8>) -> Result<(), Memory>
     Ok(())
 }
 
-fn put_line(way: Dir, piece: &[u8], text: &mut Vec<u8>) -> Result<(), Memory>
+fn put_line(way: Way, piece: &[u8], text: &mut Vec<u8>) -> Result<(), Memory>
     ensures { OnOk result (text.new.items ≡ text.old.items ++ stream_line (stream_letter way) piece.now) }
 {
     put_parts(
@@ -68,21 +69,21 @@ fn put_line(way: Dir, piece: &[u8], text: &mut Vec<u8>) -> Result<(), Memory>
     )
 }
 
-fn stream_word(way: Dir) -> &'static str
+fn stream_word(way: Way) -> &'static str
     ensures { result.now ≡ stream_word way }
 {
     match way {
-        Dir::Out => "up ",
-        Dir::In => "down ",
+        Way::Up => "up ",
+        Way::Down => "down ",
     }
 }
 
 /// What each line begins with.
-fn line_word(way: Dir) -> &'static str
+fn line_word(way: Way) -> &'static str
     ensures { result.now ≡ stream_letter way }
 {
     match way {
-        Dir::Out => "u ",
-        Dir::In => "d ",
+        Way::Up => "u ",
+        Way::Down => "d ",
     }
 }

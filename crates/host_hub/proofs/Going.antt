@@ -41,7 +41,7 @@ use Rattle.host_hub.specs.Hand.{ended, is_of}
 use Rattle.host_hub.specs.Joined.{IsJoined, IsPlain, IsPlainOrder, IsServed, IsSimple, ReadsOn, hand_of, head_in, waits_in, waits_of}
 use Rattle.host_hub.specs.Law.{Lawful}
 use Rattle.host_hub.specs.Outstanding.{Sent, awaited_by, outstanding}
-use Rattle.host_hub.specs.Pieces.{Piece, data_in, does_count, extended, pieces}
+use Rattle.host_hub.specs.Pieces.{Piece, data_in, does_count, extended}
 use Rattle.host_hub.specs.Plan.{message_end}
 use Rattle.host_hub.specs.Tied.{bytes_of, spelled}
 use Rattle.host_hub.proofs.Answering.{ends_fine}

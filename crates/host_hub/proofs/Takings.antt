@@ -88,8 +88,8 @@ nothing_lies s past count = record {
 
 behind_turn : (more : Past) → All IsBehind more → All IsOfTurn more
 behind_turn [] h = tt
-behind_turn (Wrote n o k ∷ more) h = (tt, behind_turn more h.1)
-behind_turn (Recovers ∷ more) h = (tt, behind_turn more h.1)
+behind_turn (Wrote n o k ∷ more) h = (h.0, behind_turn more h.1)
+behind_turn (Recovers ∷ more) h = absurd h.0
 behind_turn (Settled t o ∷ more) h = (tt, behind_turn more h.1)
 behind_turn (Stopped e ∷ more) h = (by e h.0, behind_turn more h.1)
   where

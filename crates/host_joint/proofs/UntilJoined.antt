@@ -14,7 +14,7 @@ use Rattle.usbip_wire.specs.Down.{SpellsAnswer}
 use Rattle.usbip_wire.specs.DownFed.{BadAt}
 use Rattle.usbip_wire.specs.Laws.{ArePrefixFree}
 use Rattle.tmc_law.specs.State.{State, pending}
-use Rattle.tmc_law.specs.Put.{Put, Submitted}
+use Rattle.tmc_law.specs.Put.{Put, Submitted, Unlinked}
 use Rattle.tmc_law.specs.Halts.{unplug_answers}
 use Rattle.tmc_law.specs.Laws.{message_of}
 use Rattle.tmc_law.specs.Step.{Unplug, Steps, IsOver, TooMany, Twice}
@@ -22,9 +22,11 @@ use Rattle.tmc_law.specs.Run.{Entry, Runs, SpellAll, SpellsPut, inputs, outputs}
 use Rattle.tmc_law.specs.Told.{Tells}
 use Rattle.host_joint.specs.Hand.{Hand, Free, Says, Said, Reads, Pauses}
 use Rattle.host_joint.specs.Tie.{Tie, IsGiven, Owns, asked_of}
-use Rattle.host_joint.specs.Bond.{Situation, Bound}
+use Rattle.host_joint.specs.Bond.{Situation, Bond, Bound}
 use Rattle.host_joint.specs.Joint.{TellsBy, JointBy, entries_for, entries_of, IsApart}
 use Rattle.host_joint.specs.Unplugged.{Until, TiedUntil, BoundUntil, HaltsNothing, TellsUnplugged, NextUntil, ComesPlugged, ComesBefore, ComesBehind, GivenUntil, GivenPlugged, GivenBefore, GivenBehind}
+use Rattle.host_joint.specs.Lines.{unlinked_by, unlinks_in}
+use Rattle.host_joint.proofs.Cancelling.{same_head}
 use Rattle.host_joint.proofs.Until.{tells, next_until, halts_front}
 use Rattle.host_joint.proofs.Joining.{IsKind, IsKept, Never, rising_asked, apart_asked, few_total, FieldLaws, none_front, no_downs, answer_not_empty, spelled_put, first_spelled, submit_found, none_bad}
 
@@ -209,3 +211,14 @@ never_bad_by laws Ties entries spells devid written read rest more steps s f j s
     by (put ∷ downs) comes (front, after, e, one, others) tie =
         let worse = ((laws.stay entries rest more f).0 bad).0 in
         (laws.alone entries (rest ++ more) f worse).0 (message_of put) front after (spells put j.ups downs s front tie one) (sym comes ∙ e)
+
+-- ---- one submit alone
+
+pub bond_spelled : (Holds : List up.Message → List Put → State → Type 0) (head : SubmitHead) (next : ℕ) → Spelled (λ ups downs s. Bond Holds (asked_of (Some head)) [] next ups downs s) (entries_for (Some head))
+bond_spelled Holds head next (Submitted asked a transferred) ups downs s bytes bond spelled =
+    let same = same_head Holds head asked a transferred [] next ups downs s bond in
+    spelled_put head (Submitted asked a transferred) bytes a transferred (ap (λ (h : SubmitHead). Submitted h a transferred) same) (bond.fits.0.1.number ∙ ap (λ (h : SubmitHead). h.seqnum) same) spelled
+bond_spelled Holds head next (Unlinked asked a) ups downs s bytes bond spelled = none bond.lines.unlinked
+  where
+    none : {B : Type 0} → [] ≡ unlinked_by (Unlinked asked a ∷ downs) ++ unlinks_in ups → B
+    none e = absurd (cc)

@@ -23,6 +23,7 @@ pub mod Bond
 pub mod Remotes
 pub mod Triggers
 pub mod Joint
+pub mod Next
 pub mod Unplugged
 pub mod Hits
 pub mod Turns

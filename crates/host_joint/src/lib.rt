@@ -23,6 +23,7 @@ mod unplugged;
 mod worked;
 mod worked_ahead;
 mod worked_lines;
+mod worked_links;
 mod worked_pieces;
 mod worked_recoveries;
 mod worked_remotes;
@@ -47,12 +48,12 @@ pub use lines::{hosts_keep_lines, lines_stay, what_is_answered_is_over};
 pub use numbers::{new_numbers_are_unused, new_numbers_rise, what_ran_is_kept, what_ran_is_one};
 pub use owned::what_is_read_is_owned;
 pub use recovery::{asks_hand_over, devices_rest, drains_stay, requests_stay};
-pub use remotes::remote_tickets_are_tied;
+pub use remotes::{remote_tickets_are_read, remote_tickets_are_tied};
 pub use ties::{
     answers_are_the_expected, pieces_have_no_fault, tickets_end, ties_begin, ties_own, ties_stay,
     writes_keep_ties,
 };
-pub use triggers::trigger_tickets_are_tied;
+pub use triggers::{trigger_tickets_are_read, trigger_tickets_are_tied};
 pub use turns::{answers_come_in_turn, asks_ahead_hand_over};
 pub use unplugged::{
     answers_come_until_unplugged, hosts_go_on_until_unplugged, joints_stay_until_unplugged,
@@ -62,10 +63,11 @@ pub use unplugged::{
 pub use worked::{worked_asks_are_in_hand, worked_cancels_are_bound, worked_hosts_are_tied};
 pub use worked_ahead::worked_asks_are_written_ahead;
 pub use worked_lines::{worked_lines_are_kept, worked_numbers_rise};
+pub use worked_links::worked_hosts_are_joined;
 pub use worked_pieces::{worked_pieces_are_asked, worked_pieces_are_read};
 pub use worked_recoveries::{
-    worked_cancels_are_recovered, worked_halts_are_asked, worked_halts_are_recovered,
-    worked_unlinks_tell_hits,
+    worked_cancels_are_asked, worked_cancels_are_recovered, worked_halts_are_asked,
+    worked_halts_are_recovered, worked_requests_stay, worked_unlinks_tell_hits,
 };
 pub use worked_remotes::worked_remote_tickets_are_tied;
 pub use worked_triggers::worked_trigger_tickets_are_tied;

@@ -7,6 +7,7 @@ use Rattle.event_text.specs.declared.line_fault.LineWhat.{LineWhat}
 use Rattle.event_text.specs.declared.line_fault.LineWhat.TheVariants.{TooLong, TooMany}
 use Rattle.event_text.specs.Script.{lines_most, line_most, judged, later_words, first_words, Say}
 use Rattle.event_text.specs.Shown.{ShownOf}
+use Rattle.event_text.specs.Way.{way_of}
 use Rattle.event_text.specs.Words.{IsInside, lines_of, words_of}
 use Rattle.tmc_tool.specs.Script.{IsShortLine, KeepsLimits, PassesLimit, IsBounded, IsAt, Stands}
 use Rattle.tmc_tool.specs.declared.script.Place.{Place}
@@ -221,8 +222,8 @@ shown_keeps way source text shown =
     let script = shown.script in
     let head = judged_keeps 1 script.first first_words shown.phase script.named in
     let rest =
-    said_keeps (Say way) (λ number line lines none. none)
-    (λ number line lines one said say. let here = judged_keeps number line (later_words way) one say.0 in (here.0, here.1, say.1))
+    said_keeps (Say (way_of way)) (λ number line lines none. none)
+    (λ number line lines one said say. let here = judged_keeps number line (later_words (way_of way)) one say.0 in (here.0, here.1, say.1))
     2 script.others shown.lines (omega arith) script.said in
     let all : KeepsLimits source = subst (λ xs. (length xs ≤ lines_most) × AllByRecursion IsShortLine xs) (sym script.cut) (omega (arith, rest.0), (head.1, rest.1)) in
     all

@@ -2,22 +2,7 @@
 use Rattle.std.specs.Prelude.{ℕ, List, ◌++◌, codes}
 use Rattle.std.specs.Fmt.{decimal}
 use Rattle.event_text.specs.declared.line_fault.LineWhat.{LineWhat}
-use Rattle.event_text.specs.declared.line_fault.LineWhat.TheVariants.{Unknown, Words, Number, Hex, TooLong, TooMany, Depth, EmptyMessage, LongMessage, Session, Twice, NotYet}
-
--- the names of what is wrong
-abbrev pub name_of : LineWhat → List ℕ
-name_of Unknown = codes "Unknown"
-name_of Words = codes "Words"
-name_of Number = codes "Number"
-name_of Hex = codes "Hex"
-name_of TooLong = codes "TooLong"
-name_of TooMany = codes "TooMany"
-name_of Depth = codes "Depth"
-name_of EmptyMessage = codes "EmptyMessage"
-name_of LongMessage = codes "LongMessage"
-name_of Session = codes "Session"
-name_of Twice = codes "Twice"
-name_of NotYet = codes "NotYet"
+use Rattle.event_text.specs.Fault.{name_of}
 
 -- a line, counted from 1, and what is wrong with it
 abbrev pub refusal : ℕ → LineWhat → List ℕ

@@ -2,7 +2,8 @@
 
 ghost use Rattle.std.specs.Prelude.{◌≡◌, ◌≤◌, ◌<◌, ◌^◌, ◌∷◌, [], ◌++◌, length, IfOk, OnOk, string_bytes, codes, ℕ, List};
 ghost use Rattle.std.specs.Fmt.{decimal};
-ghost use Rattle.tmc_tool.specs.Report.{numbered, hex_word, counted, ticket_line, book_line, log_line, stream_line, StreamLines, Asked, Settled, Exec, Took, Reports};
+ghost use Rattle.event_text.specs.Words.{hex_word};
+ghost use Rattle.tmc_tool.specs.Report.{numbered, counted, ticket_line, book_line, log_line, stream_line, StreamLines, Asked, Settled, Exec, Took, Reports};
 ghost use Rattle.tmc_tool.specs.Exchange.{ask_limit};
 ghost use Rattle.tmc_tool.specs.Tool.{told_of};
 

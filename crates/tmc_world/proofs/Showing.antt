@@ -87,8 +87,8 @@ sends_told old new piece send.Failed sends told =
     went old new [] (ap (λ (l : Looped). l.sent) sends.is ∙ sym (append-nil old.sent)) (ap (λ (l : Looped). l.taken) sends.is)
     (none_more old new (ap (λ (l : Looped). l.run) sends.is)) told.fits
 sends_told old new piece send.Memory sends told =
-    went old new [] (ap (λ (l : Looped). l.sent) sends.1 ∙ sym (append-nil old.sent)) (ap (λ (l : Looped). l.taken) sends.1)
-    (none_more old new (ap (λ (l : Looped). l.run) sends.1)) told.fits
+    went old new [] (ap (λ (l : Looped). l.sent) sends.is ∙ sym (append-nil old.sent)) (ap (λ (l : Looped). l.taken) sends.is)
+    (none_more old new (ap (λ (l : Looped). l.run) sends.is)) told.fits
 
 room_within : (pace : Pace) (offered n : ℕ) → n ≡ send_room pace offered → n ≤ offered
 room_within Calm offered n is = omega (arith, is)

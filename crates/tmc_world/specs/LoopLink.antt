@@ -97,11 +97,17 @@ pub record SendTakes (count : ℕ) (old : Looped) (piece : List ℕ) (new : Loop
     late = new.late;
   }
 
+-- memory is wanting
+pub record SendWants (old new : Looped) : Type 0 where
+  pub unnamed : old.send_fails ≡ false
+  pub room : NoSendRoom old.pace → ⊥
+  pub is : new ≡ old
+
 abbrev pub Sends : Looped → List ℕ → SendStep → Looped → Type 0
 Sends old piece (send.Took n) new = SendTakes n old piece new
 Sends old piece send.Idle new = SendIdles old new
 Sends old piece send.Failed new = SendFails old new
-Sends old piece send.Memory new = (old.send_fails ≡ false) × (new ≡ old)
+Sends old piece send.Memory new = SendWants old new
 
 -- ---- a poll
 

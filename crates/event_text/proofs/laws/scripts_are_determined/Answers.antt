@@ -1,4 +1,5 @@
 use Rattle.event_text.specs.Message.{devid}
+use Rattle.event_text.specs.Way.{way_of}
 use Rattle.event_text.proofs.Lawful.{Lawful}
 use Rattle.event_text.proofs.Refused.{texts_one, refusals_one, not_both}
 use Rattle.event_text.proofs.laws.scripts_are_determined.Goals as goal
@@ -21,10 +22,10 @@ laws_of c = record {
 }
 
 pub returns-clause-text : goal.returns-clause-text
-returns-clause-text c = λ way source text other a b. texts_one (laws_of c) way source text other a b
+returns-clause-text c = λ way source text other a b. texts_one (laws_of c) (way_of way) source text other a b
 
 pub returns-clause-line : goal.returns-clause-line
-returns-clause-line c = λ way source number second what other a b. refusals_one (laws_of c) way source number second what other a b
+returns-clause-line c = λ way source number second what other a b. refusals_one (laws_of c) (way_of way) source number second what other a b
 
 pub returns-clause-either : goal.returns-clause-either
-returns-clause-either c = λ way source text number what a b. not_both (laws_of c) way source text number what a b
+returns-clause-either c = λ way source text number what a b. not_both (laws_of c) (way_of way) source text number what a b

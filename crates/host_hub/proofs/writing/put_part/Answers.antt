@@ -1,5 +1,4 @@
-use Rattle.std.proofs.Common.{◌≡◌, ◌≤◌, ◌+◌, ◌*◌, ◌-◌, ◌%◌, ℕ, List, length, take, drop, ap, arith}
-use Rattle.host_urbs.specs.Held.{Held}
+use Rattle.std.proofs.Common.{◌*◌, ℕ, List, length, drop, ap, arith}
 use Rattle.tmc_wire.specs.declared.header.OutHeader.TheVariants.{Message}
 use Rattle.host_hub.proofs.Lengths.{transfer_length, alignment_length, take_short}
 use Rattle.host_hub.proofs.writing.put_part.Goals as goal
