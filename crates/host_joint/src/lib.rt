@@ -69,6 +69,6 @@ pub use worked_recoveries::{
     worked_cancels_are_asked, worked_cancels_are_recovered, worked_halts_are_asked,
     worked_halts_are_recovered, worked_requests_stay, worked_unlinks_tell_hits,
 };
-pub use worked_remotes::worked_remote_tickets_are_tied;
-pub use worked_triggers::worked_trigger_tickets_are_tied;
+pub use worked_remotes::{worked_remote_tickets_are_read, worked_remote_tickets_are_tied};
+pub use worked_triggers::{worked_trigger_tickets_are_read, worked_trigger_tickets_are_tied};
 pub use worked_unplugging::worked_hosts_are_unplugged;

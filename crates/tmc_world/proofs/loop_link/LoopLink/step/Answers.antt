@@ -2,7 +2,7 @@ use Rattle.std.proofs.Common.{[]}
 use Rattle.tmc_world.specs.Telling.{told_of}
 use Rattle.tmc_world.proofs.Joining.{works_then}
 use Rattle.tmc_world.proofs.Moving.{telling_same, telling_on, front_told, shown_moved}
-use Rattle.tmc_world.proofs.loop_link.LoopLink.act.Goals as goal
+use Rattle.tmc_world.proofs.loop_link.LoopLink.step.Goals as goal
 
 pub invariant_of-self : goal.invariant_of-self
 invariant_of-self c =
@@ -22,7 +22,7 @@ pub returns-in-Applied : goal.returns-in-Applied
 returns-in-Applied c =
     let acted = c.act.ensures.applied c.in-Applied.is in
     record {
-      goes = rw (← c.self.view_is) (record {
+      ends = rw (← c.self.view_is) (record {
         acted = acted.0;
         drives = acted.1;
         settles = acted.2;
