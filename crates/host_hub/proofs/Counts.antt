@@ -1,15 +1,12 @@
 -- how many messages were sent whole, and which of what is outstanding
-use Rattle.std.proofs.Common.{◌≡◌, ◌∙◌, ◌≤◌, ◌<◌, ◌+◌, ◌-◌, ℕ, zero, suc, Bool, true, false, List, [], ◌∷◌, ◌++◌, length, take, drop, Some, None, refl, sym, ap, subst, arith, append_assoc, append-nil, length-append, take-append-drop}
+use Rattle.std.proofs.Common.{◌≡◌, ◌∙◌, ◌≤◌, ◌<◌, ◌+◌, ◌-◌, ℕ, zero, suc, Bool, true, false, List, [], ◌∷◌, ◌++◌, length, take, drop, Some, None, refl, sym, ap, subst, arith, length-append, take-append-drop}
 use Rattle.std.specs.Prelude.{◌==◌, is_some, leb, nat_lt, if◌then◌else◌}
 use Rattle.std.proofs.lemmas.Bool.{eqb-false, eqb-true, leb-true, ltb-false, ltb-true}
-use Rattle.std.proofs.lemmas.List.{take-append-le, drop-append-le, length-drop}
+use Rattle.std.proofs.lemmas.List.{length-drop}
 use Rattle.usbip_wire.specs.Awaited.{Awaited, entries_of, entry_of, number_of, sent_by}
 use Rattle.usbip_wire.specs.Awaited as wire
 use Rattle.usbip_wire.specs.Dirs as dirs
-use Rattle.usbip_wire.specs.Submit.{submit_bytes}
-use Rattle.usbip_wire.specs.Unlink.{unlink_bytes}
 use Rattle.usbip_wire.specs.Up as up
-use Rattle.usbip_wire.specs.Urb.{fields}
 use Rattle.host_urbs.specs.declared.entry.Entry.{Entry}
 use Rattle.host_urbs.specs.declared.entry.Unanswered.{Unanswered}
 use Rattle.host_urbs.specs.declared.entry.Unanswered.TheVariants.{Submit, Unlink}
@@ -20,7 +17,7 @@ use Rattle.host_urbs.specs.Unanswered.{AreInARow, seqnum_of}
 use Rattle.host_urbs.specs.Law as urbs_law
 use Rattle.host_hub.specs.declared.hub_core.HubCore.{HubCore}
 use Rattle.host_hub.specs.Order.{Setting, is_unlink, message_of}
-use Rattle.host_hub.specs.Record.{Asked, Cancelled, Cleared, Fell, GaveUp, Past, Recovers, Settled, Stopped, Took, Wrote, next, written}
+use Rattle.host_hub.specs.Record.{Past, next, written}
 use Rattle.host_hub.specs.Crossings.{crossings}
 use Rattle.host_hub.specs.Outstanding.{Sent, awaited_by, outstanding}
 use Rattle.host_hub.specs.Law.{Lawful}
