@@ -200,12 +200,9 @@ Polls old size poll.Memory bytes new = PollWants old new
 
 -- ---- an act
 
--- the instrument makes the one lawful step that the event allows, with the greatest count; what waits in the node is taken in
--- and spelled then
+-- the instrument makes the one lawful step that the event allows, with the greatest count
 pub record Acts (event : DevEvent) (old new : Looped) : Type 0 where
-  pub acted : Seen
-  pub drives : Drives event old.node acted
-  pub settles : Works [] [] acted new.node
+  pub drives : Drives event old.node new.node
   pub tells : IsFront old.run new.run
   pub is : new ≡ record old { node = new.node; run = new.run; late = new.late }
 
