@@ -128,6 +128,33 @@ fn what_a_peer_may_not_say(rt: HostRuntime) -> Result<(), Fail> {
 }
 
 #[test]
+fn one_byte_that_is_another(rt: HostRuntime) -> Result<(), Fail> {
+    for (at, byte, outcome) in [
+        (3, 5, refused(Layer::Urb, Name::Command, 0)),
+        (7, 9, refused(Layer::Urb, Name::Seqnum, 4)),
+        (23, 1, Outcome::DeviceFault(1)),
+        (27, 19, refused(Layer::Urb, Name::ActualLength, 24)),
+        (27, 21, refused(Layer::Urb, Name::ActualLength, 24)),
+        (144, 3, refused(Layer::Bulk, Name::MsgId, 0)),
+        (145, 3, refused(Layer::Bulk, Name::Inverse, 2)),
+        (146, 0, refused(Layer::Bulk, Name::Inverse, 2)),
+        (148, 21, refused(Layer::Bulk, Name::Length, 12)),
+        (148, 15, refused(Layer::Bulk, Name::Length, 12)),
+        (149, 16, refused(Layer::Bulk, Name::Size, 4)),
+        (152, 0, Outcome::Unplugged),
+    ] {
+        let mut gives = ANSWERED.to_vec(rt.alloc())?;
+        if let Some(changed) = gives.get_mut(at) {
+            *changed = byte;
+        }
+        let (book, _) = asked(rt.alloc(), gives.as_slice(), 4_096, 48, 4_000)?;
+        let view = book.view(1).expect(&rt, "a ticket");
+        assert_eq!(rt; view.outcome, outcome, "{byte} at {at}");
+    }
+    Ok(())
+}
+
+#[test]
 fn refusals_in_their_order(rt: HostRuntime) -> Result<(), Fail> {
     let link = MemLink::new(
         rt.alloc(),
