@@ -20,6 +20,8 @@ use Rattle.tmc_law.specs.State.{State}
 use Rattle.usbip_wire.specs.declared.down.DownPhase.TheVariants.{Urbs}
 use Rattle.host_urbs.specs.Held as held
 use Rattle.host_urbs.specs.Record as urbs
+use Rattle.host_urbs.specs.declared.limits.TheConstants.{OUTBOX_MAX}
+use Rattle.std.proofs.lemmas.List.{length-drop}
 use Rattle.host_hub.specs.declared.hub_core.HubCore.{HubCore}
 use Rattle.host_hub.specs.declared.hub_core.Phase.{Phase}
 use Rattle.host_hub.specs.declared.hub_core.Phase.TheVariants as phase
@@ -29,6 +31,7 @@ use Rattle.host_hub.specs.declared.outcome.End.TheVariants as end
 use Rattle.host_hub.specs.Behind.{Account}
 use Rattle.host_hub.specs.Calls.{AddsAsk, AddsGivingUp, All, IsOfGivingUp, IsOfTurn, IsOwn}
 use Rattle.host_hub.specs.Crossings.{crossings}
+use Rattle.host_hub.specs.Leaves.{Keeps, Leaves}
 use Rattle.host_hub.specs.Fed.{Fed, IsStopped, Reads}
 use Rattle.host_hub.specs.Hand.{ended}
 use Rattle.host_hub.specs.declared.kind.Kind.{Kind}
@@ -374,9 +377,9 @@ pub stands_spelled : (s : Setting) (past : Past) (sent : List ℕ) (core : HubCo
 stands_spelled s past sent core r = r.knows.follows.stands ∙ spelled_all (urbs.written (crossings s past)) ∙ ap spelled (sym (written_same s past))
 
 pub account_entered : Joins → (start now : Told) (counts : Counts) (s : Setting) (past more : Past) (sent received : List ℕ) (core new : HubCore) → Account start now counts s past sent received core
-    → ended past ≡ None → All IsQuiet more → All IsPlain more → Rests s (more ++ past) sent new → limits (more ++ past) ≤ LIMITS_MAX → new.reader ≡ core.reader
+    → ended past ≡ None → All IsQuiet more → All IsPlain more → Rests s (more ++ past) sent new → limits (more ++ past) ≤ LIMITS_MAX → new.reader ≡ core.reader → (length core.urbs.outbox ≤ OUTBOX_MAX → length new.urbs.outbox ≤ OUTBOX_MAX)
     → Account start now counts s (more ++ past) sent received new
-account_entered laws start now counts s past more sent received core new a running quiet plain rests sum same = record {
+account_entered laws start now counts s past more sent received core new a running quiet plain rests sum same short = record {
   told = a.told;
   rests = rests;
   rest = a.rest;
@@ -399,6 +402,7 @@ account_entered laws start now counts s past more sent received core new a runni
   };
   sum = sum;
   plain = all_joined IsPlain more past plain a.plain;
+  short = short a.short;
   joined = subst (λ (l : List ℕ). StaysJoined s (more ++ past) start now l a.rest) (sym (outbox_more s more past sent core.urbs.outbox new.urbs.outbox received a.rest a.rest a.tied (stands_spelled s (more ++ past) sent new rests)))
       (joined_added laws s past more start now core.urbs.outbox a.rest [] a.rest rests.kept.lawful refl
       (λ read. subst (λ (l : List ℕ). ReadsOn s more past read l) (sym (append-nil read)) (quiet_reads s more past read (takes_quiet more quiet))) a.joined);
@@ -423,6 +427,7 @@ account_roomier start now counts s past sent received core room places a rests =
   shows = a.shows;
   sum = a.sum;
   plain = a.plain;
+  short = a.short;
   joined = a.joined;
 }
 
@@ -443,6 +448,7 @@ account_begins begins start counts s core rests reads = record {
   shows = record { fault = λ e. no_some end.LinkFault e; closing = λ e. no_some end.Unplugged e; refused = λ f e. no_some (end.PeerFault f) e };
   sum = omega arith;
   plain = tt;
+  short = omega (arith, ap length (stands_spelled s [] [] core rests));
   joined = subst (λ (l : List ℕ). StaysJoined s [] start start l []) (sym (stands_spelled s [] [] core rests)) (joined_start begins s start);
 }
   where
@@ -477,6 +483,7 @@ account_tended laws start now later counts s past sent received core a went = re
   shows = a.shows;
   sum = a.sum;
   plain = a.plain;
+  short = a.short;
   joined = joined_out laws s past start now later sent received [] core.urbs.outbox a.rest a.told went a.joined;
 }
 
@@ -494,6 +501,7 @@ account_unsent laws start now later counts after s past sent received core a run
   shows = shows_running s past a.count a.rest after.faults after.closings (unstopped past running);
   sum = a.sum;
   plain = a.plain;
+  short = a.short;
   joined = joined_out laws s past start now later sent received [] core.urbs.outbox a.rest a.told went a.joined;
 }
 
@@ -511,6 +519,7 @@ account_unpolled laws start now later counts after s past sent received core a r
   shows = shows_running s past a.count a.rest after.faults after.closings (unstopped past running);
   sum = a.sum;
   plain = a.plain;
+  short = a.short;
   joined = subst (λ (l : List ℕ). StaysJoined s past start later core.urbs.outbox l) (append-nil a.rest)
       (joined_in laws s past start now later sent received [] core.urbs.outbox a.rest a.told came a.joined);
 }
@@ -593,6 +602,7 @@ account_sent laws neither start now later counts after s past sent received core
       shows = shows_running s past on.later a.rest after.faults after.closings (unstopped past (sym a.rests.knows.over ∙ runs));
       sum = a.sum;
       plain = a.plain;
+      short = subst (λ (l : List ℕ). length l ≤ OUTBOX_MAX) (sym left) (let e = length-drop n core.urbs.outbox in let was = a.short in omega (arith, e, was));
       joined = subst (λ (l : List ℕ). StaysJoined s past start later l a.rest) (sym left)
           (joined_out laws s past start now later sent received (take n core.urbs.outbox) (drop n core.urbs.outbox) a.rest a.told went
           (subst (λ (l : List ℕ). StaysJoined s past start now l a.rest) (sym (take-append-drop n core.urbs.outbox)) a.joined));
@@ -662,9 +672,9 @@ ended_not : {P : Type 0} (core : HubCore) (e : End) → core.end ≡ Some e → 
 ended_not core e f g = no_some e (sym g ∙ f)
 
 pub account_stopped : Joins → (start now : Told) (counts : Counts) (s : Setting) (past : Past) (sent received : List ℕ) (core new : HubCore) (e : End)
-    → (a : Account start now counts s past sent received core) → ended past ≡ None → ShowsAt e counts → (stop : IsStopped s past sent e new) → new.end ≡ Some e
+    → (a : Account start now counts s past sent received core) → ended past ≡ None → ShowsAt e counts → (stop : IsStopped s past sent e new) → new.end ≡ Some e → Leaves core new
     → Account start now counts s (stop.more ++ past) sent received new
-account_stopped laws start now counts s past sent received core new e a running shown stop over = record {
+account_stopped laws start now counts s past sent received core new e a running shown stop over leaves = record {
   told = a.told;
   rests = stop.rests;
   rest = a.rest;
@@ -681,6 +691,7 @@ account_stopped laws start now counts s past sent received core new e a running 
   shows = shows_at s (stop.more ++ past) a.count a.rest counts e shown (front_stop stop.more past e stop.stop);
   sum = subst (λ (n : ℕ). n ≤ LIMITS_MAX) (sym (same_limits stop.more past (none_turn stop.more stop.own))) a.sum;
   plain = all_joined IsPlain stop.more past (plain_turn stop.more stop.own) a.plain;
+  short = leaves.keeps.short a.short;
   joined = subst (λ (l : List ℕ). StaysJoined s (stop.more ++ past) start now l a.rest)
       (sym (outbox_more s stop.more past sent core.urbs.outbox new.urbs.outbox received a.rest a.rest a.tied (stands_spelled s (stop.more ++ past) sent new stop.rests)))
       (joined_added laws s past stop.more start now core.urbs.outbox a.rest [] a.rest stop.rests.kept.lawful refl
@@ -693,9 +704,9 @@ account_stopped laws start now counts s past sent received core new e a running 
 -- ---- bytes are taken
 
 unfoldable pub account_fed : Joins → (start now later : Told) (counts after : Counts) (s : Setting) (past : Past) (sent received bytes : List ℕ) (core new : HubCore)
-    → (a : Account start now counts s past sent received core) → ended past ≡ None → CameIn bytes now later → (fed : Fed s past sent received a.count bytes new)
+    → (a : Account start now counts s past sent received core) → ended past ≡ None → CameIn bytes now later → (fed : Fed s past sent received a.count bytes new) → Keeps core new
     → Account start later after s (fed.more ++ past) sent (received ++ bytes) new
-account_fed laws start now later counts after s past sent received bytes core new a running came fed =
+account_fed laws start now later counts after s past sent received bytes core new a running came fed keeps =
     let cut = cut_received s fed.more past fed.tied.front fed.tied.answers in
     let one = one_received laws.free (crossings s past) a.tied.front cut.mid (a.rest ++ bytes) (cut.answered ++ fed.left) a.tied.answers cut.before
     (sym (append_assoc a.tied.front a.rest bytes) ∙ ap (λ (l : List ℕ). l ++ bytes) (sym a.tied.taken) ∙ fed.tied.taken ∙ ap (λ (l : List ℕ). l ++ fed.left) cut.is
@@ -716,6 +727,7 @@ account_fed laws start now later counts after s past sent received bytes core ne
       };
       sum = subst (λ (n : ℕ). n ≤ LIMITS_MAX) (sym (same_limits fed.more past (none_turn fed.more fed.own))) a.sum;
       plain = all_joined IsPlain fed.more past (plain_turn fed.more fed.own) a.plain;
+      short = keeps.short a.short;
       joined = subst (λ (l : List ℕ). StaysJoined s (fed.more ++ past) start later l fed.left)
           (sym (outbox_more s fed.more past sent core.urbs.outbox new.urbs.outbox received a.rest a.rest a.tied (stands_spelled s (fed.more ++ past) sent new fed.rests)))
           (joined_added laws s past fed.more start later core.urbs.outbox (a.rest ++ bytes) cut.answered fed.left fed.rests.kept.lawful one.1 cut.reads

@@ -1,7 +1,8 @@
 -- accounts go on by a call that asks, and as the hub is given up
-use Rattle.std.proofs.Common.{◌≡◌, ◌∙◌, ◌≤◌, ℕ, true, List, [], ◌∷◌, ◌++◌, Option, Some, None, Result, Ok, Err, refl, sym, ap, subst}
+use Rattle.std.proofs.Common.{◌≡◌, ◌∙◌, ◌≤◌, ℕ, true, List, [], ◌∷◌, ◌++◌, Option, Some, None, Result, Ok, Err, refl, sym, ap, subst, length}
 use Rattle.tmc_base.specs.Link.{Counts}
 use Rattle.tmc_base.specs.Told.{Told}
+use Rattle.host_urbs.specs.declared.limits.TheConstants.{OUTBOX_MAX}
 use Rattle.host_hub.specs.declared.hub_core.HubCore.{HubCore}
 use Rattle.host_hub.specs.declared.limits.TheConstants.{LIMITS_MAX}
 use Rattle.host_hub.specs.declared.refusals.AskFault.{AskFault}
@@ -12,7 +13,7 @@ use Rattle.host_hub.specs.Shown.{Births, IsBorn}
 use Rattle.host_hub.specs.Calls.{AddsGivingUp}
 use Rattle.host_hub.specs.declared.outcome.End.{End}
 use Rattle.host_hub.specs.HubCalls.{AsksOf, LeadsOn}
-use Rattle.host_hub.specs.Leaves.{Keeps}
+use Rattle.host_hub.specs.Leaves.{Keeps, Leaves}
 use Rattle.host_hub.specs.Order.{Setting}
 use Rattle.host_hub.specs.Record.{Asking, Past}
 use Rattle.host_hub.specs.Refusals.{has_message}
@@ -22,9 +23,9 @@ use Rattle.host_hub.proofs.Asks.{unrefused}
 use Rattle.host_hub.proofs.Undisturbing.{Joins}
 
 pub account_asked : Joins → (start now : Told) (counts : Counts) (s : Setting) (past : Past) (sent received : List ℕ) (asking : Asking) (result : Result ℕ AskFault) (core new : HubCore)
-    → Account start now counts s past sent received core → has_message asking.kind ≡ true → Asks s past sent asking result core new → new.reader ≡ core.reader
+    → Account start now counts s past sent received core → has_message asking.kind ≡ true → Asks s past sent asking result core new → new.reader ≡ core.reader → (length core.urbs.outbox ≤ OUTBOX_MAX → length new.urbs.outbox ≤ OUTBOX_MAX)
     → AsksOf start now counts s past sent received asking result new
-account_asked laws start now counts s past sent received asking (Ok ticket) core new a message asks same =
+account_asked laws start now counts s past sent received asking (Ok ticket) core new a message asks same short =
     let u = unrefused s past asking message asks.0 in
     let e = asks.2 in (
       asks.0,
@@ -33,23 +34,23 @@ account_asked laws start now counts s past sent received asking (Ok ticket) core
         more = e.more;
         adds = e.adds;
         account = account_entered laws start now counts s past e.more sent received core new a u.running (quiet_ask past asking e.more e.adds) (plain_ask past asking e.more u.proper e.adds) e.rests
-            (subst (λ (n : ℕ). n ≤ LIMITS_MAX) (sym (ask_limits past asking e.more e.adds)) u.sum) same;
+            (subst (λ (n : ℕ). n ≤ LIMITS_MAX) (sym (ask_limits past asking e.more e.adds)) u.sum) same short;
       },
     )
-account_asked laws start now counts s past sent received asking (Err why) core new a message asks same = (
+account_asked laws start now counts s past sent received asking (Err why) core new a message asks same short = (
   asks.0,
   subst (λ (c : HubCore). Account start now counts s past sent received c) (sym asks.1)
       (account_roomier start now counts s past sent received core new.notes.room new.notes.places a (subst (λ (c : HubCore). Rests s past sent c) asks.1 asks.2)),
 )
 
 pub account_given : Joins → (start now : Told) (counts : Counts) (s : Setting) (past : Past) (sent received : List ℕ) (core new : HubCore)
-    → Account start now counts s past sent received core → core.end ≡ None → IsGivenUp s past sent new → new.reader ≡ core.reader
+    → Account start now counts s past sent received core → core.end ≡ None → IsGivenUp s past sent new → Leaves core new
     → LeadsOn start now counts s past sent received AddsGivingUp new
-account_given laws start now counts s past sent received core new a runs g same = record {
+account_given laws start now counts s past sent received core new a runs g leaves = record {
   more = g.more;
   adds = g.adds;
   account = account_entered laws start now counts s past g.more sent received core new a (sym a.rests.knows.over ∙ runs) (quiet_giving g.more g.adds) (plain_giving g.more g.adds) g.rests
-      (subst (λ (n : ℕ). n ≤ LIMITS_MAX) (sym (giving_limits past g.more g.adds)) a.sum) same;
+      (subst (λ (n : ℕ). n ≤ LIMITS_MAX) (sym (giving_limits past g.more g.adds)) a.sum) leaves.reader leaves.keeps.short;
 }
 
 -- what a call that asks leads to

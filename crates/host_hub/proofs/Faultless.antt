@@ -291,6 +291,7 @@ account_facts says start now counts s past sent received core a = record {
   plain = a.plain;
   bounded = record {
     unanswered = says.few s past a.rests.kept.lawful;
+    unsent = a.short;
     asked = a.rests.knows.few;
     sum = a.sum;
     messages = λ ticket asking asks. (a.rests.knows.proper ticket asking asks).short;

@@ -70,4 +70,5 @@ pub mod Faultless
 pub mod Viewing
 pub mod Entering
 pub mod Turns
+pub mod Shorts
 pub mod Calling

@@ -11,6 +11,7 @@ use Rattle.host_hub.specs.declared.outcome.End.{End}
 use Rattle.host_hub.specs.declared.outcome.End.TheVariants as end
 use Rattle.host_hub.specs.Behind.{Account}
 use Rattle.host_hub.specs.Calls.{All}
+use Rattle.host_hub.specs.Leaves.{Keeps, Leaves}
 use Rattle.host_hub.specs.Fed.{Fed, Feeds, IsStopped}
 use Rattle.host_hub.specs.HubCalls.{TurnsOn}
 use Rattle.host_hub.specs.Knows.{Knows}
@@ -122,6 +123,7 @@ account_counted start now counts s past sent received core n a = record {
   shows = a.shows;
   sum = a.sum;
   plain = a.plain;
+  short = a.short;
   joined = a.joined;
 }
 
@@ -193,10 +195,10 @@ turns_idle laws start now later counts after s past sent received core a runs ca
 
 -- the link ends the hub
 turns_stopped : Joins → (start now : Told) (counts : Counts) (s : Setting) (past : Past) (sent received : List ℕ) (core new : HubCore) (said : Said) (e : End)
-    → Account start now counts s past sent received core → core.end ≡ None → end_said said ≡ Some e → ShowsAt e counts → IsStopped s past sent e new → new.end ≡ Some e
+    → Account start now counts s past sent received core → core.end ≡ None → end_said said ≡ Some e → ShowsAt e counts → IsStopped s past sent e new → new.end ≡ Some e → Leaves core new
     → TurnsOn start now counts s past sent received said new
-turns_stopped laws start now counts s past sent received core new said e a runs is shown stop over =
-    let b = account_stopped laws start now counts s past sent received core new e a (sym a.rests.knows.over ∙ runs) shown stop over in
+turns_stopped laws start now counts s past sent received core new said e a runs is shown stop over leaves =
+    let b = account_stopped laws start now counts s past sent received core new e a (sym a.rests.knows.over ∙ runs) shown stop over leaves in
     let by = by_link said e stop.more is stop.stop in
     record {
       more = stop.more;
@@ -212,19 +214,19 @@ turns_stopped laws start now counts s past sent received core new said e a runs 
 
 pub turns_failed : Joins → (start now later : Told) (counts after : Counts) (s : Setting) (past : Past) (sent received : List ℕ) (core new : HubCore)
     → Account start now counts s past sent received core → core.end ≡ None → WentOut [] now later → after.faults ≢ 0 → IsStopped s past sent end.LinkFault new
-    → new.end ≡ Some end.LinkFault → TurnsOn start later after s past (sent ++ []) received Failed new
-turns_failed laws start now later counts after s past sent received core new a runs went rose stop over =
+    → new.end ≡ Some end.LinkFault → Leaves core new → TurnsOn start later after s past (sent ++ []) received Failed new
+turns_failed laws start now later counts after s past sent received core new a runs went rose stop over leaves =
     let b = account_unsent laws start now later counts after s past sent received core a (sym a.rests.knows.over ∙ runs) went in
     subst (λ (l : List ℕ). TurnsOn start later after s past l received Failed new) (sym (append-nil sent))
-    (turns_stopped laws start later after s past sent received core new Failed end.LinkFault b runs refl rose stop over)
+    (turns_stopped laws start later after s past sent received core new Failed end.LinkFault b runs refl rose stop over leaves)
 
 pub turns_unpolled : Joins → (start now later : Told) (counts after : Counts) (s : Setting) (past : Past) (sent received : List ℕ) (core new : HubCore) (said : Said) (e : End)
     → Account start now counts s past sent received core → core.end ≡ None → CameIn [] now later → end_said said ≡ Some e → ShowsAt e after → IsStopped s past sent e new
-    → new.end ≡ Some e → TurnsOn start later after s past sent (received ++ []) said new
-turns_unpolled laws start now later counts after s past sent received core new said e a runs came is shown stop over =
+    → new.end ≡ Some e → Leaves core new → TurnsOn start later after s past sent (received ++ []) said new
+turns_unpolled laws start now later counts after s past sent received core new said e a runs came is shown stop over leaves =
     let b = account_unpolled laws start now later counts after s past sent received core a (sym a.rests.knows.over ∙ runs) came in
     subst (λ (l : List ℕ). TurnsOn start later after s past sent l said new) (sym (append-nil received))
-    (turns_stopped laws start later after s past sent received core new said e b runs is shown stop over)
+    (turns_stopped laws start later after s past sent received core new said e b runs is shown stop over leaves)
 
 -- bytes came
 pub feeds_on : (start now : Told) (counts : Counts) (s : Setting) (past : Past) (sent received : List ℕ) (core : HubCore) → (a : Account start now counts s past sent received core)
@@ -241,11 +243,11 @@ feeds_on start now counts s past sent received core a runs = record {
 pub turns_fed : Joins → (start now later : Told) (counts after : Counts) (s : Setting) (past : Past) (sent received bytes : List ℕ) (core new : HubCore)
     → Account start now counts s past sent received core → core.end ≡ None → CameIn bytes now later
     → ((rest : List ℕ) (count : ℕ) → Feeds s past sent received rest count core → Fed s past sent received count bytes new)
-    → TurnsOn start later after s past sent (received ++ bytes) Went new
+    → Keeps core new → TurnsOn start later after s past sent (received ++ bytes) Went new
 unfolding account_fed
-turns_fed laws start now later counts after s past sent received bytes core new a runs came feed =
+turns_fed laws start now later counts after s past sent received bytes core new a runs came feed keeps =
     let fed = feed a.rest a.count (feeds_on start now counts s past sent received core a runs) in
-    let b = account_fed laws start now later counts after s past sent received bytes core new a (sym a.rests.knows.over ∙ runs) came fed in
+    let b = account_fed laws start now later counts after s past sent received bytes core new a (sym a.rests.knows.over ∙ runs) came fed keeps in
     record {
       more = fed.more;
       account = b;

@@ -3,6 +3,7 @@ use Rattle.std.specs.Prelude.{◌≡◌, ◌≤◌, ℕ, Some, None, List, lengt
 use Rattle.tmc_base.specs.Link.{Counts}
 use Rattle.tmc_base.specs.Told.{Told, Exchanged}
 use Rattle.usbip_wire.specs.declared.dirs.TheConstants.{DIRS_MAX}
+use Rattle.host_urbs.specs.declared.limits.TheConstants.{OUTBOX_MAX}
 use Rattle.tmc_law.specs.State.{State}
 use Rattle.host_hub.specs.declared.hub_core.HubCore.{HubCore}
 use Rattle.host_hub.specs.declared.limits.TheConstants.{LIMITS_MAX, MESSAGE_MAX, TICKETS_MAX}
@@ -48,6 +49,7 @@ pub record Account (start now : Told) (counts : Counts) (s : Setting) (past : Pa
   -- an end by the link, or by refused bytes, shows there
   pub shows : EndShows s past count rest counts.faults counts.closings
   pub sum : limits past ≤ LIMITS_MAX
+  pub short : length core.urbs.outbox ≤ OUTBOX_MAX
   -- asks and tells alone were asked, and nothing was cancelled or cleared: there is no call of that yet
   pub plain : All IsPlain past
   -- over a lawful device that nothing disturbs, the two are joined
@@ -68,8 +70,9 @@ pub record IsRecorded {A : Type 0} (tells : A → Told) (counts : A → Counts) 
 -- ---- what holds of a hub, by every record behind it
 
 -- the limits of a hub, whatever its peer does
-pub record IsBounded (past : Past) : Type 0 where
+pub record IsBounded (past : Past) (core : HubCore) : Type 0 where
   pub unanswered : length (outstanding past) ≤ DIRS_MAX
+  pub unsent : length core.urbs.outbox ≤ OUTBOX_MAX
   pub asked : tickets past ≤ TICKETS_MAX
   pub sum : limits past ≤ LIMITS_MAX
   pub messages : (ticket : ℕ) (asking : Asking) → asking_of ticket past ≡ Some asking → length asking.message ≤ MESSAGE_MAX
@@ -83,7 +86,7 @@ pub record HubFacts (start now : Told) (s : Setting) (past : Past) (core : HubCo
   pub waiting : Waiting past
   -- asks and tells alone were asked, and nothing was cancelled or cleared: there is no call of that yet
   pub plain : All IsPlain past
-  pub bounded : IsBounded past
+  pub bounded : IsBounded past core
   -- what the hub shows is what its record says
   pub shown : ShowsBook s past core.book
   pub over : core.end ≡ ended past

@@ -1,6 +1,7 @@
 //! How a ticket is asked.
 
 ghost use Rattle.std.specs.Prelude.{◌≡◌, ◌≤◌, ◌<◌, ◌∷◌, ◌++◌, ◌||◌, ◌&&◌, ◌==◌, ◌+◌, nat_lt, nat_le, ℕ, List, Some, None, [], true, length, IfOk, IfErr, OnOk, OnErr};
+ghost use Rattle.host_urbs.specs.declared.limits.TheConstants.{OUTBOX_MAX};
 ghost use Rattle.host_hub.specs.declared.limits.TheConstants.{LIMIT_MAX, LIMITS_MAX, TICKETS_MAX};
 ghost use Rattle.host_hub.specs.declared.refusals.AskFault.TheVariants as fault;
 ghost use Rattle.host_hub.specs.Order.{Setting};
@@ -35,6 +36,7 @@ impl HubCore {
         ensures unchanged { OnErr result (IsUnchanged self.old self.new) }
         ensures reader { self.new.reader ≡ self.old.reader }
         ensures turned { self.new.turned ≡ self.old.turned }
+        ensures short { length self.old.urbs.outbox ≤ OUTBOX_MAX → length self.new.urbs.outbox ≤ OUTBOX_MAX }
     {
         if let Some(fault) = self.refusal(session, kind, message, limit) {
             return Err(fault);

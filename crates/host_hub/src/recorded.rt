@@ -1,6 +1,7 @@
 //! What the records behind a hub say of it, and how they go on. Each function does nothing, and its contract is the law.
 
-ghost use Rattle.std.specs.Prelude.{◌≡◌, ◌≢◌, ◌++◌, ℕ, List, [], None, Some, Result, take, drop, true};
+ghost use Rattle.std.specs.Prelude.{◌≡◌, ◌≢◌, ◌≤◌, ◌++◌, length, ℕ, List, [], None, Some, Result, take, drop, true};
+ghost use Rattle.host_urbs.specs.declared.limits.TheConstants.{OUTBOX_MAX};
 ghost use Rattle.tmc_base.specs.Link.{Counts};
 ghost use Rattle.tmc_base.specs.Told.{CameIn, Told, WentOut};
 ghost use Rattle.host_hub.specs.declared.hub_core.HubCore.{HubCore};
@@ -11,6 +12,7 @@ ghost use Rattle.host_hub.specs.Behind.{Account, HubFacts};
 ghost use Rattle.host_hub.specs.Calls.{AddsGivingUp};
 ghost use Rattle.host_hub.specs.Fed.{Fed, Feeds, IsFed, IsStopped, Reads};
 ghost use Rattle.host_hub.specs.HubCalls.{AsksOf, HasView, LeadsOn, TurnsOn};
+ghost use Rattle.host_hub.specs.Leaves.{Keeps, Leaves};
 ghost use Rattle.host_hub.specs.Order.{Setting};
 ghost use Rattle.host_hub.specs.Record.{Asking, Past};
 ghost use Rattle.host_hub.specs.Refusals.{has_message};
@@ -43,11 +45,11 @@ pub(crate) fn accounts_begin()
 pub(crate) fn accounts_are_entered()
     ensures asked { (start now : Told) (counts : Counts) (setting : Setting) (past : Past) (sent received : List ℕ) (asking : Asking) (result : Result ℕ AskFault) (core new : HubCore)
         → Account start now counts setting past sent received core → has_message asking.kind ≡ true → Asks setting past sent asking result core new
-        → new.reader ≡ core.reader → AsksOf start now counts setting past sent received asking result new }
+        → new.reader ≡ core.reader → (length core.urbs.outbox ≤ OUTBOX_MAX → length new.urbs.outbox ≤ OUTBOX_MAX) → AsksOf start now counts setting past sent received asking result new }
     ensures view { (setting : Setting) (past : Past) (sent : List ℕ) (asking : Asking) (result : Result ℕ AskFault) (core new : HubCore)
         → Rests setting past sent core → Asks setting past sent asking result core new → HasView asking result core.book new.book }
     ensures given { (start now : Told) (counts : Counts) (setting : Setting) (past : Past) (sent received : List ℕ) (core new : HubCore)
-        → Account start now counts setting past sent received core → core.end ≡ None → IsGivenUp setting past sent new → new.reader ≡ core.reader
+        → Account start now counts setting past sent received core → core.end ≡ None → IsGivenUp setting past sent new → Leaves core new
         → LeadsOn start now counts setting past sent received AddsGivingUp new }
 {
     hubs_stay_joined();
@@ -76,22 +78,22 @@ pub(crate) fn accounts_are_turned()
         → Account start later after setting past (sent ++ []) received core }
     ensures failed { (start now later : Told) (counts after : Counts) (setting : Setting) (past : Past) (sent received : List ℕ) (core new : HubCore)
         → Account start now counts setting past sent received core → core.end ≡ None → WentOut [] now later → after.faults ≢ 0
-        → IsStopped setting past sent end.LinkFault new → new.end ≡ Some end.LinkFault → TurnsOn start later after setting past (sent ++ []) received Failed new }
+        → IsStopped setting past sent end.LinkFault new → new.end ≡ Some end.LinkFault → Leaves core new → TurnsOn start later after setting past (sent ++ []) received Failed new }
     ensures idle { (start now later : Told) (counts after : Counts) (setting : Setting) (past : Past) (sent received : List ℕ) (core : HubCore)
         → Account start now counts setting past sent received core → core.end ≡ None → CameIn [] now later
         → TurnsOn start later after setting past sent (received ++ []) Went core }
     ensures poll_failed { (start now later : Told) (counts after : Counts) (setting : Setting) (past : Past) (sent received : List ℕ) (core new : HubCore)
         → Account start now counts setting past sent received core → core.end ≡ None → CameIn [] now later → after.faults ≢ 0
-        → IsStopped setting past sent end.LinkFault new → new.end ≡ Some end.LinkFault → TurnsOn start later after setting past sent (received ++ []) Failed new }
+        → IsStopped setting past sent end.LinkFault new → new.end ≡ Some end.LinkFault → Leaves core new → TurnsOn start later after setting past sent (received ++ []) Failed new }
     ensures closed { (start now later : Told) (counts after : Counts) (setting : Setting) (past : Past) (sent received : List ℕ) (core new : HubCore)
         → Account start now counts setting past sent received core → core.end ≡ None → CameIn [] now later → after.closings ≢ 0
-        → IsStopped setting past sent end.Unplugged new → new.end ≡ Some end.Unplugged → TurnsOn start later after setting past sent (received ++ []) Closed new }
+        → IsStopped setting past sent end.Unplugged new → new.end ≡ Some end.Unplugged → Leaves core new → TurnsOn start later after setting past sent (received ++ []) Closed new }
     ensures feeds { (start now : Told) (counts : Counts) (setting : Setting) (past : Past) (sent received : List ℕ) (core : HubCore)
         → Account start now counts setting past sent received core → core.end ≡ None → IsFed core }
     ensures fed { (start now later : Told) (counts after : Counts) (setting : Setting) (past : Past) (sent received bytes : List ℕ) (core new : HubCore)
         → Account start now counts setting past sent received core → core.end ≡ None → CameIn bytes now later
         → ((rest : List ℕ) (count : ℕ) → Feeds setting past sent received rest count core → Fed setting past sent received count bytes new)
-        → TurnsOn start later after setting past sent (received ++ bytes) Went new }
+        → Keeps core new → TurnsOn start later after setting past sent (received ++ bytes) Went new }
 {
     hubs_stay_joined();
     answers_are_determined();

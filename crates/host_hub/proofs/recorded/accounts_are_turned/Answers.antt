@@ -21,14 +21,14 @@ pub returns-clause-idle : goal.returns-clause-idle
 returns-clause-idle c = turns_idle (record { device = c.hubs_stay_joined.ensures.device; hub = c.hubs_stay_joined.ensures.hub; free = c.answers_are_determined.ensures.free })
 
 pub returns-clause-poll_failed : goal.returns-clause-poll_failed
-returns-clause-poll_failed c = λ start now later counts after s past sent received core new a runs came rose stop over.
+returns-clause-poll_failed c = λ start now later counts after s past sent received core new a runs came rose stop over leaves.
     turns_unpolled (record { device = c.hubs_stay_joined.ensures.device; hub = c.hubs_stay_joined.ensures.hub; free = c.answers_are_determined.ensures.free })
-    start now later counts after s past sent received core new Failed end.LinkFault a runs came refl rose stop over
+    start now later counts after s past sent received core new Failed end.LinkFault a runs came refl rose stop over leaves
 
 pub returns-clause-closed : goal.returns-clause-closed
-returns-clause-closed c = λ start now later counts after s past sent received core new a runs came rose stop over.
+returns-clause-closed c = λ start now later counts after s past sent received core new a runs came rose stop over leaves.
     turns_unpolled (record { device = c.hubs_stay_joined.ensures.device; hub = c.hubs_stay_joined.ensures.hub; free = c.answers_are_determined.ensures.free })
-    start now later counts after s past sent received core new Closed end.Unplugged a runs came refl rose stop over
+    start now later counts after s past sent received core new Closed end.Unplugged a runs came refl rose stop over leaves
 
 pub returns-clause-feeds : goal.returns-clause-feeds
 returns-clause-feeds c = λ start now counts s past sent received core a runs.

@@ -39,7 +39,7 @@ returns-in-Failed g c = record {
       (λ (x : PollStep). TurnsOn start (g.L.Link.told c.poll-step.new.self) (g.L.Link.counts c.poll-step.new.self) s past before (received ++ []) (said_of x) c.fail.new.self)
       (sym c.in-Failed.is)
       (c.accounts_are_turned.ensures.poll_failed start _ _ _ (g.L.Link.counts c.poll-step.new.self) s past before received c.args.core.now c.fail.new.self b c.requires.running
-      c.in-Failed.ensures.told (rose_some _ _ c.in-Failed.ensures.counts.0) (c.fail.ensures.goes s past before b.rests) c.fail.ensures.ended);
+      c.in-Failed.ensures.told (rose_some _ _ c.in-Failed.ensures.counts.0) (c.fail.ensures.goes s past before b.rests) c.fail.ensures.ended c.fail.ensures.leaves);
 }
 
 pub returns-in-Closed : goal.returns-in-Closed
@@ -55,7 +55,7 @@ returns-in-Closed g c = record {
       (λ (x : PollStep). TurnsOn start (g.L.Link.told c.poll-step.new.self) (g.L.Link.counts c.poll-step.new.self) s past before (received ++ []) (said_of x) c.close.new.self)
       (sym c.in-Closed.is)
       (c.accounts_are_turned.ensures.closed start _ _ _ (g.L.Link.counts c.poll-step.new.self) s past before received c.args.core.now c.close.new.self b c.requires.running
-      c.in-Closed.ensures.told (rose_some _ _ c.in-Closed.ensures.counts.0) (c.close.ensures.goes s past before b.rests) c.close.ensures.ended);
+      c.in-Closed.ensures.told (rose_some _ _ c.in-Closed.ensures.counts.0) (c.close.ensures.goes s past before b.rests) c.close.ensures.ended c.close.ensures.leaves);
 }
 
 pub returns-in-Got : goal.returns-in-Got
@@ -68,5 +68,5 @@ returns-in-Got g c = record {
   births = same_births c.args.core.now c.feed.new.self c.feed.ensures.keeps;
   goes = λ start s past before received b.
       c.accounts_are_turned.ensures.fed start _ _ _ (g.L.Link.counts c.poll-step.new.self) s past before received _ c.args.core.now c.feed.new.self b c.requires.running
-      c.in-Got.ensures.told (λ rest count f. c.feed.ensures.fed s past before received rest count f);
+      c.in-Got.ensures.told (λ rest count f. c.feed.ensures.fed s past before received rest count f) c.feed.ensures.keeps;
 }

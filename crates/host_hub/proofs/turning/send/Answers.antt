@@ -21,7 +21,7 @@ returns-in-Failed g c = record {
       subst (λ (x : SendStep). SendsOn (Some x) start (g.L.Link.told c.send-step.new.self) (g.L.Link.counts c.send-step.new.self) s past before received c.args.core.now.urbs.outbox c.fail.new.self)
       (sym c.in-Failed.is)
       (c.accounts_are_turned.ensures.failed start _ _ _ (g.L.Link.counts c.send-step.new.self) s past before received c.args.core.now c.fail.new.self b c.requires.running
-      c.in-Failed.ensures.told (rose_some _ _ c.in-Failed.ensures.counts.0) (c.fail.ensures.goes s past before b.rests) c.fail.ensures.ended);
+      c.in-Failed.ensures.told (rose_some _ _ c.in-Failed.ensures.counts.0) (c.fail.ensures.goes s past before b.rests) c.fail.ensures.ended c.fail.ensures.leaves);
 }
 
 pub returns-in-Idle : goal.returns-in-Idle

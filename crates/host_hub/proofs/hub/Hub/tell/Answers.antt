@@ -17,7 +17,7 @@ invariant_of-self g c =
     let r = c.self.invariant in
     let x = asked_on r.start _ _ r.setting r.past r.sent r.received _ c.ask.result c.ask.new.self
     (c.accounts_are_entered.ensures.asked r.start _ _ r.setting r.past r.sent r.received (record { session = c.args.session; kind = kind.Tell; limit = 0; message = c.args.message.now }) c.ask.result c.self.inside.core c.ask.new.self r.behind refl
-    (c.ask.ensures.asks r.setting r.past r.sent r.behind.rests) c.ask.ensures.reader) in
+    (c.ask.ensures.asks r.setting r.past r.sent r.behind.rests) c.ask.ensures.reader c.ask.ensures.short) in
     record { start = r.start; setting = r.setting; past = x.0; sent = r.sent; received = r.received; behind = x.1 }
 
 pub returns-clause-asks : goal.returns-clause-asks
@@ -25,7 +25,7 @@ returns-clause-asks g c = λ start s past sent received b.
     let was : Behind g.L.Link.told g.L.Link.counts start s past sent received (record { link = c.self.inside.link; core = c.self.inside.core }) =
     subst (λ (h : HubParts _). Behind g.L.Link.told g.L.Link.counts start s past sent received h) (sym c.self.view_is) b in
     c.accounts_are_entered.ensures.asked start _ _ s past sent received (record { session = c.args.session; kind = kind.Tell; limit = 0; message = c.args.message.now }) c.ask.result c.self.inside.core c.ask.new.self was refl
-    (c.ask.ensures.asks s past sent was.rests) c.ask.ensures.reader
+    (c.ask.ensures.asks s past sent was.rests) c.ask.ensures.reader c.ask.ensures.short
 
 pub returns-clause-view : goal.returns-clause-view
 returns-clause-view g c =
