@@ -1,36 +1,32 @@
 -- a ticket is asked of a hub
-use Rattle.std.proofs.Common.{◌≡◌, ◌≢◌, ◌≤◌, ◌<◌, ◌⊎◌, ℕ, ◌+◌, ◌-◌, zero, suc, Bool, true, false, List, [], ◌∷◌, ◌++◌, length, Option, Some, None, refl, sym, subst, ◌∙◌, ap, arith, append_assoc}
+use Rattle.std.proofs.Common.{◌≡◌, ◌≢◌, ◌≤◌, ◌<◌, ℕ, ◌+◌, zero, suc, Bool, true, false, List, [], ◌∷◌, ◌++◌, length, Option, Some, None, refl, sym, subst, ◌∙◌, ap, arith, append_assoc}
 use Rattle.std.specs.Prelude.{◌==◌, ◌||◌, ◌&&◌, nat_lt, nat_le, if◌then◌else◌}
-use Rattle.std.proofs.lemmas.Bool.{ltb-false, eqb-false, eq-eqb}
+use Rattle.std.proofs.lemmas.Bool.{ltb-false, eqb-false}
 use Rattle.host_hub.specs.declared.hub_core.HubCore.{HubCore}
 use Rattle.host_hub.specs.declared.hub_core.Phase.{Phase}
 use Rattle.host_hub.specs.declared.hub_core.Phase.TheVariants as phase
-use Rattle.host_hub.specs.declared.kind.Kind.{Kind}
-use Rattle.host_hub.specs.declared.kind.Kind.TheVariants as kind
 use Rattle.host_hub.specs.declared.limits.TheConstants.{MESSAGE_MAX, LIMIT_MAX, TICKETS_MAX, LIMITS_MAX, LAST_ASK, SESSIONS}
 use Rattle.host_hub.specs.declared.outcome.End.{End}
 use Rattle.host_hub.specs.declared.refusals.AskFault.{AskFault}
 use Rattle.host_hub.specs.declared.refusals.AskFault.TheVariants as fault
 use Rattle.host_hub.specs.BookSeen.{BookSeen}
 use Rattle.host_hub.specs.Noted.{Noted}
-use Rattle.host_hub.specs.Order.{Order, Part, Request, Read, Setting, is_listen}
-use Rattle.host_hub.specs.Record.{Asking, Asked, Past, Of, next}
+use Rattle.host_hub.specs.Order.{Order, Setting, is_listen}
+use Rattle.host_hub.specs.Record.{Asking, Asked, Past, next}
 use Rattle.host_hub.specs.Hand.{ended, in_hand, is_begun, is_of}
 use Rattle.host_hub.specs.Outstanding.{Sent, busy, involved, outstanding}
-use Rattle.host_hub.specs.Book.{active, asking_of, first_of, live, tickets, has}
-use Rattle.host_hub.specs.Status.{awaits, is_status_kind, listens}
+use Rattle.host_hub.specs.Book.{active, asking_of, first_of, live, tickets}
+use Rattle.host_hub.specs.Status.{listens}
 use Rattle.host_hub.specs.Refusals.{ask_fault, ask_fault_while, has_limit, has_message, is_full, limits, needs_488}
 use Rattle.host_hub.specs.Law.{Kept}
-use Rattle.host_hub.specs.Calls.{AddsAsk}
-use Rattle.host_hub.specs.Steps.{Speaks, Working, asked}
+use Rattle.host_hub.specs.Steps.{asked}
 use Rattle.host_recover.specs.declared.need.Need.{Need}
 use Rattle.host_recover.specs.declared.need.Need.TheVariants as need
 use Rattle.host_hub.specs.Needs.{need_of}
 use Rattle.host_hub.specs.Recovery.{AreRecovered, is_called, is_served, wanted}
 use Rattle.host_hub.specs.Proper.{IsProper}
 use Rattle.host_hub.specs.Knows.{Knows, Tells, upwards}
-use Rattle.host_hub.specs.OneOut.{OneOut}
-use Rattle.host_hub.specs.Stands.{GoesTo, IsIdle, IsInMessage, IsInRequest, IsInResponse, IsOut, Rests, Stands}
+use Rattle.host_hub.specs.Stands.{GoesTo, IsIdle, IsOut, Rests, Stands}
 use Rattle.host_hub.specs.Writes.{Ready}
 use Rattle.host_hub.specs.Asks.{Enters}
 use Rattle.host_hub.proofs.Clean.{clean_asked}

@@ -1,7 +1,5 @@
 -- a ticket begins
-use Rattle.std.proofs.Common.{◌≡◌, ◌≢◌, ◌≤◌, ◌<◌, ◌⊎◌, ℕ, ◌+◌, ◌-◌, ◌%◌, zero, suc, Bool, true, false, List, [], ◌∷◌, ◌++◌, length, Option, Some, None, refl, sym, subst, ◌∙◌, ap, arith, append_assoc}
-use Rattle.std.specs.Prelude.{◌==◌, nat_le, ◌*◌, if◌then◌else◌}
-use Rattle.usbip_wire.specs.Awaited.{Awaited}
+use Rattle.std.proofs.Common.{◌≡◌, ◌≤◌, ◌<◌, ℕ, ◌+◌, ◌-◌, ◌%◌, true, false, List, [], ◌∷◌, ◌++◌, length, Some, None, refl, sym, subst, ◌∙◌, ap, arith, append_assoc}
 use Rattle.usbip_wire.specs.Up as up
 use Rattle.host_urbs.specs.declared.entry.Entry.{Entry}
 use Rattle.host_urbs.specs.declared.limits.TheConstants.{LAST_SUBMIT}
@@ -14,30 +12,28 @@ use Rattle.host_hub.specs.declared.hub_core.HubCore.{HubCore}
 use Rattle.host_hub.specs.declared.hub_core.Phase.TheVariants as phase
 use Rattle.host_hub.specs.declared.kind.Kind.{Kind}
 use Rattle.host_hub.specs.declared.kind.Kind.TheVariants as kind
-use Rattle.host_hub.specs.declared.outcome.Outcome.{Outcome}
 use Rattle.host_hub.specs.declared.outcome.End.{End}
 use Rattle.host_hub.specs.declared.outcome.End.TheVariants as end
-use Rattle.host_hub.specs.BookSeen.{BookSeen, Seen, IsTicket, ticket_of}
+use Rattle.host_hub.specs.BookSeen.{BookSeen, Seen, ticket_of}
 use Rattle.host_hub.specs.Noted.{Noted, with_start}
-use Rattle.host_hub.specs.Order.{Order, Part, Setting, message_of, size_of, is_unlink}
+use Rattle.host_hub.specs.Order.{Order, Setting, message_of, size_of, is_unlink}
 use Rattle.host_hub.specs.Calls.{All, IsOwn}
 use Rattle.host_hub.specs.Record.{Asking, Happening, Past, Wrote, Of, Settled, Stopped, next}
 use Rattle.host_hub.specs.Crossings.{crossings}
 use Rattle.host_hub.specs.Hand.{is_begun, is_of}
 use Rattle.host_hub.specs.Outstanding.{Sent, outstanding, busy, awaited_by}
-use Rattle.host_hub.specs.Book.{active, asking_of, live}
+use Rattle.host_hub.specs.Book.{asking_of, live}
 use Rattle.host_hub.specs.Causes.{named}
-use Rattle.host_hub.specs.Pieces.{pieces}
 use Rattle.host_hub.specs.Plan.{first_order, next_tag, part_of, parts}
 use Rattle.host_hub.specs.Refusals.{has_message}
-use Rattle.host_hub.specs.Law.{Kept, Lawful, Planned, WriteLaw, ByNumbers}
+use Rattle.host_hub.specs.Law.{Kept, Lawful, Planned, ByNumbers}
 use Rattle.host_hub.specs.Steps.{Speaks, Working, settle_all, wrote}
 use Rattle.host_hub.specs.Status.{is_status_kind}
 use Rattle.host_hub.specs.Proper.{IsProper}
 use Rattle.host_hub.specs.Knows.{Knows}
 use Rattle.host_hub.specs.OneOut.{OneOut}
-use Rattle.host_hub.specs.Stands.{GoesTo, IsInMessage, IsOut, Rests}
-use Rattle.host_hub.specs.Writes.{CanPart, CanWrite, Ends, Puts, Ready}
+use Rattle.host_hub.specs.Stands.{GoesTo, Rests}
+use Rattle.host_hub.specs.Writes.{CanPart, Ends, Puts, Ready}
 use Rattle.host_hub.proofs.Clean.{clean_begins}
 use Rattle.host_hub.proofs.Endings.{stopped_kept}
 use Rattle.host_hub.proofs.Entries.{submit_may}

@@ -1,5 +1,5 @@
 -- a ticket is settled: the next one begins, or the hub idles
-use Rattle.std.proofs.Common.{◌≡◌, ◌≤◌, ◌<◌, ℕ, List, [], ◌∷◌, ◌++◌, length, Option, Some, None, refl, sym, subst, ◌∙◌, ap, arith}
+use Rattle.std.proofs.Common.{◌≡◌, ◌≤◌, ◌<◌, ℕ, List, [], length, Some, ap}
 use Rattle.host_hub.specs.declared.hub_core.HubCore.{HubCore}
 use Rattle.host_hub.specs.declared.hub_core.Phase.{Phase}
 use Rattle.host_hub.specs.declared.hub_core.Phase.TheVariants as phase
@@ -8,7 +8,7 @@ use Rattle.host_hub.specs.Order.{Setting}
 use Rattle.host_hub.specs.Record.{Past}
 use Rattle.host_hub.specs.Book.{active, first_of, live}
 use Rattle.host_hub.specs.Knows.{Knows}
-use Rattle.host_hub.specs.Stands.{GoesTo, Rests}
+use Rattle.host_hub.specs.Stands.{GoesTo}
 use Rattle.host_hub.specs.Writes.{Done, Ready}
 use Rattle.host_hub.proofs.Lists.{first_has}
 use Rattle.host_hub.proofs.Recovering.{none_begun}

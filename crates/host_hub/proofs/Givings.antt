@@ -1,5 +1,5 @@
 -- a hub is made, and given up
-use Rattle.std.proofs.Common.{◌≡◌, ◌≤◌, ℕ, ◌+◌, ◌-◌, Bool, true, false, List, [], ◌∷◌, ◌++◌, length, Option, Some, None, refl, sym, subst, ◌∙◌, ap, arith, append_assoc}
+use Rattle.std.proofs.Common.{◌≡◌, ◌≤◌, ℕ, ◌+◌, ◌-◌, true, false, List, [], ◌∷◌, ◌++◌, length, Option, Some, None, refl, sym, subst, ◌∙◌, ap, arith, append_assoc}
 use Rattle.host_urbs.specs.Held as held
 use Rattle.host_urbs.specs.Held.{Follows}
 use Rattle.host_hub.specs.declared.book.BookEntry.{BookEntry}
@@ -14,7 +14,6 @@ use Rattle.host_hub.specs.BookRoom.{has_given_up}
 use Rattle.host_hub.specs.Noted.{Noted, with_mark}
 use Rattle.host_hub.specs.Order.{Setting}
 use Rattle.host_hub.specs.Record.{Past, Asked, Cancelled, Cleared, GaveUp, Settled, Stopped, Wrote, Took, Fell, Recovers, Marked, Happening, book}
-use Rattle.host_hub.specs.Hand.{ended}
 use Rattle.host_hub.specs.Book.{KeepsBook, is_given_up, live}
 use Rattle.host_hub.specs.Causes.{named}
 use Rattle.host_hub.specs.Calls.{All, IsOfGivingUp}

@@ -1,7 +1,6 @@
 -- no answer ends a hub that nothing disturbs, and it stays joined as its record goes on
-use Rattle.std.proofs.Common.{◌≡◌, ◌≢◌, ℕ, pos, ◌+◌, ◌<◌, ◌≤◌, ◌||◌, ◌&&◌, Bool, true, false, List, [], ◌∷◌, ◌++◌, length, Option, Some, None, refl, sym, subst, ◌∙◌, ap, arith, append_assoc}
-use Rattle.std.specs.Prelude.{ℤ, is_some, if◌then◌else◌}
-use Rattle.std.specs.Ordering.{int_eq}
+use Rattle.std.proofs.Common.{◌≡◌, ◌≢◌, ℕ, pos, ◌+◌, ◌<◌, ◌≤◌, Bool, true, false, List, [], ◌∷◌, ◌++◌, length, Option, Some, None, refl, sym, subst, ◌∙◌, ap, arith, append_assoc}
+use Rattle.std.specs.Prelude.{is_some, if◌then◌else◌}
 use Rattle.std.proofs.lemmas.Bool.{le-ltb}
 use Rattle.std.proofs.lemmas.List.{append-nil}
 use Rattle.tmc_base.specs.declared.field.Layer.TheVariants as layer
@@ -18,7 +17,6 @@ use Rattle.tmc_base.specs.declared.field.Field.{Field}
 use Rattle.usbip_wire.specs.Down as down
 use Rattle.usbip_wire.specs.Down.{SpellsAnswer}
 use Rattle.usbip_wire.specs.Up as up
-use Rattle.usb_setup.specs.declared.ends.Ends.{Ends}
 use Rattle.tmc_wire.specs.HeaderFault.{TransferSize}
 use Rattle.tmc_law.specs.Put.{Put}
 use Rattle.tmc_law.specs.State.{State}
@@ -28,27 +26,26 @@ use Rattle.host_joint.specs.Pieces.{BeginsPiece, IsFaultless, IsPiece, IsWhole}
 use Rattle.host_joint.specs.Tie.{Goes, TakesFull, TakesLast, TakesPiece, TakesTransfer}
 use Rattle.host_urbs.specs.Law.{MayTake}
 use Rattle.host_urbs.specs.Record as urbs
-use Rattle.host_hub.specs.declared.outcome.End.TheVariants as end
 use Rattle.host_hub.specs.Order.{Order, Part, Read, Request, Setting, Trigger, Listen, Class, ClearHalt, Unlink, endpoint_of, is_bulk, size_of}
 use Rattle.host_hub.specs.Order as order
 use Rattle.host_hub.specs.Record.{Asked, Asking, Cancelled, Cleared, Fell, GaveUp, Of, Past, Recovers, Recovery, Settled, Stopped, Took, Wrote, next, written}
 use Rattle.host_hub.specs.Book.{asking_of}
 use Rattle.host_hub.specs.Calls.{All}
 use Rattle.host_hub.specs.Crossings.{crossings}
-use Rattle.host_hub.specs.Ends.{as_end, comes_early, ends_by, is_before, is_gone, owned_ends, same_endpoint, submit_ends}
+use Rattle.host_hub.specs.Ends.{as_end, ends_by}
 use Rattle.host_hub.specs.Faults.{first_fault, number_field, read_fault, refused, transfer_faults}
-use Rattle.host_hub.specs.Hand.{ended, is_of}
+use Rattle.host_hub.specs.Hand.{ended}
 use Rattle.host_hub.specs.Joined.{IsJoined, IsPlain, IsPlainOrder, IsServed, IsSimple, ReadsOn, hand_of, head_in, waits_in, waits_of}
 use Rattle.host_hub.specs.Law.{Lawful}
 use Rattle.host_hub.specs.Outstanding.{Sent, awaited_by, outstanding}
-use Rattle.host_hub.specs.Pieces.{Piece, data_in, does_count, extended, pieces}
+use Rattle.host_hub.specs.Pieces.{Piece, data_in, does_count, extended}
 use Rattle.host_hub.specs.Plan.{message_end}
 use Rattle.host_hub.specs.Tied.{bytes_of, spelled}
 use Rattle.host_hub.proofs.Answering.{ends_fine}
 use Rattle.host_hub.proofs.Assembled.{faultless}
 use Rattle.host_hub.proofs.InHand.{head_of, is_submit, reads_is}
 use Rattle.host_hub.proofs.Joining.{Expected, Laws, Reading, bytes_in, entries_same, expected, extended_full, extended_short, is_read_of, joined_asked, joined_given, joined_settles, joined_stopped, joined_took, joined_wrote, joint_now, next_answer, not_read_of, reading, unlink_never}
-use Rattle.host_hub.proofs.Lists.{and_false, clash}
+use Rattle.host_hub.proofs.Lists.{clash}
 use Rattle.host_hub.proofs.Numbers.{same_outstanding}
 use Rattle.host_hub.proofs.Plain.{Answered, InHand, NoneOut, OneOut, Out, Stands, answered_one, stands}
 use Rattle.host_hub.proofs.Tying.{spelled_more}

@@ -35,7 +35,7 @@ use Rattle.host_hub.specs.declared.outcome.Outcome.{Outcome}
 use Rattle.host_hub.specs.Order.{Order, Part, Read, Request, Setting, Trigger, Listen, Class, ClearHalt, Unlink, endpoint_of, size_of, text_of}
 use Rattle.host_hub.specs.Order as order
 use Rattle.host_hub.specs.Record.{Asked, Asking, GaveUp, Of, Past, Settled, Stopped, Took, Wrote, next, written}
-use Rattle.host_hub.specs.Book.{asking_of, has, live, remove, tickets}
+use Rattle.host_hub.specs.Book.{asking_of, has, live, remove}
 use Rattle.host_hub.specs.Calls.{All}
 use Rattle.host_hub.specs.Causes.{cause}
 use Rattle.host_hub.specs.Crossings.{crossings}
@@ -46,9 +46,9 @@ use Rattle.host_hub.specs.Outstanding.{Sent, awaited_by, outstanding}
 use Rattle.host_hub.specs.Owned.{IsFront}
 use Rattle.host_hub.specs.Pieces.{Piece, answered, answered_for, data_in, extended, got, opened, pieces, requested}
 use Rattle.host_hub.specs.Plan.{ended_at, last, message_end, next_tag, part_of, parts}
-use Rattle.host_hub.specs.Tied.{bytes_of, spelled}
+use Rattle.host_hub.specs.Tied.{bytes_of}
 use Rattle.host_hub.proofs.InHand.{head_of, free_is, is_submit, pauses_is, reads_is, said_is, spells, whole_is, wrote_writes}
-use Rattle.host_hub.proofs.Lists.{clash, differ, has_added, has_front, has_removed, same}
+use Rattle.host_hub.proofs.Lists.{clash, differ, has_added, has_front, has_removed}
 use Rattle.host_hub.proofs.Numbered.{submit_last}
 use Rattle.host_hub.proofs.Numbers.{may_next, same_outstanding}
 use Rattle.host_hub.proofs.Pasts.{begun_known, hand_begun, unasked_begun}

@@ -1,9 +1,8 @@
 -- what a hub's fields say of its record, as that goes on
-use Rattle.std.proofs.Common.{◌≡◌, ◌≢◌, ◌≤◌, ◌<◌, ◌⊎◌, ℕ, ◌+◌, ◌-◌, zero, suc, Bool, true, false, List, [], ◌∷◌, ◌++◌, length, Option, Some, None, refl, sym, subst, ◌∙◌, ap, arith, inl, inr}
+use Rattle.std.proofs.Common.{◌≡◌, ◌≤◌, ◌<◌, ◌⊎◌, ℕ, ◌+◌, ◌-◌, zero, suc, Bool, true, false, List, [], ◌∷◌, ◌++◌, length, Option, Some, None, refl, sym, subst, ◌∙◌, ap, arith, inl, inr}
 use Rattle.std.specs.Prelude.{◌==◌, slice_get, slice_set, if◌then◌else◌}
 use Rattle.std.proofs.lemmas.Bool.{eqb-true, eqb-false}
 use Rattle.usbip_wire.specs.Up as up
-use Rattle.host_urbs.specs.Record as urbs
 use Rattle.host_hub.specs.declared.book.BookEntry.{BookEntry}
 use Rattle.host_hub.specs.declared.book.BookEntry.TheVariants as entry
 use Rattle.host_hub.specs.declared.notes.Mark.{Mark}
@@ -12,13 +11,12 @@ use Rattle.host_hub.specs.declared.outcome.Outcome.{Outcome}
 use Rattle.host_hub.specs.declared.outcome.Outcome.TheVariants.{Live}
 use Rattle.host_hub.specs.declared.outcome.End.{End}
 use Rattle.host_hub.specs.BookSeen.{BookSeen, Seen, IsTicket, ticket_of}
-use Rattle.host_hub.specs.BookChanges.{with_seen, with_asked, with_settled}
-use Rattle.host_hub.specs.Noted.{Noted, with_mark, with_ticket, with_start}
+use Rattle.host_hub.specs.BookChanges.{with_asked, with_settled}
+use Rattle.host_hub.specs.Noted.{Noted, with_mark, with_ticket}
 use Rattle.host_hub.specs.Order.{Setting}
-use Rattle.host_hub.specs.Record.{Past, Happening, Marked, Asked, Asking, Settled, Stopped, GaveUp, Wrote, book, written, taken, next}
-use Rattle.host_hub.specs.Crossings.{crossings}
+use Rattle.host_hub.specs.Record.{Past, Marked, Asking, Settled, Stopped, Wrote, book, written, taken, next}
 use Rattle.host_hub.specs.Law.{Lawful}
-use Rattle.host_hub.specs.Book.{KeepsBook, active, first_of, tickets, live, remove, settled, outcome_of, asking_of, or_live, has}
+use Rattle.host_hub.specs.Book.{KeepsBook, active, first_of, tickets, live, remove, settled, asking_of, has}
 use Rattle.host_hub.specs.Shown.{ShowsBook, ShowsTicket, entries_in}
 use Rattle.host_hub.specs.Proper.{AllProper, IsProper}
 use Rattle.host_hub.specs.Knows.{Knows, upwards, marks_in, mark_in, mark_of, spare}
@@ -35,7 +33,7 @@ use Rattle.host_hub.specs.Steps.{asked, settle_all}
 use Rattle.host_hub.specs.Causes.{named}
 use Rattle.host_hub.specs.declared.limits.TheConstants.{TICKETS_MAX}
 use Rattle.host_hub.proofs.Lists.{clash, differ, own, first_has, neither}
-use Rattle.host_hub.proofs.Messages.{written_same, next_same}
+use Rattle.host_hub.proofs.Messages.{written_same}
 
 -- ---- lists
 

@@ -1,10 +1,11 @@
 -- what a step leaves as it was
-use Rattle.std.proofs.Common.{◌≡◌, ◌∙◌, sym, subst, ap}
+use Rattle.std.proofs.Common.{◌≡◌, ◌∙◌, ◌≤◌, length, sym, subst, ap}
+use Rattle.host_urbs.specs.declared.limits.TheConstants.{OUTBOX_MAX}
 use Rattle.host_hub.specs.declared.hub_core.HubCore.{HubCore}
 use Rattle.host_hub.specs.Leaves.{Keeps, Leaves}
 
 pub keeps_then : (a b c : HubCore) → Keeps a b → Keeps b c → Keeps a c
-keeps_then a b c x y = record { first = y.first ∙ x.first; ends = y.ends ∙ x.ends; turned = y.turned ∙ x.turned; births = y.births ∙ x.births }
+keeps_then a b c x y = record { first = y.first ∙ x.first; ends = y.ends ∙ x.ends; turned = y.turned ∙ x.turned; births = y.births ∙ x.births; short = λ h. y.short (x.short h) }
 
 pub leaves_then : (a b c : HubCore) → Leaves a b → Leaves b c → Leaves a c
 leaves_then a b c x y = record { keeps = keeps_then a b c x.keeps y.keeps; reader = y.reader ∙ x.reader }
@@ -13,7 +14,7 @@ leaves_then a b c x y = record { keeps = keeps_then a b c x.keeps y.keeps; reade
 pub leaves_ended : (old new : HubCore) → new.notes.births ≡ old.notes.births
     → new ≡ record old { book = new.book; notes = new.notes; active = new.active; end = new.end } → Leaves old new
 leaves_ended old new births rest = record {
-  keeps = record { first = ap (λ (h : HubCore). h.first) rest; ends = ap (λ (h : HubCore). h.ends) rest; turned = ap (λ (h : HubCore). h.turned) rest; births = births };
+  keeps = record { first = ap (λ (h : HubCore). h.first) rest; ends = ap (λ (h : HubCore). h.ends) rest; turned = ap (λ (h : HubCore). h.turned) rest; births = births; short = λ h. subst (λ (x : HubCore). length x.urbs.outbox ≤ OUTBOX_MAX) (sym rest) h };
   reader = ap (λ (h : HubCore). h.reader) rest;
 }
 

@@ -62,3 +62,13 @@ pub mod Failed
 pub mod Requested
 pub mod Going
 pub mod Owns
+pub mod Exchanging
+pub mod Undisturbing
+pub mod Sendings
+pub mod Accounts
+pub mod Faultless
+pub mod Viewing
+pub mod Entering
+pub mod Turns
+pub mod Shorts
+pub mod Calling

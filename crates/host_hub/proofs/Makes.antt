@@ -55,8 +55,8 @@ use Rattle.host_hub.proofs.Taken.{none_left, out_comes, out_goes_on}
 
 pub behind_own : (more : Past) → All IsOwn more → All IsBehind more
 behind_own [] h = tt
-behind_own (Wrote n o k ∷ more) h = (tt, behind_own more h.1)
-behind_own (Recovers ∷ more) h = (tt, behind_own more h.1)
+behind_own (Wrote n o k ∷ more) h = (h.0, behind_own more h.1)
+behind_own (Recovers ∷ more) h = absurd h.0
 behind_own (Settled t o ∷ more) h = (tt, behind_own more h.1)
 behind_own (Stopped e ∷ more) h = (subst OfItself (sym h.0) tt, behind_own more h.1)
 behind_own (Took m ∷ more) h = absurd h.0

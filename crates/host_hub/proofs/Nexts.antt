@@ -1,27 +1,21 @@
 -- the next submit of the active ticket is written
-use Rattle.std.proofs.Common.{◌≡◌, ◌≢◌, ◌≤◌, ◌<◌, ℕ, ◌+◌, ◌-◌, zero, suc, Bool, true, false, List, [], ◌∷◌, ◌++◌, length, Option, Some, None, refl, sym, subst, ◌∙◌, ap, arith}
-use Rattle.std.specs.Prelude.{◌==◌, if◌then◌else◌}
+use Rattle.std.proofs.Common.{◌≡◌, ◌≤◌, ℕ, ◌+◌, Bool, false, List, [], ◌∷◌, Option, Some, refl, sym, subst, ◌∙◌, ap}
 use Rattle.host_urbs.specs.declared.limits.TheConstants.{LAST_SUBMIT}
 use Rattle.host_urbs.specs.Held.{Held, Follows}
 use Rattle.host_urbs.specs.Record as urbs
 use Rattle.host_transfers.specs.Assembly as assembly
 use Rattle.host_hub.specs.declared.hub_core.HubCore.{HubCore}
 use Rattle.host_hub.specs.declared.hub_core.Phase.{Phase}
-use Rattle.host_hub.specs.declared.outcome.Outcome.{Outcome}
 use Rattle.host_hub.specs.BookSeen.{BookSeen, Seen, ticket_of}
-use Rattle.host_hub.specs.Order.{Order, Part, Request, Read, Setting, is_unlink, is_listen, message_of, size_of}
-use Rattle.host_hub.specs.Record.{Asking, Past, Of, Wrote, next}
+use Rattle.host_hub.specs.Order.{Order, Setting, is_unlink, message_of, size_of}
+use Rattle.host_hub.specs.Record.{Asking, Past, Of, next}
 use Rattle.host_hub.specs.Crossings.{crossings}
-use Rattle.host_hub.specs.Hand.{is_begun, is_of}
 use Rattle.host_hub.specs.Outstanding.{Sent, involved, outstanding}
-use Rattle.host_hub.specs.Book.{active, asking_of}
 use Rattle.host_hub.specs.Pieces.{pieces}
 use Rattle.host_hub.specs.Status.{awaits, listens}
-use Rattle.host_hub.specs.Causes.{reached}
 use Rattle.host_hub.specs.Plan.{When, follows, is_part, last, next_tag, parts, planned_by, tag_of}
 use Rattle.host_hub.specs.Law.{Kept, Planned}
-use Rattle.host_hub.specs.Steps.{IsClean, Speaks, wrote}
-use Rattle.host_hub.specs.Proper.{IsProper}
+use Rattle.host_hub.specs.Steps.{Speaks, wrote}
 use Rattle.host_hub.specs.Knows.{Knows}
 use Rattle.host_hub.specs.Stands.{IsOut}
 use Rattle.host_hub.specs.Writes.{Ends, GoesOn, Puts}

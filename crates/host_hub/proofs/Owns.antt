@@ -1,5 +1,5 @@
 -- the bytes of each ticket are a front of the response to its own message
-use Rattle.std.proofs.Common.{◌≡◌, ◌≢◌, ◌⊎◌, ℕ, ◌+◌, ◌<◌, ◌≤◌, not, Bool, true, false, List, [], ◌∷◌, ◌++◌, length, take, Option, Some, None, inl, inr, refl, sym, subst, ◌∙◌, ap, arith}
+use Rattle.std.proofs.Common.{◌≡◌, ◌≢◌, ◌⊎◌, ℕ, ◌<◌, ◌≤◌, not, Bool, true, false, List, [], ◌∷◌, ◌++◌, length, take, Option, Some, None, inl, inr, refl, sym, subst, ◌∙◌, ap, arith}
 use Rattle.std.specs.Prelude.{◌==◌, is_some, if◌then◌else◌}
 use Rattle.std.proofs.lemmas.Bool.{eqb-false, eqb-true}
 use Rattle.std.proofs.Math.Seq.{take-append_seam}
@@ -42,7 +42,7 @@ use Rattle.host_hub.specs.Shown.{ShowsTicket}
 use Rattle.host_hub.specs.Status.{awaits}
 use Rattle.host_hub.proofs.InHand.{reads_is}
 use Rattle.host_hub.proofs.Joining.{ran_running}
-use Rattle.host_hub.proofs.Lists.{clash, first_has, has_front, has_other, own, same}
+use Rattle.host_hub.proofs.Lists.{clash, first_has, has_front, has_other, same}
 use Rattle.host_hub.proofs.Pasts.{begun_active, hand_begun, no_stop, settled_cause, unasked_cause}
 use Rattle.host_hub.proofs.Plain.{Answered, AtEnd, AtPart, AtRead, AtRequest, HasCome, InHand, IsMade, Stage, Stands, Told, answered_one, made_is, made_other, none_reached, plain_asking, planned_of, stands}
 use Rattle.host_hub.proofs.Within.{asks_alone, never_passes}

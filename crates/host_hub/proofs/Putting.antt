@@ -1,22 +1,17 @@
 -- a submit is put behind the others
-use Rattle.std.proofs.Common.{◌≡◌, ◌≤◌, ◌<◌, ℕ, ◌+◌, ◌-◌, zero, suc, Bool, true, false, List, [], ◌∷◌, ◌++◌, length, Option, Some, None, refl, sym, subst, ◌∙◌, ap, arith, length-append}
-use Rattle.std.specs.Prelude.{slice_get, slice_set, nat_le, replicate, ◌*◌}
+use Rattle.std.proofs.Common.{◌≡◌, ℕ, ◌-◌, zero, suc, Bool, true, false, List, [], ◌∷◌, length, Some, refl, sym, subst, ◌∙◌, ap}
+use Rattle.std.specs.Prelude.{slice_get, slice_set, replicate}
 use Rattle.usbip_wire.specs.Up as up
 use Rattle.usbip_wire.specs.declared.urb.Dir.TheVariants.{Out}
-use Rattle.tmc_wire.specs.declared.header.OutHeader.TheVariants as header
 use Rattle.host_urbs.specs.Held.{Held, Follows, submit_out, wrote}
 use Rattle.host_urbs.specs.Record as urbs
-use Rattle.host_hub.specs.declared.hub_core.HubCore.{HubCore}
-use Rattle.host_hub.specs.Order.{Order, Part, Request, Setting, message_of, submit, size_of, text_of, endpoint_of, number_of}
-use Rattle.host_hub.specs.Record.{Asking, Past}
+use Rattle.host_hub.specs.Order.{Order, Part, Setting, message_of, size_of, text_of, number_of}
 use Rattle.host_hub.specs.BookSeen.{BookSeen, Seen, ticket_of}
 use Rattle.host_hub.specs.BookChanges.{with_seen}
 use Rattle.host_hub.specs.Plan.{ended_at, part_of}
-use Rattle.host_hub.specs.Shown.{ShowsTicket}
-use Rattle.host_hub.specs.Knows.{Knows}
-use Rattle.host_hub.specs.Writes.{CanWrite, Puts, Ends}
-use Rattle.host_hub.proofs.Lengths.{transfer_length, header_length}
-use Rattle.host_hub.proofs.Knowing.{known_ticket, seen_there, at_number, some_one}
+use Rattle.host_hub.specs.Writes.{Puts, Ends}
+use Rattle.host_hub.proofs.Lengths.{transfer_length}
+use Rattle.host_hub.proofs.Knowing.{at_number}
 
 -- ---- the message of an order
 

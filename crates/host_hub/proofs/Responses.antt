@@ -1,7 +1,6 @@
 -- a piece of the response is requested and read
-use Rattle.std.proofs.Common.{◌≡◌, ◌≤◌, ◌<◌, ℕ, ◌+◌, ◌-◌, zero, suc, Bool, true, false, List, [], ◌∷◌, ◌++◌, length, Option, Some, None, refl, sym, subst, ◌∙◌, ap, arith}
-use Rattle.std.specs.Prelude.{min, ◌&&◌}
-use Rattle.std.specs.Bool.{MatchBool}
+use Rattle.std.proofs.Common.{◌≡◌, ◌≤◌, ℕ, ◌+◌, ◌-◌, false, List, [], ◌∷◌, length, Some, refl, sym, subst, ◌∙◌, ap, arith}
+use Rattle.std.specs.Prelude.{min}
 use Rattle.tmc_wire.specs.Standard.{header_size}
 use Rattle.tmc_base.specs.declared.limits.TheConstants.{BULK_IN_SUBMIT}
 use Rattle.host_urbs.specs.declared.limits.TheConstants.{LAST_SUBMIT}
@@ -11,17 +10,16 @@ use Rattle.host_transfers.specs.Assembly as assembly
 use Rattle.host_transfers.specs.Tags.{tag_behind}
 use Rattle.host_hub.specs.declared.hub_core.HubCore.{HubCore}
 use Rattle.host_hub.specs.declared.hub_core.Phase.TheVariants as phase
-use Rattle.host_hub.specs.BookSeen.{BookSeen, Seen, ticket_of}
-use Rattle.host_hub.specs.Order.{Order, Read, Request, Setting, size_of}
+use Rattle.host_hub.specs.BookSeen.{Seen, ticket_of}
+use Rattle.host_hub.specs.Order.{Read, Request, Setting}
 use Rattle.host_hub.specs.Record.{Asking, Past, Of, Wrote, next}
-use Rattle.host_hub.specs.Pieces.{Piece, data_in, pieces, requested}
+use Rattle.host_hub.specs.Pieces.{Piece, data_in, pieces}
 use Rattle.host_hub.specs.Plan.{When, next_tag, request_of}
 use Rattle.host_hub.specs.Steps.{wrote}
-use Rattle.host_hub.specs.Shown.{ShowsTicket}
 use Rattle.host_hub.specs.Stands.{GoesTo, Rests}
-use Rattle.host_hub.specs.Writes.{CanRequest, CanWrite, GoesOn, Puts, ReadIsNext, RequestIsNext}
+use Rattle.host_hub.specs.Writes.{CanRequest, CanWrite, Puts, ReadIsNext, RequestIsNext}
 use Rattle.host_hub.proofs.Lists.{own}
-use Rattle.host_hub.proofs.Begins.{asking_seen, none_entries, same_tag}
+use Rattle.host_hub.proofs.Begins.{none_entries, same_tag}
 use Rattle.host_hub.proofs.Knowing.{known_ticket, seen_there}
 use Rattle.host_hub.proofs.Nexts.{IsNext, behind, next_kept, next_knows, next_out}
 use Rattle.host_hub.proofs.Parts.{seen_asks}

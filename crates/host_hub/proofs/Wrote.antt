@@ -1,31 +1,30 @@
 -- a submit is written: what a hub's fields say of its record then
-use Rattle.std.proofs.Common.{◌≡◌, ◌≢◌, ◌≤◌, ◌<◌, ◌⊎◌, ℕ, ◌+◌, ◌-◌, zero, suc, Bool, true, false, List, [], ◌∷◌, ◌++◌, length, take, drop, Option, Some, None, refl, sym, subst, ◌∙◌, ap, arith, inl, inr}
-use Rattle.std.specs.Prelude.{◌==◌, ◌&&◌, not, slice_get, slice_set, if◌then◌else◌}
+use Rattle.std.proofs.Common.{◌≡◌, ◌≤◌, ℕ, ◌+◌, ◌-◌, zero, suc, Bool, true, false, List, [], ◌∷◌, ◌++◌, length, Some, refl, sym, subst, ◌∙◌, ap, arith}
+use Rattle.std.specs.Prelude.{◌==◌, slice_get, slice_set}
 use Rattle.std.proofs.lemmas.Bool.{eqb-true, eqb-false}
 use Rattle.std.proofs.Math.Seq.{take-nil}
 use Rattle.tmc_wire.specs.HeaderFault.{TransferSize}
 use Rattle.host_transfers.specs.Piece.{data_of}
 use Rattle.host_urbs.specs.Held.{Held, Follows}
 use Rattle.host_urbs.specs.Record as urbs
-use Rattle.host_transfers.specs.declared.piece.Piece as said
 use Rattle.host_hub.specs.declared.hub_core.HubCore.{HubCore}
 use Rattle.host_hub.specs.declared.hub_core.Phase.{Phase}
 use Rattle.host_transfers.specs.Assembly as assembly
-use Rattle.host_hub.specs.BookSeen.{BookSeen, Seen, IsTicket, ticket_of}
+use Rattle.host_hub.specs.BookSeen.{BookSeen, Seen, ticket_of}
 use Rattle.host_hub.specs.BookChanges.{with_seen}
-use Rattle.host_hub.specs.Noted.{Noted, with_start}
+use Rattle.host_hub.specs.Noted.{Noted}
 use Rattle.host_hub.specs.Order.{Order, Part, Request, Trigger, Read, Listen, Class, ClearHalt, Unlink, Setting, message_of}
-use Rattle.host_hub.specs.Record.{Past, Wrote, Of, next, written, taken, book}
+use Rattle.host_hub.specs.Record.{Past, next}
 use Rattle.host_hub.specs.Crossings.{crossings}
-use Rattle.host_hub.specs.Hand.{is_begun, is_of, start}
-use Rattle.host_hub.specs.Book.{active, tickets}
-use Rattle.host_hub.specs.Pieces.{Piece, data_in, opened, pieces, got}
-use Rattle.host_hub.specs.Plan.{ended_at, message_end, tag_of}
+use Rattle.host_hub.specs.Hand.{is_begun, start}
+use Rattle.host_hub.specs.Book.{active}
+use Rattle.host_hub.specs.Pieces.{Piece, data_in, opened, pieces}
+use Rattle.host_hub.specs.Plan.{ended_at, tag_of}
 use Rattle.host_hub.specs.Shown.{ShowsBook, ShowsTicket}
 use Rattle.host_hub.specs.Steps.{wrote}
-use Rattle.host_hub.specs.Knows.{Knows, marks_in}
-use Rattle.host_hub.proofs.Lists.{clash, differ, own}
-use Rattle.host_hub.proofs.Knowing.{each_set, set_length, known_ticket, some_number, no_number}
+use Rattle.host_hub.specs.Knows.{Knows}
+use Rattle.host_hub.proofs.Lists.{differ, own}
+use Rattle.host_hub.proofs.Knowing.{each_set, set_length, some_number, no_number}
 
 -- ---- the bytes of a ticket stay
 

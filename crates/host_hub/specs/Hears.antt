@@ -22,7 +22,7 @@ use Rattle.host_hub.specs.Writes.{GoesOn}
 use Rattle.host_hub.specs.declared.outcome.End.{End}
 use Rattle.host_hub.specs.declared.outcome.End.TheVariants as end
 use Rattle.host_hub.specs.declared.outcome.Outcome.{Outcome}
-use Rattle.host_hub.specs.Record.{Asking, Fell, Happening, Of, Past, Recovers, Settled, Stopped, Took, Wrote}
+use Rattle.host_hub.specs.Record.{Asking, Fell, Happening, Of, Past, Settled, Stopped, Took, Wrote}
 use Rattle.host_hub.specs.Hand.{in_hand}
 use Rattle.host_hub.specs.Recovery.{AreRecovered}
 use Rattle.host_hub.specs.Steps.{Working}
@@ -30,6 +30,7 @@ use Rattle.host_hub.specs.Outstanding.{outstanding}
 use Rattle.host_hub.specs.Book.{active, asking_of}
 use Rattle.host_hub.specs.Law.{Lawful}
 use Rattle.host_hub.specs.Calls.{All}
+use Rattle.host_hub.specs.PlainOrders.{IsPlainFor}
 use Rattle.host_hub.specs.Stands.{Rests}
 use Rattle.host_hub.specs.Knows.{Knows}
 use Rattle.host_hub.specs.OneOut.{OneOut}
@@ -133,8 +134,7 @@ OfItself end.Exhausted = Unit {0}
 OfItself e = ⊥
 
 abbrev pub IsBehind : Happening → Type 0
-IsBehind (Wrote number owner order) = Unit {0}
-IsBehind Recovers = Unit {0}
+IsBehind (Wrote number owner order) = IsPlainFor owner order
 IsBehind (Settled t outcome) = Unit {0}
 IsBehind (Stopped e) = OfItself e
 IsBehind x = ⊥

@@ -20,14 +20,15 @@ use Rattle.host_transfers.specs.Piece.{eom_of}
 use Rattle.host_hub.specs.declared.kind.Kind.{Kind}
 use Rattle.host_hub.specs.declared.kind.Kind.TheVariants as kind
 use Rattle.host_hub.specs.declared.limits.TheConstants.{MESSAGE_MAX}
-use Rattle.host_hub.specs.Order.{Order, Part, Request, Read, Setting, message_of, number_of}
-use Rattle.host_hub.specs.Record.{Happening, Past, Wrote, Took, Fell, Recovers, Asked, Cancelled, Cleared, Owner, Of, Recovery, Asking, next, written}
+use Rattle.host_hub.specs.Order.{Setting, message_of, number_of}
+use Rattle.host_hub.specs.Record.{Happening, Past, Wrote, Took, Fell, Recovers, Asked, Cancelled, Cleared, Asking, next}
 use Rattle.host_hub.specs.Crossings.{crossings}
 use Rattle.host_hub.specs.Hand.{in_hand, ended}
 use Rattle.host_hub.specs.Outstanding.{Sent, outstanding}
 use Rattle.host_hub.specs.Book.{asking_of, is_live}
 use Rattle.host_hub.specs.Calls.{All}
 use Rattle.host_hub.specs.Owned.{IsFront}
+pub use Rattle.host_hub.specs.PlainOrders.{IsPlainFor, IsPlainOrder}
 use Rattle.host_hub.specs.Pieces.{Piece, data_in, got, pieces}
 use Rattle.host_hub.specs.Plan.{message_end, parts}
 
@@ -43,16 +44,6 @@ pub record IsPlainAsking (asking : Asking) : Type 0 where
   pub kind_is : IsPlainKind asking.kind asking.limit
   pub some : 1 ≤ length asking.message
   pub few : length asking.message ≤ MESSAGE_MAX
-
-abbrev pub IsPlainOrder : Order → Type 0
-IsPlainOrder (Part tag text eom) = Unit {0}
-IsPlainOrder (Request tag size) = Unit {0}
-IsPlainOrder Read = Unit {0}
-IsPlainOrder order = ⊥
-
-abbrev pub IsPlainFor : Owner → Order → Type 0
-IsPlainFor (Of t) order = IsPlainOrder order
-IsPlainFor Recovery order = ⊥
 
 -- Asks and tells alone are asked, and their transfers and reads alone are written. No ticket is cancelled or cleared, and no
 -- recovery begins.

@@ -17,6 +17,7 @@ pub mod Faults
 pub mod Ends
 pub mod Law
 pub mod Facts
+pub mod PlainOrders
 pub mod Calls
 pub mod Steps
 pub mod BookSeen
@@ -42,3 +43,6 @@ pub mod WorkedStatus
 pub mod WorkedWrong
 pub mod Sentences
 pub mod Joined
+pub mod Undisturbed
+pub mod Behind
+pub mod HubCalls

@@ -1,5 +1,5 @@
 -- what a hub notes beside its book
-use Rattle.std.specs.Prelude.{ℕ, ◌+◌, ◌-◌, Option, None, List, [], ◌∷◌, ◌++◌, set, slice_get, if◌then◌else◌, ◌==◌}
+use Rattle.std.specs.Prelude.{ℕ, ◌-◌, Option, None, List, [], ◌∷◌, ◌++◌, set, slice_get, if◌then◌else◌, ◌==◌}
 use Rattle.host_hub.specs.declared.notes.Mark.{Mark}
 
 pub record Noted : Type 0 where

@@ -1,5 +1,5 @@
 -- what a hub that has asks and tells alone was asked for
-use Rattle.std.specs.Prelude.{◌≡◌, ◌≤◌, ℕ, true, false, Some, length}
+use Rattle.std.specs.Prelude.{◌≡◌, ◌≤◌, ℕ, true, Some, length}
 use Rattle.host_hub.specs.declared.kind.Kind.TheVariants as kind
 use Rattle.host_hub.specs.declared.limits.TheConstants.{MESSAGE_MAX}
 use Rattle.host_hub.specs.Record.{Asking, Past}

@@ -1,5 +1,5 @@
 -- where a hub that runs stands between its calls: at most one submit is out, and it is the active ticket's
-use Rattle.std.specs.Prelude.{◌≡◌, ℕ, ◌*◌, nat_le, Bool, true, false, Option, Some, None, List, [], ◌∷◌, ◌++◌, length}
+use Rattle.std.specs.Prelude.{◌≡◌, ℕ, ◌*◌, nat_le, Bool, true, false, Some, None, List, [], ◌∷◌, ◌++◌, length}
 use Rattle.host_transfers.specs.declared.limits.TheConstants.{PART_MAX}
 use Rattle.host_transfers.specs.Assembly.{Holds}
 use Rattle.host_hub.specs.declared.hub_core.HubCore.{HubCore}
@@ -9,7 +9,7 @@ use Rattle.host_hub.specs.declared.kind.Kind.TheVariants as kind
 use Rattle.host_hub.specs.Order.{Order, Part, Request, Read, Setting, size_of}
 use Rattle.host_hub.specs.Record.{Asking, Of, Past}
 use Rattle.host_hub.specs.Hand.{is_begun}
-use Rattle.host_hub.specs.Outstanding.{Sent, outstanding}
+use Rattle.host_hub.specs.Outstanding.{outstanding}
 use Rattle.host_hub.specs.Book.{active, asking_of, live}
 use Rattle.host_hub.specs.Pieces.{Piece, pieces, requested}
 use Rattle.host_hub.specs.Causes.{reached}

@@ -1,6 +1,5 @@
 -- what a hub's fields are when it wrote a submit of the active ticket
-use Rattle.std.specs.Prelude.{◌≡◌, ◌≤◌, ◌<◌, ◌*◌, ◌+◌, ℕ, Bool, true, false, Some, None, List, [], ◌∷◌, length}
-use Rattle.usbip_wire.specs.Up as up
+use Rattle.std.specs.Prelude.{◌≡◌, ◌≤◌, ◌<◌, ◌*◌, ℕ, Bool, true, false, Some, None, List, [], ◌∷◌, length}
 use Rattle.host_urbs.specs.declared.limits.TheConstants.{LAST_SUBMIT}
 use Rattle.host_urbs.specs.Held.{Held, Follows, wrote}
 use Rattle.host_urbs.specs.Record as urbs

@@ -1,6 +1,7 @@
 //! How a ticket is asked.
 
-ghost use Rattle.std.specs.Prelude.{◌≡◌, ◌≤◌, ◌<◌, ◌∷◌, ◌||◌, ◌&&◌, ◌==◌, ◌+◌, nat_lt, nat_le, ℕ, List, Some, None, true, length, IfOk, IfErr, OnOk, OnErr};
+ghost use Rattle.std.specs.Prelude.{◌≡◌, ◌≤◌, ◌<◌, ◌∷◌, ◌++◌, ◌||◌, ◌&&◌, ◌==◌, ◌+◌, nat_lt, nat_le, ℕ, List, Some, None, [], true, length, IfOk, IfErr, OnOk, OnErr};
+ghost use Rattle.host_urbs.specs.declared.limits.TheConstants.{OUTBOX_MAX};
 ghost use Rattle.host_hub.specs.declared.limits.TheConstants.{LIMIT_MAX, LIMITS_MAX, TICKETS_MAX};
 ghost use Rattle.host_hub.specs.declared.refusals.AskFault.TheVariants as fault;
 ghost use Rattle.host_hub.specs.Order.{Setting};
@@ -8,7 +9,7 @@ ghost use Rattle.host_hub.specs.Record.{Past, Asking};
 ghost use Rattle.host_hub.specs.Law.{Lawful};
 ghost use Rattle.host_hub.specs.Refusals.{has_limit, has_message, ask_fault};
 ghost use Rattle.host_hub.specs.Steps.{asked};
-ghost use Rattle.host_hub.specs.Asks.{Asks};
+ghost use Rattle.host_hub.specs.Asks.{Asks, IsUnchanged};
 ghost use Rattle.host_hub.specs.Proper.{IsProper};
 ghost use Rattle.host_hub.specs.Stands.{IsAtRest, Rests};
 ghost use Rattle.host_hub.specs.Knows.{HasRecord, Knows, Tells};
@@ -29,8 +30,13 @@ impl HubCore {
     ) -> Result<u32, AskFault>
         requires rests { IsAtRest self.old }
         requires message { has_message kind ≡ true }
-        ensures { (s : Setting) (past : Past) (sent : List ℕ) → Rests s past sent self.old
+        ensures asks { (s : Setting) (past : Past) (sent : List ℕ) → Rests s past sent self.old
             → Asks s past sent (record { session = session; kind = kind; limit = limit; message = message.now }) result self.old self.new }
+        ensures born { OnOk result (self.new.notes.births ≡ self.old.notes.births ++ self.old.turned ∷ []) }
+        ensures unchanged { OnErr result (IsUnchanged self.old self.new) }
+        ensures reader { self.new.reader ≡ self.old.reader }
+        ensures turned { self.new.turned ≡ self.old.turned }
+        ensures short { length self.old.urbs.outbox ≤ OUTBOX_MAX → length self.new.urbs.outbox ≤ OUTBOX_MAX }
     {
         if let Some(fault) = self.refusal(session, kind, message, limit) {
             return Err(fault);
@@ -98,6 +104,7 @@ impl HubCore {
         requires sum { self.old.limits + limit ≤ LIMITS_MAX }
         ensures goes { OnOk result ((s : Setting) (past : Past) (sent : List ℕ) → Lawful s past → Knows s past sent self.old
             → Knows s (asked past (record { session = session; kind = kind; limit = limit; message = message.now })) sent self.new) }
+        ensures born { OnOk result (self.new.notes.births ≡ self.old.notes.births ++ self.old.turned ∷ []) }
         ensures number { IfOk result (λ ticket. ticket ≡ length self.old.book.tickets + 1) }
         ensures cause { IfErr result (λ why. why ≡ fault.Memory) }
         ensures unchanged { OnErr result (self.new ≡ record self.old { notes = record self.old.notes { room = self.new.notes.room; places = self.new.notes.places } }) }

@@ -8,6 +8,7 @@ ghost use Rattle.host_hub.specs.BookRoom.{is_open};
 ghost use Rattle.host_hub.specs.Causes.{named};
 ghost use Rattle.host_hub.specs.Steps.{settle_all};
 ghost use Rattle.host_hub.specs.declared.outcome.End.{End};
+ghost use Rattle.host_hub.specs.Leaves.{Leaves};
 ghost use Rattle.host_hub.specs.Knows.{HasBook, Knows};
 ghost use Rattle.host_hub.specs.Stands.{IsAtRest, IsGivenUp, Rests};
 
@@ -64,6 +65,8 @@ impl HubCore {
         requires { IsAtRest self.old }
         ensures given { self.old.end ≡ None → (s : Setting) (past : Past) (sent : List ℕ) → Rests s past sent self.old → IsGivenUp s past sent self.new }
         ensures again { (e : End) → self.old.end ≡ Some e → self.new ≡ self.old }
+        ensures ended { self.old.end ≡ None → self.new.end ≡ Some End.GivenUp }
+        ensures leaves { Leaves self.old self.new }
     {
         if let Some(_) = self.end {
             return;

@@ -212,6 +212,7 @@ impl HubCore {
         ensures follows { (s : Setting) (past : Past) (sent bytes : List ℕ) → Hears s past sent self.old head bytes
             → Follows s.first (urbs.Took (down.RetSubmit head bytes) ∷ crossings s past) sent self.new.urbs }
         ensures device { self.new.urbs.devid ≡ self.old.urbs.devid }
+        ensures outbox { self.new.urbs.outbox ≡ self.old.urbs.outbox }
         ensures queue { OneOut self.new.urbs }
         ensures book { (seen : Seen) → ticket_of self.old.active self.old.book.tickets ≡ Some seen
             → self.new.book ≡ with_seen self.old.active (record seen { bytes = seen.bytes ++ slice_range (data_of self.old.reader) from to }) self.old.book }
@@ -232,6 +233,7 @@ impl HubCore {
             → Follows s.first (urbs.Took (down.RetSubmit head bytes) ∷ crossings s past) sent self.new.urbs }
         ensures device { self.new.urbs.devid ≡ self.old.urbs.devid }
         ensures queue { OneOut self.new.urbs }
+        ensures outbox { self.new.urbs.outbox ≡ self.old.urbs.outbox }
         ensures rest { self.new ≡ record self.old { urbs = self.new.urbs; taken = self.old.taken + 1 } }
     {
         // No more is taken than was written, so the count fits where the next number does.

@@ -11,6 +11,7 @@ mod ending;
 mod facts;
 mod feeding;
 mod hearing;
+mod hub;
 mod hub_core;
 mod kind;
 mod laws;
@@ -18,15 +19,19 @@ mod limits;
 mod notes;
 mod outcome;
 mod ownership;
+mod recorded;
 mod refusals;
 pub mod refused;
 mod sentences;
 mod service;
 mod steps;
 mod stops;
+#[cfg(test)]
+mod tests;
 mod ticket;
 mod ties;
 mod transfers;
+mod turning;
 mod view;
 pub mod worked;
 mod writing;
@@ -37,6 +42,7 @@ pub use facts::{
     books_are_kept, each_outcome_has_its_cause, recoveries_are_made, something_is_waited_for,
     traffic_is_planned, unlinks_are_due,
 };
+pub use hub::Hub;
 pub use kind::Kind;
 pub use laws::{
     a_settled_outcome_stays, answers_may_come, messages_are_crossings, messages_are_lawful,

@@ -4,7 +4,7 @@ ghost use Rattle.std.specs.Prelude.{◌≡◌, ◌≤◌, ◌<◌, ◌+◌, ◌-
 ghost use Rattle.tmc_base.specs.declared.limits.TheConstants.{BULK_IN_SUBMIT};
 ghost use Rattle.usbip_wire.specs.declared.urb.Dir.TheVariants.{In};
 ghost use Rattle.usbip_wire.specs.declared.urb.TheConstants.{ENDPOINT_MAX};
-ghost use Rattle.host_urbs.specs.declared.limits.TheConstants.{LAST_SUBMIT};
+ghost use Rattle.host_urbs.specs.declared.limits.TheConstants.{LAST_SUBMIT, OUTBOX_MAX};
 ghost use Rattle.host_urbs.specs.Held.{HasPlace, Follows, submit_by, submit_out, wrote};
 ghost use Rattle.host_urbs.specs.Record as urbs_record;
 ghost use Rattle.host_transfers.specs.declared.limits.TheConstants.{PART_MAX, REQUEST_MAX};
@@ -53,6 +53,7 @@ fn put_part(urbs: &mut Urbs, tags: &mut Tags, ep: u32, message: &[u8], count: us
     ensures written { urbs.new ≡ wrote (submit_out urbs.old ep (text_of (part_of (tag_behind tags.old) count message.now))) urbs.old }
     ensures recorded { (first : ℕ) (past : urbs_record.Past) (sent : List ℕ) → Follows first past sent urbs.old
         → Follows first (urbs_record.Wrote (submit_out urbs.old ep (text_of (part_of (tag_behind tags.old) count message.now))) ∷ past) sent urbs.new }
+    ensures short { length urbs.new.outbox ≤ OUTBOX_MAX }
     ensures tag { tags.new ≡ tag_behind tags.old }
     ensures number { result.number ≡ urbs.old.next }
     ensures asked { result.asked ≡ length (text_of (part_of (tag_behind tags.old) count message.now)) }
@@ -126,6 +127,7 @@ impl HubCore {
             → Ends (part_of (tag_behind self.old.tags) self.old.parts seen.message) self.old.active self.old.urbs.next self.old.book self.new.book }
         ensures asked { (seen : Seen) → ticket_of self.old.active self.old.book.tickets ≡ Some seen
             → self.new.asked ≡ size_of self.old.ends (part_of (tag_behind self.old.tags) self.old.parts seen.message) }
+        ensures short { length self.new.urbs.outbox ≤ OUTBOX_MAX }
         ensures rest { self.new ≡ record self.old {
           urbs = self.new.urbs;
           tags = tag_behind self.old.tags;
@@ -176,6 +178,7 @@ impl HubCore {
         ensures assembly { (seen : Seen) → ticket_of self.old.active self.old.book.tickets ≡ Some seen
             → self.new.assembly ≡ record { tag = tag_behind self.old.tags; size = min (seen.limit - length seen.bytes) REQUEST_MAX; head = []; count = 0; over = false } }
         ensures asked { self.new.asked ≡ header_size }
+        ensures short { length self.new.urbs.outbox ≤ OUTBOX_MAX }
         ensures rest { self.new ≡ record self.old {
           urbs = self.new.urbs;
           tags = tag_behind self.old.tags;
@@ -214,6 +217,7 @@ impl HubCore {
     fn write_read(&mut self)
         requires { (asking : Asking) × CanWrite self.old asking }
         ensures urbs { (s : Setting) → self.old.urbs.devid ≡ s.devid → self.old.ends ≡ s.ends → Puts s Read self.old.urbs self.new.urbs }
+        ensures short { length self.new.urbs.outbox ≤ OUTBOX_MAX }
         ensures rest { self.new ≡ record self.old { urbs = self.new.urbs; phase = phase.Response; asked = BULK_IN_SUBMIT } }
     {
         let ep = number_of(self.ends.bulk_in);

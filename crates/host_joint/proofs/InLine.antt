@@ -1,5 +1,5 @@
 -- example lists of submits, as a host keeps them
-use Rattle.std.proofs.Common.{◌≡◌, ◌≢◌, ℕ, List, [], ◌∷◌, ◌++◌, refl}
+use Rattle.std.proofs.Common.{inl, ◌≡◌, ◌≢◌, ℕ, List, [], ◌∷◌, ◌++◌, refl}
 use Rattle.usbip_wire.specs.declared.submit.SubmitHead.{SubmitHead}
 use Rattle.instr_plain.specs.declared.log.LogEntry.{LogEntry}
 use Rattle.instr_plain.specs.declared.log.LogEntry.TheVariants as entry
@@ -7,9 +7,9 @@ use Rattle.usbip_wire.specs.Up as up
 use Rattle.tmc_law.specs.Endpoint.{Endpoint, Control, BulkOut, BulkIn, InterruptIn}
 use Rattle.tmc_law.specs.State.{start}
 use Rattle.tmc_law.specs.WorkedQuery.{query_submit, request_submit, response_submit, query_log}
-use Rattle.tmc_law.specs.WorkedSession.{out_submit}
+use Rattle.tmc_law.specs.WorkedSession.{out_submit, in_submit, unlink}
 use Rattle.host_joint.specs.Lines.{Line, Lines, NoneNumbered}
-use Rattle.host_joint.specs.Unlinking.{AllHeads, Rising, AreApart}
+use Rattle.host_joint.specs.Unlinking.{AllHeads, Rising, AreApart, IsNamed, IsBulk, Unlinking}
 use Rattle.host_joint.specs.WorkedTies.{told_to, last_request}
 use Rattle.host_joint.specs.Stage.{NoExec}
 use Rattle.host_joint.specs.WorkedAsks.{query_asked}
@@ -138,3 +138,44 @@ executed n message (entry.Trigger k ∷ a) b h = executed n message a b h
 executed n message (entry.Poll k ∷ a) b h = executed n message a b h
 executed n message (entry.Clear ∷ a) b h = executed n message a b h
 executed n message (entry.Remote k ∷ a) b h = executed n message a b h
+
+-- the read of the second piece, and its unlink
+
+pub read_line : (e : Endpoint) → Line e (one_asked e) (up.Submit (in_submit 6 4096) [] ∷ []) [] requested_second
+read_line Control = refl
+read_line BulkOut = refl
+read_line BulkIn = refl
+read_line InterruptIn = refl
+
+pub unlink_line : (e : Endpoint) → Line e (one_asked e) (up.Submit (in_submit 6 4096) [] ∷ up.Unlink (unlink 7 6) ∷ []) [] requested_second
+unlink_line Control = refl
+unlink_line BulkOut = refl
+unlink_line BulkIn = refl
+unlink_line InterruptIn = refl
+
+read_rises : (e : Endpoint) → Rising (one_asked e)
+read_rises Control = tt
+read_rises BulkOut = tt
+read_rises BulkIn = (tt, tt)
+read_rises InterruptIn = tt
+
+read_named : (e : Endpoint) → IsBulk e → AllHeads (λ head. IsNamed (unlink 7 6 ∷ []) head.seqnum) (one_asked e)
+read_named Control bulk = tt
+read_named BulkOut bulk = tt
+read_named BulkIn bulk = (inl refl, tt)
+read_named InterruptIn bulk = tt
+
+pub read_unlinking : Unlinking one_asked (unlink 7 6 ∷ [])
+read_unlinking = record { rising = read_rises; falling = (tt, tt); named = read_named }
+
+read_apart : (d e : Endpoint) → d ≢ e → AllHeads (λ head. NoneNumbered head.seqnum (one_asked e)) (one_asked d)
+read_apart Control e differ = tt
+read_apart BulkOut e differ = tt
+read_apart InterruptIn e differ = tt
+read_apart BulkIn Control differ = (tt, tt)
+read_apart BulkIn BulkOut differ = (tt, tt)
+read_apart BulkIn BulkIn differ = absurd (differ refl)
+read_apart BulkIn InterruptIn differ = (tt, tt)
+
+pub read_is_apart : AreApart one_asked
+read_is_apart = record { rising = read_rises; apart = read_apart }

@@ -54,3 +54,4 @@ mod InLine
 mod Operating
 mod Triggering
 mod TriggerTied
+mod Shutting

@@ -70,7 +70,7 @@ pub says_other : (letter : Letter) (layout : List ℕ) (next : ℕ) (s : State) 
 says_other letter layout next s never (SaidOne is bound) = absurd (never is)
 says_other letter layout next s never (SaidOther is bound) = bound
 
-abort_is : (seqnum : ℕ) → IsClass (abort_submit seqnum) (AbortIn 4)
+pub abort_is : (seqnum : ℕ) → IsClass (abort_submit seqnum) (AbortIn 4)
 abort_is seqnum = record { number = refl; way = refl; setup = row ends (AbortIn 4); asks = abort_asks seqnum; row = record { fits = lit< tt; is = refl }; room = lit≤ tt }
 
 check_is : (seqnum : ℕ) → IsClass (check_submit seqnum) CheckIn

@@ -18,7 +18,7 @@ use Rattle.tmc_law.specs.Control.{Asks, control_answer}
 use Rattle.tmc_law.specs.Aborts.{Served, NoTransfer, NotBegun, DoesAbort, checked_in, DoesClear, checked_clear}
 use Rattle.tmc_law.specs.Standard.{Standard, ClearHalt, IsStandard, standard_layout, standard_effect}
 use Rattle.tmc_law.specs.Class.{Serves, ByClass, ByStandard}
-use Rattle.tmc_law.specs.Step.{Steps, Comes, Answer}
+use Rattle.tmc_law.specs.Step.{Steps, Comes, Answer, Fill}
 use Rattle.tmc_law.specs.Run.{Entry, Runs}
 use Rattle.tmc_law.specs.WorkedSession.{in_submit, unlink, step, answered}
 use Rattle.host_joint.specs.WorkedPieces.{requested_second}
@@ -188,24 +188,30 @@ cancels_second = (
   ),
 )
 
-pub aborts_second : Runs cancelled_inside aborting_second wants_packet
-aborts_second = (
-  with_control (abort_submit 8) cancelled_inside,
-  comes cancelled_inside (abort_submit 8) [] Control (record { plugged = refl; wide = refl; eight = refl; setup = refl; carried = refl; bytes = refl; free = refl; few = refl }) (record { number = refl; way = refl; usable = refl }),
-  (
-    wants_packet,
+pub abort_comes : Steps cancelled_inside (Comes (up.Submit (abort_submit 8) [])) [] (with_control (abort_submit 8) cancelled_inside)
+abort_comes =
+    comes cancelled_inside (abort_submit 8) [] Control (record { plugged = refl; wide = refl; eight = refl; setup = refl; carried = refl; bytes = refl; free = refl; few = refl }) (record { number = refl; way = refl; usable = refl })
+
+pub abort_answers : Steps (with_control (abort_submit 8) cancelled_inside) Answer (answered (abort_submit 8) success 2 (0x01 ∷ 0x04 ∷ []) ∷ []) wants_packet
+abort_answers =
     class_answers (with_control (abort_submit 8) cancelled_inside) (abort_submit 8) (AbortIn 4) (record { layout = 0x01 ∷ 0x04 ∷ []; behind = []; state = wants_packet }) refl refl (abort_asks 8) (lit< tt)
-        (DoesAbort refl refl refl),
-    refl,
-  ),
-)
+    (DoesAbort refl refl refl)
+
+pub aborts_second : Runs cancelled_inside aborting_second wants_packet
+aborts_second = (with_control (abort_submit 8) cancelled_inside, abort_comes, (wants_packet, abort_answers, refl))
+
+abbrev pub drain_came : State
+drain_came = record wants_packet { bulk_in = arrived (in_submit 9 4096) [] ∷ [] }
+
+pub drain_comes : Steps wants_packet (Comes (up.Submit (in_submit 9 4096) [])) [] drain_came
+drain_comes =
+    comes wants_packet (in_submit 9 4096) [] BulkIn (record { plugged = refl; wide = refl; eight = refl; setup = refl; carried = refl; bytes = refl; free = refl; few = refl }) (record { number = refl; way = refl; usable = refl })
+
+pub drain_fills : Steps drain_came (Fill 1) (answered (in_submit 9 4096) success 0 [] ∷ []) gave_packet
+drain_fills = record { plugged = refl; leads = Ends (arrived (in_submit 9 4096) []) [] 0 refl refl refl refl refl }
 
 pub drains : Runs wants_packet draining gave_packet
-drains = (
-  record wants_packet { bulk_in = arrived (in_submit 9 4096) [] ∷ [] },
-  comes wants_packet (in_submit 9 4096) [] BulkIn (record { plugged = refl; wide = refl; eight = refl; setup = refl; carried = refl; bytes = refl; free = refl; few = refl }) (record { number = refl; way = refl; usable = refl }),
-  (gave_packet, record { plugged = refl; leads = Ends (arrived (in_submit 9 4096) []) [] 0 refl refl refl refl refl }, refl),
-)
+drains = (drain_came, drain_comes, (gave_packet, drain_fills, refl))
 
 pub checks_second : Runs gave_packet checking_second usable_again
 checks_second = (

@@ -36,3 +36,4 @@ pub mod WorkedPieces
 pub mod WorkedRecoveries
 pub mod WorkedUnplugging
 pub mod WorkedTriggers
+pub mod WorkedRemotes

@@ -9,8 +9,8 @@ use Rattle.tmc_law.specs.Laws.{message_of}
 use Rattle.host_joint.specs.Bond.{Bound, Stands, Resting}
 use Rattle.host_joint.specs.Joint.{Joined}
 
--- The next message, from these bytes, is the first answer that is on its way. What ties the two says of it what it says of each answer; and where the
--- host stands at rest behind it, it is joined so.
+-- The next message, from these bytes, is the first answer that is on its way, and the two are tied with it. Where the host stands at rest behind
+-- it, it is joined to the device as one that does.
 pub record IsNextIn (Ties : List up.Message → List Put → State → Type 0) (devid : ℕ) (message : down.Message) (next : ℕ) (written read this : List ℕ) (steps : List RunStep) (s : State) : Type 0 where
   pub put : Put
   pub ups : List up.Message

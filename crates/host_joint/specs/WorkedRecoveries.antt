@@ -5,7 +5,7 @@ use Rattle.usbip_wire.specs.Up as up
 use Rattle.instr_plain.specs.declared.log.LogEntry.{LogEntry}
 use Rattle.instr_plain.specs.declared.log.LogEntry.TheVariants as entry
 use Rattle.tmc_law.specs.Endpoint.{BulkIn}
-use Rattle.tmc_law.specs.State.{State, Sending, start}
+use Rattle.tmc_law.specs.State.{State, Sending, start, AbortsIn}
 use Rattle.tmc_law.specs.Put.{Unlinked, success, stalled, unlinked}
 use Rattle.tmc_law.specs.Step.{Comes, Answer, Begin, Fill, Halt}
 use Rattle.tmc_law.specs.Run.{Entry}
@@ -94,6 +94,12 @@ cancelled_inside = record usable_again { side = Sending (record { tag = 4; size 
 -- the transfer is aborted, its packet is read, and the check says that it is over
 abbrev pub aborting_second : List Entry
 aborting_second = submits (abort_submit 8) [] ∷ step Answer (answered (abort_submit 8) success 2 (0x01 ∷ 0x04 ∷ []) ∷ []) ∷ []
+
+abbrev pub wanting : State
+wanting = record usable_again { side = Sending (record { tag = 4; size = 9; left = [] }); running = AbortsIn true 0 }
+
+abbrev pub drained : State
+drained = record usable_again { running = AbortsIn false 0 }
 
 abbrev pub draining : List Entry
 draining = submits (in_submit 9 4096) [] ∷ step (Fill 1) (answered (in_submit 9 4096) success 0 [] ∷ []) ∷ []

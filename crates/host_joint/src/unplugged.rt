@@ -23,7 +23,7 @@ ghost use Rattle.host_joint.specs.Hand as hand;
 ghost use Rattle.host_joint.specs.Hand.{Hand, Writes};
 ghost use Rattle.host_joint.specs.Tie.{Tie, Owns, IsOwned};
 ghost use Rattle.host_joint.specs.Bond.{Situation, Reading, Read, Stands, Resting, BehindClear, Bound};
-ghost use Rattle.host_joint.specs.Joint.{entries_for, entries_of, IsApart};
+ghost use Rattle.host_joint.specs.Joint.{Joint, Joined, entries_for, entries_of, IsApart};
 ghost use Rattle.host_joint.specs.Unplugged.{TiedUntil, BoundUntil, HaltsNothing, NextUntil, GivenUntil, JointUntil, JoinedUntil, TellsUnhalted, IsNextUntil, IsGivenUntil};
 
 use crate::{
@@ -100,9 +100,13 @@ pub fn unplugged_hosts_own()
     cancelled_asks_own();
 }
 
-/// The same over a link that tells its bytes and the steps of its peer: the two stay joined, whatever the device does, and none of the
+/// The same over a link that tells its bytes and the steps of its peer: two that are joined are so until the device is unplugged, whatever it does, and none of the
 /// bytes is refused.
 pub fn joints_stay_until_unplugged()
+    ensures begins { (devid : ℕ) (hand : Hand) (waits : Option SubmitHead) (next : ℕ) (written read : List ℕ) (steps : List RunStep) (s : State)
+        → Joint devid hand waits next written read steps s → JointUntil devid hand waits next written read steps s }
+    ensures begins_joined { (devid : ℕ) (situation : Situation) (waits : Option SubmitHead) (unlinks : List UnlinkHead) (next : ℕ) (written read : List ℕ) (steps : List RunStep) (s : State)
+        → Joined devid situation waits unlinks next written read steps s → JoinedUntil devid situation waits unlinks next written read steps s }
     ensures joint { (devid : ℕ) (hand : Hand) (waits : Option SubmitHead) (next : ℕ) (written read : List ℕ) (steps more : List RunStep) (s t : State)
         → TellsUnhalted devid s more t → IsFront (in_bytes (steps ++ more)) written
         → JointUntil devid hand waits next written read steps s → JointUntil devid hand waits next written read (steps ++ more) t }
@@ -118,7 +122,7 @@ pub fn joints_stay_until_unplugged()
     urbs_are_determined();
 }
 
-/// They stay joined where the host writes, and where what ties them changes with no message.
+/// They stay joined where the host writes, where what ties them changes with no message, and at the end of a recovery.
 pub fn writes_keep_joints_until_unplugged()
     ensures tie { (devid : ℕ) (before after : Hand) (head : SubmitHead) (bytes text : List ℕ) (next : ℕ) (written read : List ℕ) (steps : List RunStep) (s : State)
         → Writes before head bytes after → head.seqnum ≡ next → up.Spells devid (up.Submit head bytes) text
@@ -134,6 +138,10 @@ pub fn writes_keep_joints_until_unplugged()
     ensures goes_on { (devid : ℕ) (before : Situation) (waits : Option SubmitHead) (unlinks : List UnlinkHead) (next : ℕ) (after : Situation) (left : Option SubmitHead) (others : List UnlinkHead) (written read : List ℕ) (steps : List RunStep) (s : State)
         → ((ups : List up.Message) (downs : List Put) (s : State) → Bound before waits unlinks next ups downs s → Bound after left others next ups downs s)
         → JoinedUntil devid before waits unlinks next written read steps s → JoinedUntil devid after left others next written read steps s }
+    ensures ends { (devid next : ℕ) (written read : List ℕ) (steps : List RunStep) (s : State) → s.halted.bulk_out ≡ false → s.halted.bulk_in ≡ false
+        → JoinedUntil devid (Stands Resting) None [] next written read steps s → JointUntil devid hand.Free None next written read steps s }
+    ensures ends_cleared { (devid next : ℕ) (written read : List ℕ) (steps : List RunStep) (s : State) → s.halted.bulk_out ≡ false → s.halted.bulk_in ≡ false
+        → JoinedUntil devid (Stands BehindClear) None [] next written read steps s → JointUntil devid hand.Free None next written read steps s }
 {
     hosts_go_on_until_unplugged();
 }

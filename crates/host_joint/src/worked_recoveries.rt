@@ -1,12 +1,12 @@
 //! In the middle of an example ask Bulk-IN halts, or its host cancels. Each function does nothing.
 
-ghost use Rattle.std.specs.Prelude.{◌≡◌, List, ℕ, [], ◌∷◌, ◌++◌, Option, Some, None, codes};
+ghost use Rattle.std.specs.Prelude.{◌≡◌, length, true, List, ℕ, [], ◌∷◌, ◌++◌, Option, Some, None, codes};
 ghost use Rattle.usbip_wire.specs.declared.submit.SubmitHead.{SubmitHead};
 ghost use Rattle.usbip_wire.specs.declared.unlink.UnlinkHead.{UnlinkHead};
 ghost use Rattle.usbip_wire.specs.Up as up;
 ghost use Rattle.tmc_law.specs.State.{State};
 ghost use Rattle.tmc_law.specs.Put.{Put, Unlinked, success, stalled, unlinked};
-ghost use Rattle.tmc_law.specs.Run.{Runs};
+ghost use Rattle.tmc_law.specs.Run.{Runs, outputs};
 ghost use Rattle.tmc_law.specs.WorkedQuery.{identity};
 ghost use Rattle.tmc_law.specs.WorkedParts.{spaced};
 ghost use Rattle.tmc_law.specs.WorkedSession.{in_submit, unlink, answered};
@@ -15,18 +15,26 @@ ghost use Rattle.host_joint.specs.Hand.{Free, Reads};
 ghost use Rattle.host_joint.specs.Tie.{Tie, Owns};
 ghost use Rattle.host_joint.specs.Bond.{Situation, Read, Stands, Resting, ToAbortIn, WantsPacket, Bound};
 ghost use Rattle.host_joint.specs.Hits.{BoundTelling};
-ghost use Rattle.host_joint.specs.WorkedTies.{queried};
-ghost use Rattle.host_joint.specs.WorkedPieces.{first_data, requested_second, next_job, asked_with};
-ghost use Rattle.host_joint.specs.Asking.{Asking};
+ghost use Rattle.host_joint.specs.WorkedTies.{queried, told_to};
+ghost use Rattle.host_joint.specs.WorkedPieces.{first_data, requested_second, giving_second, behind_second, second_piece, next_job, spaces_job, last_job, asked_with};
+ghost use Rattle.host_joint.specs.Asking.{Asking, AtRest, Cancelled};
+ghost use Rattle.host_joint.specs.Turns.{InTurn};
+ghost use Rattle.host_joint.specs.WorkedLines.{one_asked};
+ghost use Rattle.tmc_base.specs.declared.field.Field.{Field};
+ghost use Rattle.tmc_law.specs.Step.{IsOver};
 ghost use Rattle.host_joint.specs.Owned.{Owned};
-ghost use Rattle.host_joint.specs.Positions.{IsAt, in_begun};
-ghost use Rattle.host_joint.specs.WorkedRecoveries.{reading_rest, halting_second, halted_inside, aborting_none, freeing, usable_again, clearing_halted, checking_clear, freeing_out, freeing_in, cleared_log, cleared_at_last, cancelling_second, cancelled_inside, aborting_second, draining, checking_second};
+ghost use Rattle.host_joint.specs.Positions.{IsAt, in_begun, in_wants};
+ghost use Rattle.host_joint.specs.Lines.{Gives};
+ghost use Rattle.host_joint.specs.Requests.{RequestAt, in_aborts, in_fails};
+ghost use Rattle.host_joint.specs.Drains.{DrainAt};
+ghost use Rattle.host_joint.specs.WorkedRecoveries.{reading_rest, halting_second, halted_inside, aborting_none, freeing, usable_again, clearing_halted, checking_clear, freeing_out, freeing_in, cleared_log, cleared_at_last, cancelling_second, cancelled_inside, aborting_second, draining, checking_second, abort_submit, wanting, drained};
 
 use crate::{
-    answers_are_taken, asking_stays, asks_hand_over, bonds_stay, cancelled_answers_are_taken,
-    cancelled_asks_own, cancels_begin, messages_are_written, recoveries_end, recoveries_go_on,
-    unlinks_tell_hits, what_is_read_is_owned, worked_cancels_are_bound, worked_pieces_are_asked,
-    worked_pieces_are_read, writes_keep_ties,
+    answers_are_taken, answers_come_in_turn, asking_stays, asks_are_settled_late, asks_hand_over,
+    bonds_stay, cancelled_answers_are_taken, cancelled_asks_own, cancelled_asks_stay,
+    cancels_begin, devices_rest, drains_stay, messages_are_written, no_submit_is_refused,
+    recoveries_end, recoveries_go_on, requests_stay, unlinks_tell_hits, what_is_read_is_owned,
+    worked_cancels_are_bound, worked_pieces_are_asked, worked_pieces_are_read, writes_keep_ties,
 };
 use tmc_law::runs_join;
 
@@ -105,4 +113,46 @@ pub fn worked_halts_are_asked()
     answers_are_taken();
     what_is_read_is_owned();
     asks_hand_over();
+}
+
+/// The same cancel in the terms of an ask: it is cancelled until the answer to its unlink was taken, and leaves a Bulk-IN transfer to abort. Where it is
+/// not cancelled, its answers come in turn, its read is not refused, and where that has the second piece its request was answered before.
+pub fn worked_cancels_are_asked()
+    ensures cancelled { Cancelled one_asked (unlink 7 6 ∷ []) (record (asked_with 4 (next_job ∷ []) 1 first_data) { gone = true }) []
+        (Unlinked (unlink 7 6) (record { seqnum = 7; status = unlinked }) ∷ []) cancelled_inside }
+    ensures left { IsAt (in_begun 4) cancelled_inside }
+    ensures turns { InTurn (outputs giving_second) }
+    ensures taken { (asked_with 4 (next_job ∷ []) 1 first_data).answered ≡ length (next_job ∷ []) }
+    ensures accepted { (f : Field) → IsOver requested_second (in_submit 6 4096) f → ⊥ }
+    ensures early { Asking (asked_with 4 (next_job ∷ []) 0 first_data) [] (answered (in_submit 6 4096) success 24 second_piece ∷ []) behind_second → ⊥ }
+{
+    worked_pieces_are_read();
+    worked_pieces_are_asked();
+    messages_are_written();
+    asking_stays();
+    cancelled_asks_stay();
+    answers_are_taken();
+    answers_come_in_turn();
+    asks_hand_over();
+    no_submit_is_refused();
+}
+
+/// The requests of that recovery one by one: the abort is on its way, pending and answered; so is the read of its packet; at the end an ask
+/// under a new number finds the device at rest. An ask whose request is not written yet may settle its tag late, and its number while its
+/// message goes on. A device that rests is none that wants the packet of an abort.
+pub fn worked_requests_stay()
+    ensures abort { RequestAt (abort_submit 8) (in_begun 4) (in_aborts 4) in_fails []
+        (Gives (abort_submit 8) (record { seqnum = 8; status = success; actual = 2 }) (0x01 ∷ 0x04 ∷ []) ∷ []) wanting }
+    ensures drain { DrainAt (in_submit 9 4096) [] (Gives (in_submit 9 4096) (record { seqnum = 9; status = success; actual = 0 }) [] ∷ []) drained }
+    ensures rest { AtRest 11 usable_again }
+    ensures tag { Asking (asked_with 9 (spaces_job ∷ last_job ∷ []) 2 []) [] [] told_to }
+    ensures resting { IsAt in_wants usable_again → ⊥ }
+{
+    runs_join();
+    worked_pieces_are_read();
+    worked_pieces_are_asked();
+    requests_stay();
+    drains_stay();
+    devices_rest();
+    asks_are_settled_late();
 }

@@ -3,11 +3,13 @@ use Rattle.std.proofs.Common.{◌≡◌, ◌≢◌, ◌∙◌, ◌⊎◌, inl, i
 use Rattle.std.proofs.lemmas.List.{length-append, take-append-le, take_all}
 use Rattle.tmc_base.specs.declared.field.Field.{Field}
 use Rattle.tmc_base.specs.declared.memory.Memory.{Memory}
+use Rattle.tmc_law.specs.declared.dev_event.DevEvent.{DevEvent}
 use Rattle.tmc_device.specs.Seen.{is_closed}
 use Rattle.usbip_export.specs.declared.fed.Fed.{Fed}
 use Rattle.usbip_export.specs.declared.fed.Fed.TheVariants as fed
 use Rattle.usbip_export.specs.Seen.{Seen, standing, closed_by, IsCaughtUp}
 use Rattle.usbip_export.specs.Serving.{Works}
+use Rattle.usbip_export.specs.Events.{Drives}
 use Rattle.tmc_world.specs.Crossing.{Crossing, IsOpen, IsShut, IsSound, HasFed, Hears}
 use Rattle.tmc_world.proofs.Joining.{works_imported, works_on, stays_shut, was_open}
 
@@ -97,4 +99,14 @@ has_fed bytes old new false sound is sent fed = record {
       ∙ (take_all (length new.sent) new.sent (omega arith)
       ∙ (sent ∙ ap (λ (l : List ℕ). l ++ bytes) (sym (ap (λ (n : ℕ). take n old.sent) (sound.opened opened) ∙ take_all (length old.sent) old.sent (omega arith)))));
   shut = λ shut. absurd (open_shut old.node (sym is) shut);
+}
+
+-- the instrument made a step
+pub sound_driven : (event : DevEvent) (old new : Crossing) → IsSound old → Drives event old.node new.node → new.sent ≡ old.sent → new.fed ≡ old.fed
+    → (new.late ≡ false → new.node.puts ≡ []) → IsSound new
+sound_driven event old new sound drives sent fed spelled = record {
+  imported = drives.imported ∙ sound.imported;
+  within = let within = sound.within in omega (arith, within, fed, ap (λ (l : List ℕ). length l) sent);
+  opened = λ _. fed ∙ (sound.opened (ap is_closed drives.steps.plugged) ∙ ap (λ (l : List ℕ). length l) (sym sent));
+  spelled = spelled;
 }

@@ -3,3 +3,4 @@ pub mod Feeding
 pub mod Following
 pub mod Moving
 pub mod Showing
+pub mod Bounded

@@ -14,13 +14,14 @@ use Rattle.tmc_law.specs.Run.{Entry, Runs, IsFront}
 use Rattle.usbip_export.specs.Seen.{standing}
 use Rattle.tmc_world.specs.declared.pace.Pace.{Pace}
 use Rattle.tmc_world.specs.declared.pace.Pace.TheVariants.{Calm, Paced}
+use Rattle.tmc_law.specs.declared.dev_event.DevEvent.{DevEvent}
 use Rattle.tmc_world.specs.declared.loop_act.LoopAct.{LoopAct}
 use Rattle.tmc_world.specs.declared.loop_act.LoopAct.TheVariants as act
 use Rattle.tmc_world.specs.Crossing.{Crossing}
 use Rattle.tmc_world.specs.Telling.{IsTelling}
 use Rattle.tmc_world.specs.Pacing.{send_room}
 use Rattle.tmc_world.proofs.Moving.{shown}
-use Rattle.tmc_world.specs.LoopLink.{Looped, IsTold, Sends, Polls, Tends, HasMoved, Readies, MayHaveMoved}
+use Rattle.tmc_world.specs.LoopLink.{Looped, IsTold, Sends, Polls, Tends, HasMoved, Readies, MayHaveMoved, CatchesUp, ActEnds, ActGoes}
 
 pub telling_told : (pace : Pace) (send_fails poll_fails : Bool) (counts : Counts) (run : List RunStep) (now : Crossing) → IsTelling run now
     → IsTold (shown pace send_fails poll_fails counts run now)
@@ -177,11 +178,35 @@ polls_told old new size poll.Memory buf polls told = none_came old new (wants_re
 none_went : (old new : Looped) → IsReady old new → IsTold new → WentOut [] (Peer old.sent old.taken old.run) (Peer new.sent new.taken new.run)
 none_went old new is told = went old new [] (is.sent ∙ sym (append-nil old.sent)) is.taken is.tells told.fits
 
-tends_ready : (old new : Looped) (what : LoopAct) (step : TendStep) → Tends old what step new → IsReady old new
-tends_ready old new (act.Dev event) tend.Did acts =
+ready_then : (old ready new : Looped) → IsReady old ready → IsReady ready new → IsReady old new
+ready_then old ready new first second = record {
+  sent = second.sent ∙ first.sent;
+  taken = second.taken ∙ first.taken;
+  tells = (
+    first.tells.0 ++ second.tells.0,
+    second.tells.1 ∙ (ap (λ (r : List RunStep). r ++ second.tells.0) first.tells.1 ∙ append_assoc old.run first.tells.0 second.tells.0),
+  );
+}
+
+catches_ready : (late : Bool) (old ready : Looped) → CatchesUp late old ready → IsReady old ready
+catches_ready true old ready catches = moved_ready old ready catches.0
+catches_ready false old ready is = same_ready old ready is
+
+ends_ready : (event : DevEvent) (ready : Looped) (step : TendStep) (new : Looped) → ActEnds event ready step new → IsReady ready new
+ends_ready event ready tend.Did new acts =
     record { sent = ap (λ (l : Looped). l.sent) acts.is; taken = ap (λ (l : Looped). l.taken) acts.is; tells = acts.tells }
-tends_ready old new (act.Dev event) tend.NotNow none = same_ready old new none.is
-tends_ready old new (act.Dev event) tend.Memory wants = same_ready old new wants.is
+ends_ready event ready tend.NotNow new none = same_ready ready new none.is
+ends_ready event ready tend.Memory new wants = same_ready ready new wants.is
+
+act_ready : (event : DevEvent) (old : Looped) (step : TendStep) (new : Looped) → ActGoes event old step new → IsReady old new
+act_ready event old step new goes =
+    ready_then old goes.ready new (catches_ready old.late old goes.ready goes.catches) (ends_ready event goes.ready step new goes.ends)
+
+tends_ready : (old new : Looped) (what : LoopAct) (step : TendStep) → Tends old what step new → IsReady old new
+tends_ready old new (act.Dev event) tend.Did goes = act_ready event old tend.Did new goes
+tends_ready old new (act.Dev event) tend.NotNow goes = act_ready event old tend.NotNow new goes
+tends_ready old new (act.Dev event) tend.Memory (inl goes) = act_ready event old tend.Memory new goes
+tends_ready old new (act.Dev event) tend.Memory (inr late) = moved_ready old new late.moved
 tends_ready old new (act.RoomSend room) tend.Did is =
     record { sent = ap (λ (l : Looped). l.sent) is; taken = ap (λ (l : Looped). l.taken) is; tells = none_more old new (ap (λ (l : Looped). l.run) is) }
 tends_ready old new (act.RoomPoll room) tend.Did is =

@@ -3,3 +3,4 @@ pub mod Pacing
 pub mod Crossing
 pub mod Telling
 pub mod LoopLink
+pub mod Resting

@@ -200,12 +200,9 @@ Polls old size poll.Memory bytes new = PollWants old new
 
 -- ---- an act
 
--- the instrument makes the one lawful step that the event allows, with the greatest count; what waits in the node is taken in
--- and spelled then
+-- the instrument makes the one lawful step that the event allows, with the greatest count
 pub record Acts (event : DevEvent) (old new : Looped) : Type 0 where
-  pub acted : Seen
-  pub drives : Drives event old.node acted
-  pub settles : Works [] [] acted new.node
+  pub drives : Drives event old.node new.node
   pub tells : IsFront old.run new.run
   pub is : new ≡ record old { node = new.node; run = new.run; late = new.late }
 
@@ -219,10 +216,31 @@ pub record ActWants (event : DevEvent) (old new : Looped) : Type 0 where
   pub due : IsDue event old.node
   pub is : new ≡ old
 
+-- how an act of the instrument ends, of which nothing waits for memory
+abbrev pub ActEnds : DevEvent → Looped → TendStep → Looped → Type 0
+ActEnds event ready tend.Did new = Acts event ready new
+ActEnds event ready tend.NotNow new = IsNotNow event ready new
+ActEnds event ready tend.Memory new = ActWants event ready new
+
+-- what waits for memory in the node is taken in and spelled before
+abbrev pub CatchesUp : (late : Bool) → (old ready : Looped) → Type 0
+CatchesUp true old ready = HasMoved old ready × (ready.late ≡ false)
+CatchesUp false old ready = ready ≡ old
+
+pub record ActGoes (event : DevEvent) (old : Looped) (step : TendStep) (new : Looped) : Type 0 where
+  pub ready : Looped
+  pub catches : CatchesUp old.late old ready
+  pub ends : ActEnds event ready step new
+
+-- memory is still wanting for it
+pub record StaysLate (old new : Looped) : Type 0 where
+  pub late : old.late ≡ true
+  pub moved : HasMoved old new
+
 abbrev pub Tends : Looped → LoopAct → TendStep → Looped → Type 0
-Tends old (act.Dev event) tend.Did new = Acts event old new
-Tends old (act.Dev event) tend.NotNow new = IsNotNow event old new
-Tends old (act.Dev event) tend.Memory new = ActWants event old new
+Tends old (act.Dev event) tend.Did new = ActGoes event old tend.Did new
+Tends old (act.Dev event) tend.NotNow new = ActGoes event old tend.NotNow new
+Tends old (act.Dev event) tend.Memory new = ActGoes event old tend.Memory new ⊎ StaysLate old new
 Tends old (act.RoomSend room) tend.Did new = new ≡ record old { pace = with_send_room room old.pace }
 Tends old (act.RoomPoll room) tend.Did new = new ≡ record old { pace = with_poll_room room old.pace }
 Tends old act.FailSend tend.Did new = new ≡ record old { send_fails = true }

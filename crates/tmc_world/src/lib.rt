@@ -9,10 +9,12 @@ mod line;
 mod loop_act;
 mod loop_link;
 mod pace;
+mod resting;
 mod tally;
 #[cfg(test)]
 mod tests;
 
 pub use loop_act::LoopAct;
 pub use loop_link::LoopLink;
+pub use resting::instruments_come_to_rest;
 pub use usbip_export::{DevEvent, Log, LogEntry};

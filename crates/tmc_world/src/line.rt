@@ -108,17 +108,16 @@ impl Line {
 
     /// Lets the instrument do what the event says.
     pub(crate) fn act(&mut self, event: DevEvent) -> Drove
-        ensures applied { result ≡ Drove.Applied → (acted : Seen) × Drives event self.old.node acted × Works [] [] acted self.new.node }
+        ensures applied { result ≡ Drove.Applied → Drives event self.old.node self.new.node }
         ensures is { self.new ≡ record self.old { node = self.new.node; late = self.new.late } }
         ensures sound { IsSound self.new }
         ensures none { result ≡ Drove.NotEnabled → IsDeclined event self.old.node }
         ensures enabled { result ≡ Drove.Memory → IsDue event self.old.node }
         ensures kept { result ≢ Drove.Applied → self.new ≡ self.old }
     {
-        calls_join();
         let drove = self.node.drive(event);
         if let Drove::Applied = drove {
-            self.late = !catch_up(&mut self.node);
+            self.late = self.node.wants_memory();
         }
         drove
     }

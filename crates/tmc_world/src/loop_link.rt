@@ -4,7 +4,7 @@ ghost use Rattle.usbip_export.specs.Seen.{standing};
 ghost use Rattle.tmc_world.specs.declared.pace.Pace.TheVariants as pace;
 ghost use Rattle.tmc_world.specs.declared.loop_act.LoopAct.TheVariants as act;
 ghost use Rattle.usbip_export.specs.Events.{IsCalm};
-ghost use Rattle.tmc_world.specs.LoopLink.{begun_loop, IsTold, Sends, Polls, PollEnds, Readies, MayHaveMoved, HasMoved, Tends};
+ghost use Rattle.tmc_world.specs.LoopLink.{begun_loop, IsTold, Sends, Polls, PollEnds, Readies, MayHaveMoved, HasMoved, ActEnds, Tends};
 
 use crate::LoopAct;
 use crate::history::History;
@@ -217,9 +217,23 @@ impl LoopLink {
         PollStep::Got(count)
     }
 
-    /// One step of the instrument.
+    /// One step of the instrument, behind what waits for memory in its node.
     fn act(&mut self, event: DevEvent) -> TendStep
         ensures goes { Tends self.old (act.Dev event) result self.new }
+    {
+        if !self.line.is_late() {
+            return self.step(event);
+        }
+        self.catch_up();
+        if self.line.is_late() {
+            return TendStep::Memory;
+        }
+        self.step(event)
+    }
+
+    /// One step of the instrument.
+    fn step(&mut self, event: DevEvent) -> TendStep
+        ensures ends { ActEnds event self.old result self.new }
     {
         calls_join();
         match self.line.act(event) {

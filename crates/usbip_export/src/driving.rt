@@ -1,6 +1,6 @@
 //! What the instrument of a node does by itself.
 
-ghost use Rattle.std.specs.Prelude.{◌≡◌, ◌≢◌};
+ghost use Rattle.std.specs.Prelude.{◌≡◌, ◌≢◌, [], false};
 ghost use Rattle.usbip_export.specs.Events.{Drives, IsDeclined, IsDue};
 
 use crate::body::Body;
@@ -18,6 +18,7 @@ impl Body {
         ensures applied { result ≡ Drove.Applied → Drives event (seen_of self.old) (seen_of self.new) }
         ensures none { result ≡ Drove.NotEnabled → IsDeclined event (seen_of self.old) }
         ensures enabled { result ≢ Drove.NotEnabled → IsDue event (seen_of self.old) }
+        ensures spelled { result ≡ Drove.Applied → self.new.wanting ≡ false → self.new.device.puts ≡ [] }
         ensures kept { result ≢ Drove.Applied → self.new ≡ self.old }
     {
         if !self.imported || self.refused.is_some() {
@@ -35,7 +36,8 @@ impl Body {
 
     /// Spells what was put out. Where memory is wanting the answers wait.
     fn spell(&mut self)
-        ensures { IsBodySpelled self.old self.new }
+        ensures off { IsBodySpelled self.old self.new }
+        ensures spelled { self.new.wanting ≡ false → self.new.device.puts ≡ [] }
     {
         self.wanting |= spell_all(&mut self.device, &mut self.out).is_err();
     }

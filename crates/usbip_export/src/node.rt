@@ -110,6 +110,7 @@ impl Node {
         ensures applied { result ≡ Drove.Applied → Drives event self.old self.new }
         ensures none { result ≡ Drove.NotEnabled → IsDeclined event self.old }
         ensures enabled { result ≢ Drove.NotEnabled → IsDue event self.old }
+        ensures spelled { result ≡ Drove.Applied → self.new.wanting ≡ false → self.new.puts ≡ [] }
         ensures kept { result ≢ Drove.Applied → self.new ≡ self.old }
     {
         self.body.drive(event)

@@ -1,7 +1,8 @@
+use Rattle.std.proofs.Common.{inl}
 use Rattle.host_joint.specs.Tie.{Tie}
 use Rattle.host_joint.specs.Bond.{Bound}
 use Rattle.host_joint.specs.Unplugged.{TiedUntil, BoundUntil, HaltsNothing}
-use Rattle.host_joint.proofs.Joining.{joint_goes}
+use Rattle.host_joint.proofs.Joining.{joint_goes, goes_on}
 use Rattle.host_joint.proofs.UntilJoined.{until_kept, any_kind, unhalted_kind, tells_any, tied_never, bound_never}
 use Rattle.host_joint.proofs.unplugged.joints_stay_until_unplugged.Goals as goal
 
@@ -33,3 +34,11 @@ returns-clause-joined c devid situation waits unlinks next written read steps mo
     (until_kept (λ run. Unit {0}) (λ ups downs s. Bound situation waits unlinks next ups downs s)
     (λ run ups downs s t goes kind bound. c.ties_hold_until_unplugged.ensures.bound situation run waits unlinks next ups downs s t goes bound) any_kind (bound_never c.no_submit_is_refused.ensures situation waits unlinks next)) tt devid
     written read steps more s t (tells_any devid s more t tells)
+
+pub returns-clause-begins : goal.returns-clause-begins
+returns-clause-begins c devid hand waits next written read steps s joint =
+    goes_on (λ ups downs t. Tie hand waits next ups downs t) (λ ups downs t. TiedUntil hand waits next ups downs t) devid written read steps s (λ ups downs tie. inl tie) joint
+
+pub returns-clause-begins_joined : goal.returns-clause-begins_joined
+returns-clause-begins_joined c devid situation waits unlinks next written read steps s joined =
+    goes_on (λ ups downs t. Bound situation waits unlinks next ups downs t) (λ ups downs t. BoundUntil situation waits unlinks next ups downs t) devid written read steps s (λ ups downs bound. inl bound) joined

@@ -1,5 +1,7 @@
 use Rattle.std.proofs.Common.{Some, None, ◌+◌, [], ◌∷◌, ◌++◌}
 use Rattle.usbip_wire.specs.Up as up
+use Rattle.host_joint.specs.Hand.{Free}
+use Rattle.host_joint.specs.Bond.{Stands, Resting, BehindClear}
 use Rattle.host_joint.specs.Unplugged.{TiedUntil, BoundUntil}
 use Rattle.host_joint.proofs.Joining.{writes_on, goes_on}
 use Rattle.host_joint.proofs.unplugged.writes_keep_joints_until_unplugged.Goals as goal
@@ -23,3 +25,13 @@ pub returns-clause-goes_on : goal.returns-clause-goes_on
 returns-clause-goes_on c devid before waits unlinks next after left others written read steps s goes =
     goes_on (λ ups downs t. BoundUntil before waits unlinks next ups downs t) (λ ups downs t. BoundUntil after left others next ups downs t) devid written read steps s
     (λ ups downs bound. c.hosts_go_on_until_unplugged.ensures.bound before waits unlinks next after left others next ups ups downs s (λ downs t. goes ups downs t) bound)
+
+pub returns-clause-ends : goal.returns-clause-ends
+returns-clause-ends c devid next written read steps s out ins joined =
+    goes_on (λ ups downs t. BoundUntil (Stands Resting) None [] next ups downs t) (λ ups downs t. TiedUntil Free None next ups downs t) devid written read steps s
+    (λ ups downs bound. c.hosts_go_on_until_unplugged.ensures.rest next ups downs s out ins bound) joined
+
+pub returns-clause-ends_cleared : goal.returns-clause-ends_cleared
+returns-clause-ends_cleared c devid next written read steps s out ins joined =
+    goes_on (λ ups downs t. BoundUntil (Stands BehindClear) None [] next ups downs t) (λ ups downs t. TiedUntil Free None next ups downs t) devid written read steps s
+    (λ ups downs bound. c.hosts_go_on_until_unplugged.ensures.cleared next ups downs s out ins bound) joined

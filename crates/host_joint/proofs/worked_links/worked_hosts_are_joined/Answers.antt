@@ -53,3 +53,18 @@ returns-clause-told c text bytes spelled put =
 pub returns-clause-silent : goal.returns-clause-silent
 returns-clause-silent c next byte written s joint =
     let e : byte ∷ [] ≡ [] = c.the_next_answer_is_read.ensures.none devid Free next written [] (puts_out (byte ∷ []) ∷ []) s joint in cc
+
+pub returns-clause-fine : goal.returns-clause-fine
+returns-clause-fine c text bytes rest more f spelled put whole bad =
+    let told = returns-clause-told c text bytes spelled put in
+    c.no_answer_is_refused.ensures.bad devid telling (Some (out_submit 1 112)) 2 text [] rest more (takes_in text ∷ puts_out bytes ∷ []) told.0 f told.2 (append-nil bytes ∙ whole) bad
+
+pub returns-clause-until : goal.returns-clause-until
+returns-clause-until c text bytes spelled put =
+    let told = returns-clause-told c text bytes spelled put in
+    let joint = c.joints_stay_until_unplugged.ensures.begins devid telling (Some (out_submit 1 112)) 2 text [] (takes_in text ∷ puts_out bytes ∷ []) told.0 told.2 in (
+      told.0,
+      joint,
+      c.the_next_answer_is_read_until_unplugged.ensures.answer devid telling (out_submit 1 112) 2 text [] bytes [] (down.RetSubmit (record { seqnum = 1; status = success; actual = 112 }) []) (takes_in text ∷ puts_out bytes ∷ []) told.0 joint refl
+          (record { dir = (out_submit 1 112).dir; size = 112 }, refl, put),
+    )

@@ -1,4 +1,4 @@
-use Rattle.std.proofs.Common.{◌≡◌, ◌<◌, ◌≤◌, ◌-◌, ◌+◌, ◌++◌, ◌∙◌, ℕ, length, ap, List, arith, refl, sym, true, Some}
+use Rattle.std.proofs.Common.{◌≡◌, ◌≤◌, ◌-◌, ◌+◌, ◌++◌, ◌∙◌, ℕ, length, ap, List, arith, refl, sym, true}
 use Rattle.host_hub.specs.BookRoom.{is_open}
 use Rattle.host_hub.specs.BookSeen.{BookSeen, Seen, seen_of, all_seen}
 use Rattle.host_hub.proofs.Booking.{within, kept_is, ticket_is, roomy_set, length_set, seen_anew, room_at}

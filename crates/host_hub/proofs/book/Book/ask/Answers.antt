@@ -1,4 +1,4 @@
-use Rattle.std.proofs.Common.{ap, ◌≡◌, ◌∙◌, ◌+◌, ◌++◌, ◌∷◌, [], List, length, refl, sym, arith}
+use Rattle.std.proofs.Common.{ap, ◌≡◌, ◌∙◌, ◌+◌, ◌++◌, ◌∷◌, [], List, length, arith}
 use Rattle.std.specs.Prelude.{vec_capacity}
 use Rattle.host_hub.specs.declared.book.BookEntry.{BookEntry}
 use Rattle.host_hub.specs.declared.book.BookEntry.TheVariants as entry

@@ -1,5 +1,5 @@
-use Rattle.std.proofs.Common.{◌≡◌, ◌<◌, ◌-◌, length, ap, List, arith, refl, sym}
-use Rattle.host_hub.specs.BookSeen.{BookSeen, Seen, seen_of}
+use Rattle.std.proofs.Common.{◌-◌, ap, arith, refl, sym}
+use Rattle.host_hub.specs.BookSeen.{BookSeen, Seen}
 use Rattle.host_hub.proofs.Booking.{within, kept_is, roomy_set, length_set, seen_anew}
 use Rattle.host_hub.proofs.book.Book.end_message.Goals as goal
 

@@ -1,7 +1,6 @@
-use Rattle.std.proofs.Common.{◌≡◌, ◌<◌, ◌≤◌, ◌-◌, length, ap, List, arith, refl, sym, true, Some}
-use Rattle.std.specs.Prelude.{slice_get}
+use Rattle.std.proofs.Common.{◌≡◌, ◌≤◌, ◌-◌, ap, arith, refl, true}
 use Rattle.host_hub.specs.BookRoom.{is_open}
-use Rattle.host_hub.specs.BookSeen.{BookSeen, Seen, seen_of, all_seen}
+use Rattle.host_hub.specs.BookSeen.{BookSeen, seen_of, all_seen}
 use Rattle.host_hub.proofs.Booking.{within, kept_is, ticket_is, length_set, settled_anew, some_open, has_place, roomy_settled}
 use Rattle.host_hub.proofs.book.Book.settle.Goals as goal
 

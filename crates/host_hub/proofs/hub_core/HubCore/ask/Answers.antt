@@ -10,8 +10,8 @@ use Rattle.host_hub.specs.Asks.{IsWhy}
 use Rattle.host_hub.proofs.Asks.{unrefused, tells, fewer, enters_queued, enters_begun, roomier_rests, ready_by, queued_by}
 use Rattle.host_hub.proofs.hub_core.HubCore.ask.Goals as goal
 
-pub returns-in-Some : goal.returns-in-Some
-returns-in-Some c = λ s past sent r.
+pub returns-in-Some-clause-asks : goal.returns-in-Some-clause-asks
+returns-in-Some-clause-asks c = λ s past sent r.
     let e : Some c.in-Some.fault ≡ ask_fault s past (record { session = c.args.session; kind = c.args.kind; limit = c.args.limit; message = c.args.message.now }) =
     c.in-Some.ensures s past (tells s past sent c.args.self.now r.knows) in
     (subst (λ (o : Option AskFault). IsWhy o c.in-Some.fault) e refl, refl, r)
@@ -58,8 +58,8 @@ begin-requires c =
           r.rests (r.rests.knows.over ∙ u.running) (c.in-Ok.ensures.rest) c.in-Idle.is (c.in-Ok.ensures.goes r.setting r.past r.sent r.rests.kept.lawful r.rests.knows);
     }
 
-pub returns-in-Idle : goal.returns-in-Idle
-returns-in-Idle c = λ s past sent r.
+pub returns-in-Idle-clause-asks : goal.returns-in-Idle-clause-asks
+returns-in-Idle-clause-asks c = λ s past sent r.
     let none : ask_fault s past (record { session = c.args.session; kind = c.args.kind; limit = c.args.limit; message = c.args.message.now }) ≡ None =
     sym (c.in_default.ensures s past (tells s past sent c.args.self.now r.knows)) in
     let u = unrefused s past (record { session = c.args.session; kind = c.args.kind; limit = c.args.limit; message = c.args.message.now }) c.requires.message none in (
@@ -71,8 +71,8 @@ returns-in-Idle c = λ s past sent r.
           r (r.knows.over ∙ u.running) (c.in-Ok.ensures.rest) c.in-Idle.is (c.in-Ok.ensures.goes s past sent r.kept.lawful r.knows))),
     )
 
-pub returns-in_default-phase : goal.returns-in_default-phase
-returns-in_default-phase c = λ s past sent r.
+pub returns-in_default-phase-clause-asks : goal.returns-in_default-phase-clause-asks
+returns-in_default-phase-clause-asks c = λ s past sent r.
     let none : ask_fault s past (record { session = c.args.session; kind = c.args.kind; limit = c.args.limit; message = c.args.message.now }) ≡ None =
     sym (c.in_default.ensures s past (tells s past sent c.args.self.now r.knows)) in
     let u = unrefused s past (record { session = c.args.session; kind = c.args.kind; limit = c.args.limit; message = c.args.message.now }) c.requires.message none in (
@@ -83,8 +83,8 @@ returns-in_default-phase c = λ s past sent r.
           r (r.knows.over ∙ u.running) (c.in-Ok.ensures.rest) c.in_default-phase.not-Idle (c.in-Ok.ensures.goes s past sent r.kept.lawful r.knows)),
     )
 
-pub returns-in-Err : goal.returns-in-Err
-returns-in-Err c = λ s past sent r.
+pub returns-in-Err-clause-asks : goal.returns-in-Err-clause-asks
+returns-in-Err-clause-asks c = λ s past sent r.
     let none : ask_fault s past (record { session = c.args.session; kind = c.args.kind; limit = c.args.limit; message = c.args.message.now }) ≡ None =
     sym (c.in_default.ensures s past (tells s past sent c.args.self.now r.knows)) in (
       subst (λ (o : Option AskFault). IsWhy o c.in-Err.fault) (sym none) c.in-Err.ensures.cause,

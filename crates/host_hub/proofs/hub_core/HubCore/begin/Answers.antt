@@ -36,6 +36,7 @@ returns-clause-leaves c = record {
     ends = ap (λ (h : HubCore). h.ends) c.write_part.ensures.rest;
     turned = ap (λ (h : HubCore). h.turned) c.write_part.ensures.rest;
     births = ap (λ (n : Noted). n.births) c.start.ensures ∙ ap (λ (h : HubCore). h.notes.births) c.write_part.ensures.rest;
+    short = λ h. c.write_part.ensures.short;
   };
   reader = ap (λ (h : HubCore). h.reader) c.write_part.ensures.rest;
 }

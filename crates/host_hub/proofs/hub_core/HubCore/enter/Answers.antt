@@ -1,4 +1,4 @@
-use Rattle.std.proofs.Common.{ap, ◌∙◌, ◌+◌, ◌≡◌, refl, arith}
+use Rattle.std.proofs.Common.{ap, ◌∙◌, ◌+◌, refl, arith}
 use Rattle.host_hub.specs.declared.notes.Mark.{Mark}
 use Rattle.host_hub.specs.BookSeen.{Seen}
 use Rattle.host_hub.specs.BookChanges.{with_asked}

@@ -1,4 +1,5 @@
-use Rattle.std.proofs.Common.{Some, ◌∷◌, ◌∙◌, ap, sym, subst}
+use Rattle.std.proofs.Common.{Some, ◌∷◌, ◌∙◌, ◌≤◌, ℕ, List, length, ap, sym, subst}
+use Rattle.host_urbs.specs.declared.limits.TheConstants.{OUTBOX_MAX}
 use Rattle.usbip_wire.specs.Down as down
 use Rattle.host_hub.specs.declared.hub_core.HubCore.{HubCore}
 use Rattle.host_hub.specs.Record.{Fell}
@@ -36,6 +37,8 @@ returns-clause-leaves c = record {
     ends = ap (λ (h : HubCore). h.ends) c.settle_all.ensures.rest ∙ ap (λ (h : HubCore). h.ends) c.take.ensures.rest;
     turned = ap (λ (h : HubCore). h.turned) c.settle_all.ensures.rest ∙ ap (λ (h : HubCore). h.turned) c.take.ensures.rest;
     births = c.settle_all.ensures.births ∙ ap (λ (h : HubCore). h.notes.births) c.take.ensures.rest;
+    short = λ h. subst (λ (x : HubCore). length x.urbs.outbox ≤ OUTBOX_MAX) (sym c.settle_all.ensures.rest)
+        (subst (λ (l : List ℕ). length l ≤ OUTBOX_MAX) (sym c.take.ensures.outbox) h);
   };
   reader = ap (λ (h : HubCore). h.reader) c.settle_all.ensures.rest ∙ ap (λ (h : HubCore). h.reader) c.take.ensures.rest;
 }

@@ -10,7 +10,7 @@ answers-init c = record {
   front = [];
   whole = refl;
   goes = λ s past sent received rest count f. fed_nothing s past sent received rest count c.args.self.now f;
-  keeps = record { first = refl; ends = refl; turned = refl; births = refl };
+  keeps = record { first = refl; ends = refl; turned = refl; births = refl; short = λ h. h };
 }
 
 pub feed_one-requires : goal.feed_one-requires

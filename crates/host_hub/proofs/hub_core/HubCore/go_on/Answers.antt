@@ -14,4 +14,4 @@ pub returns-clause-goes : goal.returns-clause-goes
 returns-clause-goes c = λ s past sent d. c.begin.ensures.goes s past sent (done_ready s past sent c.args.self.now d (omega (arith, c.tickets.ensures)))
 
 pub returns-then-self-tickets-clause-leaves : goal.returns-then-self-tickets-clause-leaves
-returns-then-self-tickets-clause-leaves c = record { keeps = record { first = refl; ends = refl; turned = refl; births = refl }; reader = refl }
+returns-then-self-tickets-clause-leaves c = record { keeps = record { first = refl; ends = refl; turned = refl; births = refl; short = λ h. h }; reader = refl }

@@ -28,4 +28,4 @@ returns-then-next-gt-LAST_SUBMIT-clause-leaves c = leaves_ended c.args.self.now 
 pub returns-clause-leaves : goal.returns-clause-leaves
 returns-clause-leaves c =
     leaves_by c.args.self.now _ c.write_part.new.self c.write_part.ensures.rest
-    (record { keeps = record { first = refl; ends = refl; turned = refl; births = refl }; reader = refl })
+    (record { keeps = record { first = refl; ends = refl; turned = refl; births = refl; short = λ h. c.write_part.ensures.short }; reader = refl })

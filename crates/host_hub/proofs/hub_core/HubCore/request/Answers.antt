@@ -29,4 +29,4 @@ returns-then-next-gt-LAST_SUBMIT-clause-leaves c = leaves_ended c.args.self.now 
 pub returns-clause-leaves : goal.returns-clause-leaves
 returns-clause-leaves c =
     leaves_by c.args.self.now _ c.write_request.new.self c.write_request.ensures.rest
-    (record { keeps = record { first = refl; ends = refl; turned = refl; births = refl }; reader = refl })
+    (record { keeps = record { first = refl; ends = refl; turned = refl; births = refl; short = λ h. c.write_request.ensures.short }; reader = refl })

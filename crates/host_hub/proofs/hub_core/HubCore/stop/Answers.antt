@@ -1,4 +1,4 @@
-use Rattle.std.proofs.Common.{Some, ◌∷◌}
+use Rattle.std.proofs.Common.{◌∷◌}
 use Rattle.host_hub.specs.Record.{Stopped}
 use Rattle.host_hub.proofs.Knowing.{knows_stopped}
 use Rattle.host_hub.proofs.hub_core.HubCore.stop.Goals as goal

@@ -1,5 +1,4 @@
-use Rattle.std.proofs.Common.{◌≡◌, ◌∙◌, ◌*◌, ◌+◌, sym, ap, subst, List, ℕ, Some, length, nat_le, take, drop}
-use Rattle.tmc_wire.specs.Standard.{header_size}
+use Rattle.std.proofs.Common.{◌≡◌, ◌∙◌, ◌*◌, ◌+◌, sym, ap, subst, List, ℕ, length, nat_le, take, drop}
 use Rattle.host_hub.specs.Order.{number_of, size_of}
 use Rattle.host_hub.specs.BookSeen.{Seen}
 use Rattle.host_hub.specs.Plan.{part_of}
