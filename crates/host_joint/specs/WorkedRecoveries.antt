@@ -5,9 +5,9 @@ use Rattle.usbip_wire.specs.Up as up
 use Rattle.instr_plain.specs.declared.log.LogEntry.{LogEntry}
 use Rattle.instr_plain.specs.declared.log.LogEntry.TheVariants as entry
 use Rattle.tmc_law.specs.Endpoint.{BulkIn}
-use Rattle.tmc_law.specs.State.{State, Sending, start, AbortsIn, Clears}
-use Rattle.tmc_law.specs.Put.{Unlinked, success, stalled, unlinked}
-use Rattle.tmc_law.specs.Step.{Comes, Answer, Begin, Fill, Halt}
+use Rattle.tmc_law.specs.State.{State, Sending, Unplugged, start, AbortsIn, Clears}
+use Rattle.tmc_law.specs.Put.{Unlinked, success, stalled, unlinked, unplugged}
+use Rattle.tmc_law.specs.Step.{Comes, Answer, Begin, Fill, Halt, Unplug}
 use Rattle.tmc_law.specs.Run.{Entry}
 use Rattle.tmc_law.specs.WorkedSession.{in_submit, asking_submit, telling_submit, unlink, submits, step, answered}
 use Rattle.tmc_law.specs.WorkedParts.{spaced}
@@ -116,3 +116,10 @@ checking_second =
 -- or Bulk-IN halts before its packet is read
 abbrev pub wanting_halted : State
 wanting_halted = record halted_inside { running = AbortsIn true 0 }
+
+-- or the device is unplugged before it answers the abort
+abbrev pub unplugging_abort : List Entry
+unplugging_abort = submits (abort_submit 8) [] ∷ step Unplug (answered (abort_submit 8) unplugged 0 [] ∷ []) ∷ []
+
+abbrev pub unplugged_aborting : State
+unplugged_aborting = record cancelled_inside { presence = Unplugged }

@@ -65,6 +65,7 @@ pub use worked_ahead::{worked_asks_are_cancelled_ahead, worked_asks_are_written_
 pub use worked_lines::{worked_lines_are_kept, worked_numbers_rise, worked_pieces_are_numbered};
 pub use worked_links::{
     worked_cancels_are_joined, worked_hosts_are_joined, worked_pieces_are_joined,
+    worked_recoveries_are_joined,
 };
 pub use worked_pieces::{worked_pieces_are_asked, worked_pieces_are_read};
 pub use worked_recoveries::{
