@@ -123,3 +123,7 @@ unplugging_abort = submits (abort_submit 8) [] ∷ step Unplug (answered (abort_
 
 abbrev pub unplugged_aborting : State
 unplugged_aborting = record cancelled_inside { presence = Unplugged }
+
+-- or right behind the unlink
+abbrev pub unplugging_cancelled : List Entry
+unplugging_cancelled = cancelling_second ++ step Unplug [] ∷ []

@@ -75,4 +75,6 @@ pub use worked_recoveries::{
 };
 pub use worked_remotes::{worked_remote_tickets_are_read, worked_remote_tickets_are_tied};
 pub use worked_triggers::{worked_trigger_tickets_are_read, worked_trigger_tickets_are_tied};
-pub use worked_unplugging::{worked_asks_are_unplugged, worked_hosts_are_unplugged};
+pub use worked_unplugging::{
+    worked_asks_are_unplugged, worked_cancels_are_unplugged, worked_hosts_are_unplugged,
+};
