@@ -16,19 +16,20 @@ ghost use Rattle.tmc_law.specs.WorkedSession.{devid, out_submit, in_submit, unli
 ghost use Rattle.tmc_law.specs.WorkedParts.{spaces_text, sending_parts};
 ghost use Rattle.tmc_law.specs.WorkedTold.{takes_in, puts_out};
 ghost use Rattle.host_joint.specs.Hand.{Free};
-ghost use Rattle.host_joint.specs.Bond.{Read};
+ghost use Rattle.host_joint.specs.Bond.{Read, Stands, Requests, ToAbortIn, AbortsIn};
 ghost use Rattle.host_joint.specs.Hits.{JoinedTelling, IsNextTelling};
-ghost use Rattle.host_joint.specs.Joint.{Joint, Joined, IsNextAnswer, entries_for};
-ghost use Rattle.host_joint.specs.Unplugged.{JointUntil, JoinedUntil, IsGivenUntil};
+ghost use Rattle.host_joint.specs.Joint.{Joint, Joined, IsNextAnswer, IsNextOf, entries_for, entries_of};
+ghost use Rattle.host_joint.specs.Unplugged.{JointUntil, JoinedUntil, IsGivenUntil, IsNextUntil};
 ghost use Rattle.host_joint.specs.WorkedTies.{telling, queried};
 ghost use Rattle.host_joint.specs.WorkedPieces.{next_request, second_piece, requested_second, behind_second, reading_second};
-ghost use Rattle.host_joint.specs.WorkedRecoveries.{reading_rest, cancelled_inside};
+ghost use Rattle.host_joint.specs.WorkedRecoveries.{reading_rest, cancelled_inside, abort_submit, wanting, usable_again, unplugged_aborting};
 ghost use Rattle.host_joint.specs.WorkedUnplugging.{unplugged_behind, unplugged_inside};
 
 use crate::{
     cancels_begin, joints_begin, joints_stay, joints_stay_until_unplugged, joints_tell_hits,
-    no_answer_is_refused, the_next_answer_is_read, the_next_answer_is_read_until_unplugged,
-    worked_cancels_are_bound, worked_hosts_are_unplugged, worked_pieces_are_read,
+    no_answer_is_refused, recoveries_end, recoveries_go_on, remote_tickets_are_tied,
+    the_next_answer_is_read, the_next_answer_is_read_until_unplugged, worked_cancels_are_bound,
+    worked_cancels_are_recovered, worked_hosts_are_unplugged, worked_pieces_are_read,
     writes_keep_joints, writes_keep_joints_until_unplugged,
 };
 use tmc_law::runs_join;
@@ -127,4 +128,37 @@ pub fn worked_cancels_are_joined()
     joints_tell_hits();
     worked_pieces_are_joined();
     worked_cancels_are_bound();
+}
+
+/// The recovery behind that cancel, over a link: the host goes from the answer to its unlink to the abort, writes it, and reads its answer
+/// next, no field of which is bad. So it does while the device may be unplugged, and where that is unplugged before it answers, the host reads
+/// that. At the end it is joined as one that has nothing in hand.
+pub fn worked_recoveries_are_joined()
+    ensures goes_on { Joined devid (Stands (ToAbortIn 4)) None [] 8 [] [] [] cancelled_inside × JoinedUntil devid (Stands (ToAbortIn 4)) None [] 8 [] [] [] cancelled_inside }
+    ensures aborts { (text : List ℕ) → up.Spells devid (up.Submit (abort_submit 8) []) text
+        → Joined devid (Requests (abort_submit 8) (AbortsIn 4)) (Some (abort_submit 8)) [] 9 text [] [] cancelled_inside
+        × JoinedUntil devid (Requests (abort_submit 8) (AbortsIn 4)) (Some (abort_submit 8)) [] 9 text [] [] cancelled_inside }
+    ensures aborted { (text bytes : List ℕ) → up.Spells devid (up.Submit (abort_submit 8) []) text → SpellsPut (answered (abort_submit 8) success 2 (0x01 ∷ 0x04 ∷ [])) bytes
+        → IsNextOf devid (Requests (abort_submit 8) (AbortsIn 4)) (Some (abort_submit 8)) [] (down.RetSubmit (record { seqnum = 8; status = success; actual = 2 }) (0x01 ∷ 0x04 ∷ [])) 9 text [] bytes
+        (takes_in text ∷ puts_out bytes ∷ []) wanting }
+    ensures fine { (text bytes rest more : List ℕ) (f : Field) → up.Spells devid (up.Submit (abort_submit 8) []) text → SpellsPut (answered (abort_submit 8) success 2 (0x01 ∷ 0x04 ∷ [])) bytes
+        → bytes ≡ rest ++ more → BadAt Urbs (entries_of (Some (abort_submit 8)) []) rest f → ⊥ }
+    ensures unplugged { (text bytes : List ℕ) → up.Spells devid (up.Submit (abort_submit 8) []) text → SpellsPut (answered (abort_submit 8) unplugged 0 []) bytes
+        → IsNextUntil devid (Requests (abort_submit 8) (AbortsIn 4)) (Some (abort_submit 8)) [] (down.RetSubmit (record { seqnum = 8; status = unplugged; actual = 0 }) []) 9 text [] bytes
+        (takes_in text ∷ puts_out bytes ∷ []) unplugged_aborting }
+    ensures over { (bytes : List ℕ) → Joint devid Free None 11 bytes [] (takes_in bytes ∷ []) usable_again × JointUntil devid Free None 11 bytes [] (takes_in bytes ∷ []) usable_again }
+{
+    runs_join();
+    cancels_begin();
+    recoveries_go_on();
+    recoveries_end();
+    remote_tickets_are_tied();
+    writes_keep_joints();
+    joints_stay();
+    the_next_answer_is_read();
+    no_answer_is_refused();
+    joints_stay_until_unplugged();
+    writes_keep_joints_until_unplugged();
+    the_next_answer_is_read_until_unplugged();
+    worked_cancels_are_recovered();
 }
