@@ -72,8 +72,8 @@ pub use worked_links::{
 };
 pub use worked_pieces::{worked_pieces_are_asked, worked_pieces_are_read};
 pub use worked_recoveries::{
-    worked_cancels_are_asked, worked_cancels_are_recovered, worked_clears_stay,
-    worked_halts_are_asked, worked_halts_are_recovered, worked_requests_stay,
+    worked_asks_hand_over, worked_cancels_are_asked, worked_cancels_are_recovered,
+    worked_clears_stay, worked_halts_are_asked, worked_halts_are_recovered, worked_requests_stay,
     worked_unlinks_tell_hits,
 };
 pub use worked_remotes::{worked_remote_tickets_are_read, worked_remote_tickets_are_tied};
