@@ -60,7 +60,10 @@ pub use unplugged::{
     the_next_answer_is_read_until_unplugged, ties_hold_until_unplugged, unplugged_hosts_own,
     writes_keep_joints_until_unplugged,
 };
-pub use worked::{worked_asks_are_in_hand, worked_cancels_are_bound, worked_hosts_are_tied};
+pub use worked::{
+    worked_asks_are_in_hand, worked_cancels_are_bound, worked_hosts_are_tied,
+    worked_messages_are_cancelled,
+};
 pub use worked_ahead::{worked_asks_are_cancelled_ahead, worked_asks_are_written_ahead};
 pub use worked_lines::{worked_lines_are_kept, worked_numbers_rise, worked_pieces_are_numbered};
 pub use worked_links::{
@@ -69,8 +72,8 @@ pub use worked_links::{
 };
 pub use worked_pieces::{worked_pieces_are_asked, worked_pieces_are_read};
 pub use worked_recoveries::{
-    worked_cancels_are_asked, worked_cancels_are_recovered, worked_clears_stay,
-    worked_halts_are_asked, worked_halts_are_recovered, worked_requests_stay,
+    worked_asks_hand_over, worked_cancels_are_asked, worked_cancels_are_recovered,
+    worked_clears_stay, worked_halts_are_asked, worked_halts_are_recovered, worked_requests_stay,
     worked_unlinks_tell_hits,
 };
 pub use worked_remotes::{worked_remote_tickets_are_read, worked_remote_tickets_are_tied};

@@ -23,7 +23,7 @@ ghost use Rattle.host_joint.specs.WorkedLines.{one_asked};
 ghost use Rattle.tmc_base.specs.declared.field.Field.{Field};
 ghost use Rattle.tmc_law.specs.Step.{IsOver};
 ghost use Rattle.host_joint.specs.Owned.{Owned};
-ghost use Rattle.host_joint.specs.Positions.{IsAt, in_begun, in_wants, anything};
+ghost use Rattle.host_joint.specs.Positions.{IsAt, rests, in_begun, in_wants, out_first, anything};
 ghost use Rattle.host_joint.specs.Lines.{Gives};
 ghost use Rattle.host_joint.specs.Requests.{RequestAt, in_aborts, in_fails, begins_clear, never};
 ghost use Rattle.host_joint.specs.Drains.{DrainAt};
@@ -34,7 +34,8 @@ use crate::{
     bonds_stay, cancelled_answers_are_taken, cancelled_asks_own, cancelled_asks_stay,
     cancels_begin, devices_rest, drains_stay, messages_are_written, no_submit_is_refused,
     recoveries_end, recoveries_go_on, requests_stay, unlinks_tell_hits, what_is_read_is_owned,
-    worked_cancels_are_bound, worked_pieces_are_asked, worked_pieces_are_read, writes_keep_ties,
+    worked_asks_are_cancelled_ahead, worked_cancels_are_bound, worked_pieces_are_asked,
+    worked_pieces_are_read, writes_keep_ties,
 };
 use tmc_law::runs_join;
 
@@ -172,4 +173,18 @@ pub fn worked_clears_stay()
     requests_stay();
     drains_stay();
     devices_rest();
+}
+
+/// What the ask of two pieces leaves to a recovery before its pieces: nothing where its message was taken whole, and a Bulk-OUT transfer to abort where
+/// its request was unlinked before it was taken. Where Bulk-IN halted in the middle of the second piece a clear may begin. Where that
+/// piece is being sent, the device is not at rest.
+pub fn worked_asks_hand_over()
+    ensures message { IsAt rests told_to }
+    ensures request { IsAt (out_first 3) told_to }
+    ensures clear { IsAt anything halted_inside }
+    ensures sending { IsAt rests cancelled_inside → ⊥ }
+{
+    asks_hand_over();
+    worked_pieces_are_asked();
+    worked_asks_are_cancelled_ahead();
 }
