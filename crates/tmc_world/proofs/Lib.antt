@@ -4,3 +4,4 @@ pub mod Following
 pub mod Moving
 pub mod Showing
 pub mod Bounded
+pub mod Leading

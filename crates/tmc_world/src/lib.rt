@@ -4,6 +4,7 @@
 //! tells its run: what is told is a lawful run of the instrument from power-on, and fits the bytes sent and taken.
 #![tactic(auto)]
 
+mod applied;
 mod history;
 mod line;
 mod loop_act;
@@ -13,8 +14,11 @@ mod resting;
 mod tally;
 #[cfg(test)]
 mod tests;
+mod world;
 
+pub use applied::Applied;
 pub use loop_act::LoopAct;
 pub use loop_link::LoopLink;
 pub use resting::instruments_come_to_rest;
 pub use usbip_export::{DevEvent, Log, LogEntry};
+pub use world::World;
