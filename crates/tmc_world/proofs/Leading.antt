@@ -1,5 +1,5 @@
 -- where the calls of a hub lead the world that stands behind it
-use Rattle.std.proofs.Common.{◌≡◌, ◌∙◌, ◌⊎◌, inl, inr, ℕ, Bool, true, false, List, [], ◌∷◌, ◌++◌, Option, Some, None, Result, Ok, Err, refl, sym, ap, subst, if◌then◌else◌}
+use Rattle.std.proofs.Common.{◌≡◌, ◌∙◌, inl, inr, ℕ, Bool, true, false, List, ◌++◌, Option, Some, None, Result, Ok, Err, refl, sym, ap, subst, if◌then◌else◌}
 use Rattle.tmc_base.specs.declared.link.TendStep.{TendStep}
 use Rattle.tmc_base.specs.declared.link.TendStep.TheVariants as tend
 use Rattle.tmc_law.specs.declared.dev_event.DevEvent.{DevEvent}
@@ -7,7 +7,7 @@ use Rattle.host_hub.specs.declared.outcome.End.{End}
 use Rattle.host_hub.specs.declared.refusals.AskFault.{AskFault}
 use Rattle.host_hub.specs.declared.refusals.AskFault.TheVariants as fault
 use Rattle.host_hub.specs.Asks.{IsWhy}
-use Rattle.host_hub.specs.Behind.{Account, Behind, HubParts}
+use Rattle.host_hub.specs.Behind.{Behind, HubParts}
 use Rattle.host_hub.specs.Calls.{AddsGivingUp}
 use Rattle.host_hub.specs.HubCalls.{AsksOf, LeadsOn}
 use Rattle.host_hub.specs.Hand.{ended}
@@ -23,7 +23,7 @@ use Rattle.tmc_world.specs.declared.applied.Applied.TheVariants as applied
 use Rattle.tmc_world.specs.declared.loop_act.LoopAct.TheVariants as act
 use Rattle.tmc_world.specs.LoopLink.{Looped, CatchesUp, ActEnds, Tends}
 use Rattle.tmc_world.specs.World.{Worldly, IsBehind, begun, counted, setting_of, tells}
-use Rattle.tmc_world.specs.WorldSteps.{Asks, GivesUp, IsClosedTo, Steps}
+use Rattle.tmc_world.specs.WorldSteps.{Asks, GivesUp, Steps}
 use Rattle.tmc_world.specs.WorldEvents.{LeadsTo, Wants, applied_ask}
 
 -- ---- want of memory is no cause to refuse

@@ -5,3 +5,4 @@ pub mod Moving
 pub mod Showing
 pub mod Bounded
 pub mod Leading
+pub mod Turning

@@ -59,18 +59,13 @@ asking_of_tell session message = record { session = session; kind = kind.Tell; l
 
 -- One turn of a hub that runs, over a link with these rooms: the outbox goes by one send, where it is not empty, and then the link
 -- goes by one poll, unless the send failed. The record goes on by what a turn adds, and its laws are kept. Behind it the link has no room.
-pub record Turns (s : Setting) (rooms : Pace) (old new : Worldly) : Type 0 where
-  pub sent : Option SendStep
-  pub came : Option PollStep
+pub record TurnsBy (s : Setting) (rooms : Pace) (sent : Option SendStep) (came : Option PollStep) (old new : Worldly) : Type 0 where
   pub bytes : List ℕ
   pub between : Looped
   pub later : Looped
   pub sends : SendsOnce Sends (outbox s old) sent (record old.link { pace = rooms }) between
   pub polls : PollsOnce Polls sent came bytes between later
   pub link : new.link ≡ record later { pace = shut }
-  -- no memory was wanting
-  pub sent_well : sent ≢ Some send.Memory
-  pub came_well : came ≢ Some poll.Memory
   pub more : Past
   pub past : new.past ≡ more ++ old.past
   pub kept : Kept s new.past
@@ -81,6 +76,14 @@ pub record Turns (s : Setting) (rooms : Pace) (old new : Worldly) : Type 0 where
   pub tied : Tied s new.past new.link.sent (outbox s new) new.link.taken rest
   pub whole : AreSent s new.past new.link.sent count
   pub taken : AllTaken s new.past count rest
+
+-- one for which no memory was wanting
+pub record Turns (s : Setting) (rooms : Pace) (old new : Worldly) : Type 0 where
+  pub sent : Option SendStep
+  pub came : Option PollStep
+  pub turns : TurnsBy s rooms sent came old new
+  pub sent_well : sent ≢ Some send.Memory
+  pub came_well : came ≢ Some poll.Memory
 
 -- bytes may go up: the hub runs, and its outbox is not empty
 pub record MayGoUp (s : Setting) (most : ℕ) (world : Worldly) : Type 0 where

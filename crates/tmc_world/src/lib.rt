@@ -15,6 +15,8 @@ mod tally;
 #[cfg(test)]
 mod tests;
 mod world;
+#[cfg(test)]
+mod world_tests;
 
 pub use applied::Applied;
 pub use loop_act::LoopAct;

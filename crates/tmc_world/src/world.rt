@@ -1,16 +1,18 @@
-//! A hub over a paced link in memory, to whose other end the instrument stands.
+//! A hub over a paced link in memory, with the instrument at its other end.
 
-ghost use Rattle.std.specs.Prelude.{◌≡◌, ◌≤◌, ℕ, IfOk};
+ghost use Rattle.std.specs.Prelude.{◌≡◌, ◌≤◌, ℕ, None, IfOk};
 ghost use Rattle.host_hub.specs.declared.limits.TheConstants.{MAX_DEPTH};
+ghost use Rattle.host_hub.specs.Hand.{ended};
 ghost use Rattle.usbip_export.specs.Seen.{standing};
 ghost use Rattle.event_text.specs.declared.event.Event.TheVariants as event;
+ghost use Rattle.tmc_world.specs.declared.pace.Pace.TheVariants as pace;
 ghost use Rattle.tmc_world.specs.LoopLink.{IsTold};
 ghost use Rattle.tmc_world.specs.World.{Worldly, IsBehind, begun};
-ghost use Rattle.tmc_world.specs.WorldEvents.{LeadsTo, applied_ask};
+ghost use Rattle.tmc_world.specs.WorldEvents.{LeadsTo, TurnsTo, applied_ask};
 
 use crate::{Applied, LoopAct, LoopLink};
 use event_text::EventAnswer;
-use host_hub::{AskFault, Hub};
+use host_hub::{AskFault, Hub, Turn};
 use std::alloc::Global;
 use tmc_base::{Memory, TendStep};
 use usb_setup::Ends;
@@ -113,6 +115,19 @@ impl World {
     {
         self.hub.tend(LoopAct::FailPoll);
         Applied::Answer(EventAnswer::Done)
+    }
+
+    /// One turn of a hub that runs, over the link with these rooms. Behind it the link has no room.
+    pub(crate) fn turn(&mut self, send: u32, poll: u32) -> Turn
+        ensures { (first depth : ℕ) (old : Worldly) → IsBehind first depth old self.old.hub → ended old.past ≡ None
+            → TurnsTo first depth (pace.Paced (record { send = send; poll = poll })) old result self.new.hub }
+    {
+        self.hub.tend(LoopAct::RoomSend(send));
+        self.hub.tend(LoopAct::RoomPoll(poll));
+        let turn = self.hub.turn();
+        self.hub.tend(LoopAct::RoomSend(0));
+        self.hub.tend(LoopAct::RoomPoll(0));
+        turn
     }
 }
 
