@@ -1,7 +1,8 @@
 //! The instrument in memory, at the other end of a link.
 //!
 //! A [`LoopLink`] is a link that holds the instrument's node, what was sent to it and what was taken from it. It always
-//! tells its run: what is told is a lawful run of the instrument from power-on, and fits the bytes sent and taken.
+//! tells its run: what is told is a lawful run of the instrument from power-on, and fits the bytes sent and taken. A [`World`]
+//! is a hub over such a link, whose events are those of a script.
 #![tactic(auto)]
 
 mod applied;
