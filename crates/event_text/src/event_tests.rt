@@ -110,17 +110,38 @@ fn a_script_has_at_most_65536_lines_of_16384_bytes(rt: HostRuntime) -> Result<()
     refuses(&rt, rt.alloc(), &lines, 65_537, LineWhat::TooMany)
 }
 
+/// Reads a word of HEX behind a byte that was there.
+fn reads_hex(
+    rt: &impl Abort,
+    alloc: Global,
+    word: &[u8],
+    is: bool,
+    want: &[u8],
+) -> Result<(), Fail> {
+    let mut out = Vec::from_slice(alloc, b"x")?;
+    assert_eq!(rt; read_hex(word, &mut out)?, is, "{word:?}");
+    assert_eq!(rt; out.as_slice(), want, "{word:?}");
+    Ok(())
+}
+
+#[test]
+fn reads_words_of_hex(rt: HostRuntime) -> Result<(), Fail> {
+    for (word, is, want) in [
+        ("61ff", true, b"x\x61\xff".as_slice()),
+        ("6G", false, b"x".as_slice()),
+        ("6F", false, b"x".as_slice()),
+        ("-", true, b"x".as_slice()),
+    ] {
+        reads_hex(&rt, rt.alloc(), word.as_bytes(), is, want)?;
+    }
+    Ok(())
+}
+
 #[test]
 fn reads_words_and_device_lines(rt: HostRuntime) -> Result<(), Fail> {
     assert_eq!(rt; read_number(b"4294967295"), Some(4_294_967_295));
     assert_eq!(rt; read_number(b"00"), None);
     assert_eq!(rt; read_dev(b"fill 48"), Ok(DevEvent::Fill(48)));
     assert_eq!(rt; read_dev(b"rest"), Err(LineWhat::Unknown));
-    let mut out = Vec::from_slice(rt.alloc(), b"x")?;
-    assert_eq!(rt; read_hex(b"61ff", &mut out)?, true);
-    assert_eq!(rt; read_hex(b"6G", &mut out)?, false);
-    assert_eq!(rt; read_hex(b"6F", &mut out)?, false);
-    assert_eq!(rt; read_hex(b"-", &mut out)?, true);
-    assert_eq!(rt; out.as_slice(), b"x\x61\xff".as_slice());
     Ok(())
 }

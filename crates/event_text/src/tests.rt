@@ -16,8 +16,8 @@ fn show(alloc: Global, way: Dir, source: &[u8]) -> Result<(Result<(), LineFault>
     Ok((answer, String::from_str(alloc, behind)?))
 }
 
-fn prints(rt: &impl Abort, alloc: Global, way: Dir, source: &str, want: &str) -> Result<(), Fail> {
-    let (answer, text) = show(alloc, way, source.as_bytes())?;
+fn prints(rt: &impl Abort, alloc: Global, way: Dir, source: &[u8], want: &str) -> Result<(), Fail> {
+    let (answer, text) = show(alloc, way, source)?;
     assert_eq!(rt; answer, Ok(()), "{source:?}");
     assert_eq!(rt; text.as_str(), want, "{source:?}");
     Ok(())
@@ -27,11 +27,11 @@ fn refuses(
     rt: &impl Abort,
     alloc: Global,
     way: Dir,
-    source: &str,
+    source: &[u8],
     line: u32,
     what: LineWhat,
 ) -> Result<(), Fail> {
-    let (answer, text) = show(alloc, way, source.as_bytes())?;
+    let (answer, text) = show(alloc, way, source)?;
     assert_eq!(rt; answer, Err(LineFault::At { line, what }), "{source:?}");
     assert_eq!(rt; text.as_str(), "", "{source:?}");
     Ok(())
@@ -68,7 +68,7 @@ fn prints_the_worked_scripts(rt: HostRuntime) -> Result<(), Fail> {
             "ret_unlink 5 -104\nmore 0\n",
         ),
     ] {
-        prints(&rt, rt.alloc(), way, source, want)?;
+        prints(&rt, rt.alloc(), way, source.as_bytes(), want)?;
     }
     Ok(())
 }
@@ -85,7 +85,7 @@ fn refuses_the_worked_scripts(rt: HostRuntime) -> Result<(), Fail> {
             LineWhat::Twice,
         ),
     ] {
-        refuses(&rt, rt.alloc(), way, source, line, what)?;
+        refuses(&rt, rt.alloc(), way, source.as_bytes(), line, what)?;
     }
     Ok(())
 }
@@ -119,7 +119,7 @@ fn prints_each_kind_of_message(rt: HostRuntime) -> Result<(), Fail> {
             "ret_submit 1 0 2 310a\nret_submit 2 -32 3 -\nret_submit 3 -108 0 -\nret_unlink 4 -104\nmore 0\n",
         ),
     ] {
-        prints(&rt, rt.alloc(), way, source, want)?;
+        prints(&rt, rt.alloc(), way, source.as_bytes(), want)?;
     }
     Ok(())
 }
@@ -176,7 +176,7 @@ fn refuses_a_line_for_its_first_fault(rt: HostRuntime) -> Result<(), Fail> {
             LineWhat::Number,
         ),
     ] {
-        refuses(&rt, rt.alloc(), way, source, line, what)?;
+        refuses(&rt, rt.alloc(), way, source.as_bytes(), line, what)?;
     }
     Ok(())
 }
@@ -192,7 +192,7 @@ fn takes_what_no_line_refuses(rt: HostRuntime) -> Result<(), Fail> {
             "more 0\n",
         ),
     ] {
-        prints(&rt, rt.alloc(), way, source, want)?;
+        prints(&rt, rt.alloc(), way, source.as_bytes(), want)?;
     }
     Ok(())
 }
@@ -221,7 +221,7 @@ fn answered_numbers_leave_the_list(rt: HostRuntime) -> Result<(), Fail> {
             "ret_submit 1 0 2 4142\nret_submit 2 0 4 -\nmore 0\n",
         ),
     ] {
-        prints(&rt, rt.alloc(), way, source, want)?;
+        prints(&rt, rt.alloc(), way, source.as_bytes(), want)?;
     }
     Ok(())
 }
@@ -248,7 +248,7 @@ fn refuses_a_number_twice_and_a_17th_entry(rt: HostRuntime) -> Result<(), Fail> 
             LineWhat::Twice,
         ),
     ] {
-        refuses(&rt, rt.alloc(), way, source, line, what)?;
+        refuses(&rt, rt.alloc(), way, source.as_bytes(), line, what)?;
     }
     Ok(())
 }
@@ -288,7 +288,7 @@ fn prints_nothing_behind_a_bad_field(rt: HostRuntime) -> Result<(), Fail> {
         ),
         (Dir::In, "phase op\nbytes 01110006", "bad op code 2\n"),
     ] {
-        prints(&rt, rt.alloc(), way, source, want)?;
+        prints(&rt, rt.alloc(), way, source.as_bytes(), want)?;
     }
     Ok(())
 }
@@ -304,7 +304,7 @@ fn refuses_a_line_behind_a_bad_field(rt: HostRuntime) -> Result<(), Fail> {
             LineWhat::Twice,
         ),
     ] {
-        refuses(&rt, rt.alloc(), way, source, line, what)?;
+        refuses(&rt, rt.alloc(), way, source.as_bytes(), line, what)?;
     }
     Ok(())
 }
@@ -346,9 +346,7 @@ fn pieces_are_one_stream(rt: HostRuntime) -> Result<(), Fail> {
         for at in 1..stream.len() / 2 {
             let (front, back) = stream.as_bytes().split_at(2 * at);
             let source = in_pieces(alloc, head, &[front, b"-", back])?;
-            let (answer, text) = show(alloc, way, &source)?;
-            assert_eq!(rt; answer, Ok(()), "{at}");
-            assert_eq!(rt; text.as_str(), want, "{at}");
+            prints(&rt, alloc, way, &source, want)?;
         }
     }
     Ok(())
@@ -360,10 +358,8 @@ fn counts_the_bytes_of_an_unfinished_message(rt: HostRuntime) -> Result<(), Fail
     for at in 1..51usize {
         let (front, _back) = CLIENT_STREAM.as_bytes().split_at(2 * at);
         let source = in_pieces(alloc, "phase urb\n", &[front])?;
-        let (answer, text) = show(alloc, Dir::Out, &source)?;
         let want = format!(in alloc; "more {at}\n")?;
-        assert_eq!(rt; answer, Ok(()), "{at}");
-        assert_eq!(rt; text.as_str(), want.as_str(), "{at}");
+        prints(&rt, alloc, Dir::Out, &source, want.as_str())?;
     }
     Ok(())
 }
@@ -381,9 +377,7 @@ fn long_line(alloc: Global, count: usize) -> Result<Vec<u8>, Fail> {
 fn judges_a_line_by_its_length_first(rt: HostRuntime) -> Result<(), Fail> {
     for (count, what) in [(16_384, LineWhat::Unknown), (16_385, LineWhat::TooLong)] {
         let source = long_line(rt.alloc(), count)?;
-        let (answer, text) = show(rt.alloc(), Dir::Out, &source)?;
-        assert_eq!(rt; answer, Err(LineFault::At { line: 2, what }));
-        assert_eq!(rt; text.as_str(), "");
+        refuses(&rt, rt.alloc(), Dir::Out, &source, 2, what)?;
     }
     Ok(())
 }
@@ -395,15 +389,9 @@ fn takes_65536_lines(rt: HostRuntime) -> Result<(), Fail> {
     for _ in 0..65_535 {
         source.extend_from_slice(b"bytes -\n")?;
     }
-    let (answer, text) = show(rt.alloc(), Dir::In, &source)?;
-    assert_eq!(rt; answer, Ok(()));
-    assert_eq!(rt; text.as_str(), "more 0\n");
+    prints(&rt, rt.alloc(), Dir::In, &source, "more 0\n")?;
     source.extend_from_slice(b"hop")?;
-    let (answer, text) = show(rt.alloc(), Dir::In, &source)?;
-    let (line, what) = (65_537, LineWhat::TooMany);
-    assert_eq!(rt; answer, Err(LineFault::At { line, what }));
-    assert_eq!(rt; text.as_str(), "");
-    Ok(())
+    refuses(&rt, rt.alloc(), Dir::In, &source, 65_537, LineWhat::TooMany)
 }
 
 /// The header of a submit of 70,000 bytes to the device.
@@ -416,8 +404,5 @@ fn takes_a_long_submit_byte_by_byte(rt: HostRuntime) -> Result<(), Fail> {
     for _ in 0..65_534 {
         source.extend_from_slice(b"bytes 61\n")?;
     }
-    let (answer, text) = show(rt.alloc(), Dir::Out, &source)?;
-    assert_eq!(rt; answer, Ok(()));
-    assert_eq!(rt; text.as_str(), "more 65582\n");
-    Ok(())
+    prints(&rt, rt.alloc(), Dir::Out, &source, "more 65582\n")
 }

@@ -91,11 +91,15 @@ pub fn read_hex(word: &[u8], out: &mut Vec<u8>) -> Result<bool, Memory>
     decode_behind(word, out)
 }
 
-/// Whether a byte is an upper-case letter.
+/// Whether a byte is an upper-case letter. All are looked at, so that many are at once.
 fn has_upper(word: &[u8]) -> bool
     ensures { result ≡ list_any is_ascii_uppercase word.now }
 {
-    word.iter().any(|byte| byte.is_ascii_uppercase())
+    let mut found = false;
+    'bytes: for byte in word {
+        found |= byte.is_ascii_uppercase();
+    }
+    found
 }
 
 /// Decodes digits of either case straight behind what `out` has.

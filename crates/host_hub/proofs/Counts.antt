@@ -1,15 +1,12 @@
 -- how many messages were sent whole, and which of what is outstanding
-use Rattle.std.proofs.Common.{◌≡◌, ◌∙◌, ◌≤◌, ◌<◌, ◌+◌, ◌-◌, ℕ, zero, suc, Bool, true, false, List, [], ◌∷◌, ◌++◌, length, take, drop, Some, None, refl, sym, ap, subst, arith, append_assoc, append-nil, length-append, take-append-drop}
+use Rattle.std.proofs.Common.{◌≡◌, ◌∙◌, ◌≤◌, ◌<◌, ◌+◌, ◌-◌, ℕ, zero, suc, Bool, true, false, List, [], ◌∷◌, ◌++◌, length, take, drop, Some, None, refl, sym, ap, subst, arith, length-append, take-append-drop}
 use Rattle.std.specs.Prelude.{◌==◌, is_some, leb, nat_lt, if◌then◌else◌}
 use Rattle.std.proofs.lemmas.Bool.{eqb-false, eqb-true, leb-true, ltb-false, ltb-true}
-use Rattle.std.proofs.lemmas.List.{take-append-le, drop-append-le, length-drop}
+use Rattle.std.proofs.lemmas.List.{length-drop}
 use Rattle.usbip_wire.specs.Awaited.{Awaited, entries_of, entry_of, number_of, sent_by}
 use Rattle.usbip_wire.specs.Awaited as wire
 use Rattle.usbip_wire.specs.Dirs as dirs
-use Rattle.usbip_wire.specs.Submit.{submit_bytes}
-use Rattle.usbip_wire.specs.Unlink.{unlink_bytes}
 use Rattle.usbip_wire.specs.Up as up
-use Rattle.usbip_wire.specs.Urb.{fields}
 use Rattle.host_urbs.specs.declared.entry.Entry.{Entry}
 use Rattle.host_urbs.specs.declared.entry.Unanswered.{Unanswered}
 use Rattle.host_urbs.specs.declared.entry.Unanswered.TheVariants.{Submit, Unlink}
@@ -20,7 +17,7 @@ use Rattle.host_urbs.specs.Unanswered.{AreInARow, seqnum_of}
 use Rattle.host_urbs.specs.Law as urbs_law
 use Rattle.host_hub.specs.declared.hub_core.HubCore.{HubCore}
 use Rattle.host_hub.specs.Order.{Setting, is_unlink, message_of}
-use Rattle.host_hub.specs.Record.{Asked, Cancelled, Cleared, Fell, GaveUp, Past, Recovers, Settled, Stopped, Took, Wrote, next, written}
+use Rattle.host_hub.specs.Record.{Past, next, written}
 use Rattle.host_hub.specs.Crossings.{crossings}
 use Rattle.host_hub.specs.Outstanding.{Sent, awaited_by, outstanding}
 use Rattle.host_hub.specs.Law.{Lawful}
@@ -32,58 +29,8 @@ use Rattle.host_hub.proofs.Entries.{as_unlink}
 use Rattle.host_hub.proofs.Lists.{clash}
 use Rattle.host_hub.proofs.Heard.{one_entry}
 use Rattle.host_hub.proofs.Messages.{next_same, written_same}
+use Rattle.host_hub.proofs.Undisturbing.{spelled_join}
 use Rattle.host_hub.proofs.Numbers.{Below, entry_number, outstanding_falls, same_outstanding}
-
--- ---- the messages go on
-
-written_on : (s : Setting) (more past : Past) → written s (more ++ past) ≡ written s past ++ written s more
-written_on s [] past = sym (append-nil (written s past))
-written_on s (Wrote n o k ∷ more) past =
-    ap (λ (ms : List up.Message). ms ++ message_of s n k ∷ []) (written_on s more past) ∙ append_assoc (written s past) (written s more) (message_of s n k ∷ [])
-written_on s (Took answer ∷ more) past = written_on s more past
-written_on s (Fell answer e ∷ more) past = written_on s more past
-written_on s (Stopped e ∷ more) past = written_on s more past
-written_on s (Recovers ∷ more) past = written_on s more past
-written_on s (Asked t a ∷ more) past = written_on s more past
-written_on s (Cancelled t ∷ more) past = written_on s more past
-written_on s (Cleared w ∷ more) past = written_on s more past
-written_on s (GaveUp ∷ more) past = written_on s more past
-written_on s (Settled t o ∷ more) past = written_on s more past
-
-some_bytes : (m : up.Message) → 0 < length (bytes_of m)
-unfolding submit_bytes unlink_bytes fields
-some_bytes (up.Submit head transferred) = omega arith
-some_bytes (up.Unlink head) = omega arith
-
-no_cons : {A P : Type 0} (x : A) (xs : List A) → x ∷ xs ≡ [] → P
-no_cons x xs e = cc
-
-same_head : {A : Type 0} (x y : A) (xs ys : List A) → x ∷ xs ≡ y ∷ ys → x ≡ y
-same_head x y xs ys e = cc
-
-pub sent_on : (s : Setting) (more past : Past) (sent : List ℕ) (count : ℕ) → AreSent s past sent count → AreSent s (more ++ past) sent count
-sent_on s more past sent count a = record {
-  part = a.part;
-  among = omega (arith, a.among, ap length joined, length-append (written s past) (written s more));
-  sent_so_far = a.sent_so_far ∙ ap (λ (ms : List up.Message). spelled ms ++ a.part)
-      (sym (take-append-le count (written s past) (written s more) a.among) ∙ ap (λ (ms : List up.Message). take count ms) (sym joined));
-  next = λ m behind f. first m behind (drop count (written s past)) refl (sym left ∙ f);
-  none_left = λ f. a.none_left (nothing (drop count (written s past)) (sym left ∙ f));
-}
-  where
-    joined : written s (more ++ past) ≡ written s past ++ written s more
-    joined = written_on s more past
-
-    left : drop count (written s (more ++ past)) ≡ drop count (written s past) ++ written s more
-    left = ap (λ (ms : List up.Message). drop count ms) joined ∙ drop-append-le count (written s past) (written s more) a.among
-
-    nothing : (ms : List up.Message) → ms ++ written s more ≡ [] → ms ≡ []
-    nothing [] f = refl
-    nothing (m ∷ ms) f = no_cons m (ms ++ written s more) f
-
-    first : (m : up.Message) (behind ms : List up.Message) → drop count (written s past) ≡ ms → ms ++ written s more ≡ m ∷ behind → length a.part < length (bytes_of m)
-    first m behind [] f g = omega (arith, ap length (a.none_left f), some_bytes m)
-    first m behind (n ∷ ms) f g = subst (λ (q : up.Message). length a.part < length (bytes_of q)) (same_head n m (ms ++ written s more) behind g) (a.next n ms f)
 
 -- ---- what was sent whole of what is outstanding
 
@@ -91,10 +38,6 @@ all_spelled : (ms : List up.Message) → held.all_bytes ms ≡ spelled ms
 all_spelled [] = refl
 all_spelled ((up.Submit head transferred) ∷ ms) = ap (λ (l : List ℕ). bytes_of (up.Submit head transferred) ++ l) (all_spelled ms)
 all_spelled ((up.Unlink head) ∷ ms) = ap (λ (l : List ℕ). bytes_of (up.Unlink head) ++ l) (all_spelled ms)
-
-spelled_both : (ms ns : List up.Message) → spelled (ms ++ ns) ≡ spelled ms ++ spelled ns
-spelled_both [] ns = refl
-spelled_both (m ∷ ms) ns = ap (λ (l : List ℕ). bytes_of m ++ l) (spelled_both ms ns) ∙ sym (append_assoc (bytes_of m) (spelled ms) (spelled ns))
 
 pub stands_so : (s : Setting) (past : Past) (sent : List ℕ) (core : HubCore) → Knows s past sent core → sent ++ core.urbs.outbox ≡ spelled (written s past)
 stands_so s past sent core k = k.follows.stands ∙ (all_spelled (urbs.written (crossings s past)) ∙ ap spelled (sym (written_same s past)))
@@ -108,7 +51,7 @@ all_sent s past sent count a e = by (drop count (written s past)) refl
     by (m ∷ more) f =
         let whole : length (spelled (written s past)) ≡ length (spelled (take count (written s past))) + (length (bytes_of m) + length (spelled more)) =
         ap (λ (ms : List up.Message). length (spelled ms)) (sym (take-append-drop count (written s past)))
-        ∙ (ap length (spelled_both (take count (written s past)) (drop count (written s past)))
+        ∙ (ap length (spelled_join (take count (written s past)) (drop count (written s past)))
         ∙ (length-append (spelled (take count (written s past))) (spelled (drop count (written s past)))
         ∙ ap (λ (n : ℕ). length (spelled (take count (written s past))) + n) (ap (λ (ms : List up.Message). length (spelled ms)) f ∙ length-append (bytes_of m) (spelled more)))) in
         absurd (omega (arith, e, whole, a.next m more f, ap length a.sent_so_far, length-append (spelled (take count (written s past))) a.part))

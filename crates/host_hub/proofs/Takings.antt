@@ -43,7 +43,8 @@ use Rattle.host_hub.specs.Stands.{Rests, Stands}
 use Rattle.host_hub.specs.Hears.{GoesByAnswer, HearsOut, IsBehind, OfItself, Takes}
 use Rattle.host_hub.specs.Fed.{Fed, FedAnswer, Feeds}
 use Rattle.host_hub.proofs.Begins.{ended_rests}
-use Rattle.host_hub.proofs.Counts.{AtMost, Nothing, Single, entries_here, low_found, none_unlinks, sent_on, stands_so}
+use Rattle.host_hub.proofs.Counts.{AtMost, Nothing, Single, entries_here, low_found, none_unlinks, stands_so}
+use Rattle.host_hub.proofs.Sendings.{sent_still}
 use Rattle.host_hub.proofs.Endings.{stopped_kept}
 use Rattle.host_hub.proofs.Failed.{OutNow, out_now}
 use Rattle.host_hub.proofs.Falls.{AllEnds, IsSettling, all_added, all_ends, settling_all, settling_stopped}
@@ -332,7 +333,7 @@ module _ (rows : Rows) (core : HubCore) (piece : List ℕ) (step : DownStep) (r 
               (received_by s (down.RetSubmit head (data_of r)) g.more g.first past f.tied.front raw g.behind g.takes f.tied.answers
               (subst (λ (l : List Outstanding). SpellsAnswer l (down.RetSubmit head (data_of r)) raw) (sym here ∙ (same ∙ outstanding_now)) spelled_now));
         };
-        counted = sent_on s (g.more ++ g.first ∷ []) past sent count f.counted;
+        counted = sent_still s (g.more ++ g.first ∷ []) past sent count f.counted;
         lies = λ e. nothing_lies s ((g.more ++ g.first ∷ []) ++ past) count;
         reads = λ e. record {
           urbs = ap (λ (h : down_fed.Held). h.phase) (reader ∙ reader_is);
@@ -388,7 +389,7 @@ module _ (rows : Rows) (core : HubCore) (piece : List ℕ) (step : DownStep) (r 
             taken = ap (λ (l : List ℕ). l ++ piece) f.tied.taken ∙ append_assoc f.tied.front rest piece;
             answers = subst (λ (p : urbs.Past). Received p f.tied.front) (sym still) f.tied.answers;
           };
-          counted = sent_on s (a.more ++ Stopped e ∷ []) past sent count f.counted;
+          counted = sent_still s (a.more ++ Stopped e ∷ []) past sent count f.counted;
           lies = λ k. clash (sym (takes_not ((a.more ++ Stopped e ∷ []) ++ past) rests_new (ap (λ (p : Past). stopped p) joined ∙ settling_stopped a.more (Stopped e ∷ past) a.settling)) ∙ k);
           reads = λ k. none_some e (sym k ∙ ended_by);
         }

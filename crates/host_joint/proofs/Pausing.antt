@@ -24,7 +24,7 @@ pub first_is : IsTransfer (out_submit 3 12) (Request 3 4000) [] last_request
 unfolding out_header_bytes
 first_is = record { number = refl; way = refl; proper = (lit< tt, lit< tt); fits = (lit< tt, lit< tt); counted = refl; layout = refl; sized = refl }
 
-next_is : IsTransfer (out_submit 5 12) (Request 4 4000) [] next_request
+pub next_is : IsTransfer (out_submit 5 12) (Request 4 4000) [] next_request
 unfolding out_header_bytes
 next_is = record { number = refl; way = refl; proper = (lit< tt, lit< tt); fits = (lit< tt, lit< tt); counted = refl; layout = refl; sized = refl }
 

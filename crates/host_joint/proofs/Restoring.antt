@@ -76,7 +76,7 @@ abort_is seqnum = record { number = refl; way = refl; setup = row ends (AbortIn 
 check_is : (seqnum : ℕ) → IsClass (check_submit seqnum) CheckIn
 check_is seqnum = record { number = refl; way = refl; setup = row ends CheckIn; asks = check_asks seqnum; row = record { fits = tt; is = refl }; room = lit≤ tt }
 
-clear_is : (seqnum : ℕ) → IsClass (clear_submit seqnum) Clear
+pub clear_is : (seqnum : ℕ) → IsClass (clear_submit seqnum) Clear
 clear_is seqnum = record { number = refl; way = refl; setup = row ends Clear; asks = clear_asks seqnum; row = record { fits = tt; is = refl }; room = lit≤ tt }
 
 check_clear_is : (seqnum : ℕ) → IsClass (check_clear_submit seqnum) CheckClear

@@ -126,12 +126,12 @@ clear_answers =
     class_answers (with_control (clear_submit 7) halted_inside) (clear_submit 7) Clear (record { layout = 0x01 ∷ []; behind = []; state = clears_second }) refl refl (clear_asks 7) tt
     (DoesClear clears_second (record { standing = at_power_on; after = refl; is = refl }) refl)
 
+pub clear_comes : Steps halted_inside (Comes (up.Submit (clear_submit 7) [])) [] (with_control (clear_submit 7) halted_inside)
+clear_comes =
+    comes halted_inside (clear_submit 7) [] Control (record { plugged = refl; wide = refl; eight = refl; setup = refl; carried = refl; bytes = refl; free = refl; few = refl }) (record { number = refl; way = refl; usable = refl })
+
 pub clears_halted : Runs halted_inside clearing_halted clears_second
-clears_halted = (
-  with_control (clear_submit 7) halted_inside,
-  comes halted_inside (clear_submit 7) [] Control (record { plugged = refl; wide = refl; eight = refl; setup = refl; carried = refl; bytes = refl; free = refl; few = refl }) (record { number = refl; way = refl; usable = refl }),
-  (clears_second, clear_answers, refl),
-)
+clears_halted = (with_control (clear_submit 7) halted_inside, clear_comes, (clears_second, clear_answers, refl))
 
 pub checks_clear : Runs clears_second checking_clear cleared_second
 checks_clear = (

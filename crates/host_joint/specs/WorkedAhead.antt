@@ -8,7 +8,8 @@ use Rattle.tmc_law.specs.Put.{Unlinked, unlinked}
 use Rattle.tmc_law.specs.Step.{Comes}
 use Rattle.tmc_law.specs.Run.{Entry}
 use Rattle.tmc_law.specs.WorkedQuery.{query_submit, request_submit, query_text, request_text}
-use Rattle.tmc_law.specs.WorkedSession.{unlink, submits, step}
+use Rattle.tmc_law.specs.WorkedSession.{out_submit, in_submit, unlink, submits, step}
+use Rattle.host_joint.specs.WorkedTies.{last_request}
 
 -- its submits, and their unlinks, the last one first
 abbrev pub ahead_asked : Endpoint → List SubmitHead
@@ -27,3 +28,11 @@ cancelling_ahead =
     ∷ step (Comes (up.Unlink (unlink 3 2))) (Unlinked (unlink 3 2) (record { seqnum = 3; status = unlinked }) ∷ [])
     ∷ step (Comes (up.Unlink (unlink 4 1))) (Unlinked (unlink 4 1) (record { seqnum = 4; status = unlinked }) ∷ [])
     ∷ []
+
+-- the request of the message of two transfers, and its unlink, before it was taken
+abbrev pub cancelling_request : List Entry
+cancelling_request = submits (out_submit 3 12) last_request ∷ step (Comes (up.Unlink (unlink 4 3))) (Unlinked (unlink 4 3) (record { seqnum = 4; status = unlinked }) ∷ []) ∷ []
+
+-- a read that is left over behind the first piece of its response, and its unlink
+abbrev pub cancelling_read : List Entry
+cancelling_read = submits (in_submit 5 4096) [] ∷ step (Comes (up.Unlink (unlink 6 5))) (Unlinked (unlink 6 5) (record { seqnum = 6; status = unlinked }) ∷ []) ∷ []

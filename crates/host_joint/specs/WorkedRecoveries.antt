@@ -5,9 +5,9 @@ use Rattle.usbip_wire.specs.Up as up
 use Rattle.instr_plain.specs.declared.log.LogEntry.{LogEntry}
 use Rattle.instr_plain.specs.declared.log.LogEntry.TheVariants as entry
 use Rattle.tmc_law.specs.Endpoint.{BulkIn}
-use Rattle.tmc_law.specs.State.{State, Sending, start, AbortsIn}
-use Rattle.tmc_law.specs.Put.{Unlinked, success, stalled, unlinked}
-use Rattle.tmc_law.specs.Step.{Comes, Answer, Begin, Fill, Halt}
+use Rattle.tmc_law.specs.State.{State, Sending, Unplugged, start, AbortsIn, Clears}
+use Rattle.tmc_law.specs.Put.{Unlinked, success, stalled, unlinked, unplugged}
+use Rattle.tmc_law.specs.Step.{Comes, Answer, Begin, Fill, Halt, Unplug}
 use Rattle.tmc_law.specs.Run.{Entry}
 use Rattle.tmc_law.specs.WorkedSession.{in_submit, asking_submit, telling_submit, unlink, submits, step, answered}
 use Rattle.tmc_law.specs.WorkedParts.{spaced}
@@ -75,6 +75,9 @@ freeing_in = submits (usable_in 10) [] ∷ step Answer (answered (usable_in 10) 
 abbrev pub cleared_log : List LogEntry
 cleared_log = second_log ++ entry.Clear ∷ []
 
+abbrev pub clearing_all : State
+clearing_all = record start { halted = record { bulk_out = true; bulk_in = true; interrupt_in = false }; running = Clears; log = cleared_log }
+
 abbrev pub cleared_at_last : State
 cleared_at_last = record start { log = cleared_log }
 
@@ -109,3 +112,18 @@ checking_second =
     submits (check_submit 10) []
     ∷ step Answer (answered (check_submit 10) success 8 (0x01 ∷ 0x00 ∷ 0x00 ∷ 0x00 ∷ 0x00 ∷ 0x00 ∷ 0x00 ∷ 0x00 ∷ []) ∷ [])
     ∷ []
+
+-- or Bulk-IN halts before its packet is read
+abbrev pub wanting_halted : State
+wanting_halted = record halted_inside { running = AbortsIn true 0 }
+
+-- or the device is unplugged before it answers the abort
+abbrev pub unplugging_abort : List Entry
+unplugging_abort = submits (abort_submit 8) [] ∷ step Unplug (answered (abort_submit 8) unplugged 0 [] ∷ []) ∷ []
+
+abbrev pub unplugged_aborting : State
+unplugged_aborting = record cancelled_inside { presence = Unplugged }
+
+-- or right behind the unlink
+abbrev pub unplugging_cancelled : List Entry
+unplugging_cancelled = cancelling_second ++ step Unplug [] ∷ []

@@ -60,15 +60,24 @@ pub use unplugged::{
     the_next_answer_is_read_until_unplugged, ties_hold_until_unplugged, unplugged_hosts_own,
     writes_keep_joints_until_unplugged,
 };
-pub use worked::{worked_asks_are_in_hand, worked_cancels_are_bound, worked_hosts_are_tied};
-pub use worked_ahead::worked_asks_are_written_ahead;
-pub use worked_lines::{worked_lines_are_kept, worked_numbers_rise};
-pub use worked_links::worked_hosts_are_joined;
+pub use worked::{
+    worked_asks_are_in_hand, worked_cancels_are_bound, worked_hosts_are_tied,
+    worked_messages_are_cancelled,
+};
+pub use worked_ahead::{worked_asks_are_cancelled_ahead, worked_asks_are_written_ahead};
+pub use worked_lines::{worked_lines_are_kept, worked_numbers_rise, worked_pieces_are_numbered};
+pub use worked_links::{
+    worked_cancels_are_joined, worked_hosts_are_joined, worked_pieces_are_joined,
+    worked_recoveries_are_joined,
+};
 pub use worked_pieces::{worked_pieces_are_asked, worked_pieces_are_read};
 pub use worked_recoveries::{
-    worked_cancels_are_asked, worked_cancels_are_recovered, worked_halts_are_asked,
-    worked_halts_are_recovered, worked_requests_stay, worked_unlinks_tell_hits,
+    worked_asks_hand_over, worked_cancels_are_asked, worked_cancels_are_recovered,
+    worked_clears_stay, worked_halts_are_asked, worked_halts_are_recovered, worked_requests_stay,
+    worked_unlinks_tell_hits,
 };
 pub use worked_remotes::{worked_remote_tickets_are_read, worked_remote_tickets_are_tied};
 pub use worked_triggers::{worked_trigger_tickets_are_read, worked_trigger_tickets_are_tied};
-pub use worked_unplugging::worked_hosts_are_unplugged;
+pub use worked_unplugging::{
+    worked_asks_are_unplugged, worked_cancels_are_unplugged, worked_hosts_are_unplugged,
+};

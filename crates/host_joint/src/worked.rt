@@ -21,14 +21,14 @@ ghost use Rattle.host_joint.specs.Owned.{Owned};
 ghost use Rattle.host_joint.specs.Stage.{Ran};
 ghost use Rattle.host_joint.specs.Hand.{Free};
 ghost use Rattle.host_joint.specs.Tie.{Tie, IsOwned};
-ghost use Rattle.host_joint.specs.Bond.{Reading, Saying, Read, Bound};
-ghost use Rattle.host_joint.specs.WorkedTies.{telling, told, told_to, querying, queried, foreign, last_request};
+ghost use Rattle.host_joint.specs.Bond.{Reading, Saying, Read, Stands, ToAbortFirst, Bound};
+ghost use Rattle.host_joint.specs.WorkedTies.{telling, told, told_to, querying, queried, foreign, last_request, stopping, closing, closed_before};
 ghost use Rattle.host_joint.specs.WorkedAsks.{query_ask, read_ask, query_asked, foreign_ask};
 
 use crate::{
-    answers_are_the_expected, asking_stays, cancelled_answers_are_taken, cancelled_asks_own,
-    cancels_begin, messages_are_cancelled, pieces_have_no_fault, tickets_end, ties_begin, ties_own,
-    ties_stay, writes_keep_ties,
+    answers_are_the_expected, asking_stays, bonds_stay, cancelled_answers_are_taken,
+    cancelled_asks_own, cancels_begin, messages_are_cancelled, pieces_have_no_fault, tickets_end,
+    ties_begin, ties_own, ties_stay, writes_keep_ties,
 };
 use tmc_law::worked::{a_message_comes_in_parts, a_query_is_answered};
 use tmc_law::{
@@ -109,4 +109,17 @@ pub fn worked_cancels_are_bound()
     cancelled_answers_are_taken();
     cancelled_asks_own();
     pieces_have_no_fault();
+}
+
+/// A message is cancelled whose first transfer was not taken: where the unlink hit, and where Bulk-OUT halted before, that transfer is to be aborted,
+/// and no part of a message was taken.
+pub fn worked_messages_are_cancelled()
+    ensures stopped { Runs start stopping start × Bound (Saying 1 true false false) None [] 3 [] [] start × Bound (Stands (ToAbortFirst 1)) None [] 3 [] [] start }
+    ensures halted { Runs start closing closed_before × Bound (Saying 1 true false false) None [] 2 [] [] closed_before
+        × Bound (Stands (ToAbortFirst 1)) None [] 2 [] [] closed_before }
+{
+    ties_begin();
+    messages_are_cancelled();
+    bonds_stay();
+    worked_cancels_are_bound();
 }

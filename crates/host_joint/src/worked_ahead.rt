@@ -1,4 +1,4 @@
-//! An example ask whose request and read are written ahead. The function does nothing.
+//! Example asks whose request or read is written ahead. Each function does nothing.
 
 ghost use Rattle.std.specs.Prelude.{List, true, [], ◌∷◌, ◌++◌};
 ghost use Rattle.tmc_law.specs.State.{start};
@@ -7,16 +7,21 @@ ghost use Rattle.tmc_law.specs.Run.{Runs, inputs, outputs};
 ghost use Rattle.tmc_law.specs.WorkedQuery.{request_submit, response_submit, response_text, asking, answering};
 ghost use Rattle.tmc_law.specs.WorkedSession.{answered};
 ghost use Rattle.host_joint.specs.Asking.{Asking, Cancelled};
-ghost use Rattle.host_joint.specs.Positions.{IsAt, out_first};
+ghost use Rattle.host_joint.specs.Positions.{IsAt, out_begun, out_first};
 ghost use Rattle.host_joint.specs.Turns.{InTurn};
 ghost use Rattle.host_joint.specs.WorkedAsks.{query_ask};
-ghost use Rattle.host_joint.specs.WorkedAhead.{ahead_asked, ahead_unlinks, cancelling_ahead};
+ghost use Rattle.host_joint.specs.WorkedAhead.{ahead_asked, ahead_unlinks, cancelling_ahead, cancelling_request, cancelling_read};
+ghost use Rattle.host_joint.specs.WorkedPieces.{behind_first, first_data, spaces_job, last_job, request_job, asked_with};
+ghost use Rattle.host_joint.specs.WorkedTies.{told_to};
 
 use crate::{
-    answers_are_taken, answers_come_in_turn, asking_stays, asks_ahead_hand_over, asks_begin,
-    cancelled_asks_stay, messages_are_written,
+    answers_are_taken, answers_come_in_turn, asking_stays, asks_ahead_hand_over,
+    asks_are_settled_late, asks_begin, cancelled_asks_stay, messages_are_written,
+    worked_pieces_are_asked,
 };
-use tmc_law::worked::a_query_is_answered;
+use tmc_law::runs_join;
+use tmc_law::worked::{a_message_comes_in_parts, a_query_is_answered};
+use tmc_wire::headers_are_read_again;
 
 /// A query is in hand when its request and its read were written behind it at once, and its answers come in turn. One whose two transfers
 /// were unlinked before a packet was taken is cancelled until both unlinks were answered, and leaves a Bulk-OUT transfer with the
@@ -38,4 +43,24 @@ pub fn worked_asks_are_written_ahead()
     answers_are_taken();
     answers_come_in_turn();
     asks_ahead_hand_over();
+}
+
+/// Where the request of a message of two transfers was unlinked before it was taken, the ask leaves a Bulk-OUT transfer with its tag to abort. Where a
+/// read was left over behind the first piece, and its unlink was answered, the ask goes on as if it had never been written.
+pub fn worked_asks_are_cancelled_ahead()
+    ensures request { Runs told_to cancelling_request told_to
+        × Asking (record (asked_with 3 (spaces_job ∷ last_job ∷ request_job ∷ []) 2 []) { gone = true }) [] [] told_to }
+    ensures left { IsAt (out_begun 3) told_to }
+    ensures read { Runs behind_first cancelling_read behind_first × Asking (record (asked_with 4 [] 0 first_data) { gone = true }) [] [] behind_first }
+    ensures again { Asking (asked_with 4 [] 0 first_data) [] [] behind_first }
+{
+    a_message_comes_in_parts();
+    runs_join();
+    headers_are_read_again();
+    messages_are_written();
+    cancelled_asks_stay();
+    answers_are_taken();
+    asks_ahead_hand_over();
+    asks_are_settled_late();
+    worked_pieces_are_asked();
 }

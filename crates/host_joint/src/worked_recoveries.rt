@@ -23,18 +23,19 @@ ghost use Rattle.host_joint.specs.WorkedLines.{one_asked};
 ghost use Rattle.tmc_base.specs.declared.field.Field.{Field};
 ghost use Rattle.tmc_law.specs.Step.{IsOver};
 ghost use Rattle.host_joint.specs.Owned.{Owned};
-ghost use Rattle.host_joint.specs.Positions.{IsAt, in_begun, in_wants};
+ghost use Rattle.host_joint.specs.Positions.{IsAt, rests, in_begun, in_wants, out_first, anything};
 ghost use Rattle.host_joint.specs.Lines.{Gives};
-ghost use Rattle.host_joint.specs.Requests.{RequestAt, in_aborts, in_fails};
+ghost use Rattle.host_joint.specs.Requests.{RequestAt, in_aborts, in_fails, begins_clear, never};
 ghost use Rattle.host_joint.specs.Drains.{DrainAt};
-ghost use Rattle.host_joint.specs.WorkedRecoveries.{reading_rest, halting_second, halted_inside, aborting_none, freeing, usable_again, clearing_halted, checking_clear, freeing_out, freeing_in, cleared_log, cleared_at_last, cancelling_second, cancelled_inside, aborting_second, draining, checking_second, abort_submit, wanting, drained};
+ghost use Rattle.host_joint.specs.WorkedRecoveries.{reading_rest, halting_second, halted_inside, aborting_none, freeing, usable_again, clearing_halted, checking_clear, freeing_out, freeing_in, cleared_log, cleared_at_last, cancelling_second, cancelled_inside, aborting_second, draining, checking_second, abort_submit, clear_submit, wanting, wanting_halted, drained, clearing_all};
 
 use crate::{
     answers_are_taken, answers_come_in_turn, asking_stays, asks_are_settled_late, asks_hand_over,
     bonds_stay, cancelled_answers_are_taken, cancelled_asks_own, cancelled_asks_stay,
     cancels_begin, devices_rest, drains_stay, messages_are_written, no_submit_is_refused,
     recoveries_end, recoveries_go_on, requests_stay, unlinks_tell_hits, what_is_read_is_owned,
-    worked_cancels_are_bound, worked_pieces_are_asked, worked_pieces_are_read, writes_keep_ties,
+    worked_asks_are_cancelled_ahead, worked_cancels_are_bound, worked_pieces_are_asked,
+    worked_pieces_are_read, writes_keep_ties,
 };
 use tmc_law::runs_join;
 
@@ -155,4 +156,35 @@ pub fn worked_requests_stay()
     drains_stay();
     devices_rest();
     asks_are_settled_late();
+}
+
+/// The clear behind that halt is on its way, pending and answered; at its end an ask under a new number finds the device at rest. Where
+/// Bulk-IN halts before the packet of an abort is read, that read is answered so, and the abort still wants its packet. A device
+/// that still clears is not at rest.
+pub fn worked_clears_stay()
+    ensures clear { RequestAt (clear_submit 7) anything begins_clear never [] (Gives (clear_submit 7) (record { seqnum = 7; status = success; actual = 1 }) (0x01 ∷ []) ∷ []) clearing_all }
+    ensures rest { AtRest 11 cleared_at_last }
+    ensures halted { DrainAt (in_submit 9 4096) [] (Gives (in_submit 9 4096) (record { seqnum = 9; status = stalled; actual = 0 }) [] ∷ []) wanting_halted
+        × IsAt in_wants wanting_halted }
+    ensures early { AtRest 11 clearing_all → ⊥ }
+{
+    runs_join();
+    worked_pieces_are_read();
+    requests_stay();
+    drains_stay();
+    devices_rest();
+}
+
+/// What the ask of two pieces leaves to a recovery before its pieces: nothing where its message was taken whole, and a Bulk-OUT transfer to abort where
+/// its request was unlinked before it was taken. Where Bulk-IN halted in the middle of the second piece a clear may begin. Where that
+/// piece is being sent, the device is not at rest.
+pub fn worked_asks_hand_over()
+    ensures message { IsAt rests told_to }
+    ensures request { IsAt (out_first 3) told_to }
+    ensures clear { IsAt anything halted_inside }
+    ensures sending { IsAt rests cancelled_inside → ⊥ }
+{
+    asks_hand_over();
+    worked_pieces_are_asked();
+    worked_asks_are_cancelled_ahead();
 }

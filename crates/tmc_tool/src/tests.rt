@@ -7,7 +7,7 @@ use std::alloc::{AllocError, Global};
 use std::io;
 use std::process::ExitCode;
 use std::test::Fail;
-use tmc_base::{MemSink, MemSource, Memory, read_all};
+use tmc_base::{MemSink, MemSource, ReadFault, read_all};
 
 const OPERATION_COMPLETE: &str = "\
 hub running
@@ -104,14 +104,31 @@ d 000102030405060708090a0b0c0d0e0f101112131415161718191a1b1c1d1e1f
 d 202122232425262728292a2b2c2d2e0a
 ";
 
-/// The program over a source that gives at most `most` bytes a read, and an ample sink.
-fn run(alloc: Global, word: &str, input: &[u8], most: usize) -> Result<(u8, MemSink), Memory>
+/// The status of a call of the program.
+fn call(
+    alloc: Global,
+    words: &str,
+    source: &mut MemSource,
+    sink: &mut MemSink,
+) -> Result<u8, AllocError> {
+    Ok(tool_main(alloc, &words_of(alloc, words)?, source, sink))
+}
+
+/// The bytes that a source has left, which are read to their end.
+fn left_in(alloc: Global, source: &mut MemSource) -> Result<usize, ReadFault> {
+    Ok(read_all(alloc, source)?.len())
+}
+
+/// The program over a source that gives at most `most` bytes a read, and an ample sink: the status, what was printed, and
+/// the number of bytes that were not read.
+fn run(alloc: Global, words: &str, input: &[u8], most: usize) -> Result<(u8, Vec<u8>, usize), Fail>
     requires { 0 < most }
 {
     let mut source = MemSource::new(Vec::from_slice(alloc, input)?, most, Vec::new(alloc));
     let mut sink = MemSink::new(alloc, 65_536, 65_536, Vec::new(alloc))?;
-    let status = tool_main(alloc, &words_of(alloc, word)?, &mut source, &mut sink);
-    Ok((status, sink))
+    let status = call(alloc, words, &mut source, &mut sink)?;
+    let text = Vec::from_slice(alloc, sink.bytes())?;
+    Ok((status, text, left_in(alloc, &mut source)?))
 }
 
 fn bytes_of(alloc: Global, text: &str) -> Result<Vec<u8>, AllocError> {
@@ -136,9 +153,9 @@ fn asks_with_and_without_an_nl(rt: HostRuntime) -> Result<(), Fail> {
         ("*ESE 32;*ESE?;*STB?\n", ENABLED),
         ("READ? 47\n", SAMPLES),
     ] {
-        let (status, sink) = run(rt.alloc(), "ask", input.as_bytes(), 3)?;
+        let (status, text, _) = run(rt.alloc(), "ask", input.as_bytes(), 3)?;
         assert_eq!(rt; status, 0, "{input:?}");
-        assert_eq!(rt; sink.bytes(), want.as_bytes(), "{input:?}");
+        assert_eq!(rt; text.as_slice(), want.as_bytes(), "{input:?}");
     }
     Ok(())
 }
@@ -153,10 +170,10 @@ fn tells_the_whole_response(rt: HostRuntime) -> Result<(), Fail> {
         ("CONF 3;READ? 2", "6 23313215160a"),
         ("*IDN?;*OPC?", "19 4558414d504c452c544d43312c302c312e300a"),
     ] {
-        let (status, sink) = run(alloc, "ask", input.as_bytes(), 64)?;
+        let (status, text, _) = run(alloc, "ask", input.as_bytes(), 64)?;
         let want = format!(in alloc; " bytes {response} outcome Complete\n")?;
         assert_eq!(rt; status, 0, "{input:?}");
-        assert!(rt; holds(sink.bytes(), want.as_bytes()), "{input:?}");
+        assert!(rt; holds(text.as_slice(), want.as_bytes()), "{input:?}");
     }
     Ok(())
 }
@@ -178,9 +195,9 @@ fn refuses_what_cannot_be_asked(rt: HostRuntime) -> Result<(), Fail> {
         ("*IDN?\n\n", "refused line 2 Words\n"),
         ("*IDN?\nmore lines behind it", "refused line 2 Words\n"),
     ] {
-        let (status, sink) = run(rt.alloc(), "ask", input.as_bytes(), 1)?;
+        let (status, text, _) = run(rt.alloc(), "ask", input.as_bytes(), 1)?;
         assert_eq!(rt; status, 2, "{input:?}");
-        assert_eq!(rt; sink.bytes(), want.as_bytes(), "{input:?}");
+        assert_eq!(rt; text.as_slice(), want.as_bytes(), "{input:?}");
     }
     Ok(())
 }
@@ -200,9 +217,9 @@ fn knows_no_other_words(rt: HostRuntime) -> Result<(), Fail> {
         "show down up",
         "up show",
     ] {
-        let (status, sink) = run(rt.alloc(), words, b"phase op\n", 1)?;
+        let (status, text, _) = run(rt.alloc(), words, b"phase op\n", 1)?;
         assert_eq!(rt; status, 1, "{words:?}");
-        assert_eq!(rt; sink.bytes(), b"usage\n".as_slice(), "{words:?}");
+        assert_eq!(rt; text.as_slice(), b"usage\n".as_slice(), "{words:?}");
     }
     Ok(())
 }
@@ -223,10 +240,10 @@ fn judges_a_line_by_its_size(rt: HostRuntime) -> Result<(), Fail> {
         let mut input = bytes_of(alloc, start)?;
         input.extend_from_slice(&spaces[..count])?;
         input.extend_from_slice(end.as_bytes())?;
-        let (status, sink) = run(alloc, "ask", &input, 4_096)?;
+        let (status, text, _) = run(alloc, "ask", &input, 4_096)?;
         assert_eq!(rt; status, want_status, "{start:?} {count} {end:?}");
         assert!(rt;
-            sink.bytes().starts_with(want.as_bytes()),
+            text.as_slice().starts_with(want.as_bytes()),
             "{start:?} {count} {end:?}"
         );
     }
@@ -239,8 +256,7 @@ fn failed_read_prints_nothing(rt: HostRuntime) -> Result<(), Fail> {
     let fails = [1].to_vec(alloc)?;
     let mut source = MemSource::new(bytes_of(alloc, "*IDN?\n")?, 64, fails);
     let mut sink = MemSink::new(alloc, 4_096, 4_096, Vec::new(alloc))?;
-    let words = words_of(alloc, "ask")?;
-    assert_eq!(rt; tool_main(alloc, &words, &mut source, &mut sink), 3);
+    assert_eq!(rt; call(alloc, "ask", &mut source, &mut sink)?, 3);
     assert_eq!(rt; sink.bytes(), b"".as_slice());
     Ok(())
 }
@@ -251,8 +267,7 @@ fn failed_write_leaves_a_front(rt: HostRuntime) -> Result<(), Fail> {
     let mut source = MemSource::new(bytes_of(alloc, "*IDN?\n")?, 64, Vec::new(alloc));
     let fails = [2].to_vec(alloc)?;
     let mut sink = MemSink::new(alloc, 4_096, 16, fails)?;
-    let words = words_of(alloc, "ask")?;
-    assert_eq!(rt; tool_main(alloc, &words, &mut source, &mut sink), 4);
+    assert_eq!(rt; call(alloc, "ask", &mut source, &mut sink)?, 4);
     assert_eq!(rt; sink.bytes(), b"hub running\nserv".as_slice());
     Ok(())
 }
@@ -327,9 +342,9 @@ fn shows_one_direction(rt: HostRuntime) -> Result<(), Fail> {
         ("show down", WRONG_NUMBER, "bad urb seqnum 4\n"),
         ("show down", TOO_MUCH, "bad urb actual_length 24\n"),
     ] {
-        let (status, sink) = run(rt.alloc(), words, script.as_bytes(), 3)?;
+        let (status, text, _) = run(rt.alloc(), words, script.as_bytes(), 3)?;
         assert_eq!(rt; status, 0, "{script:?}");
-        assert_eq!(rt; sink.bytes(), want.as_bytes(), "{script:?}");
+        assert_eq!(rt; text.as_slice(), want.as_bytes(), "{script:?}");
     }
     Ok(())
 }
@@ -362,9 +377,9 @@ fn refuses_a_line_of_a_script(rt: HostRuntime) -> Result<(), Fail> {
         ),
         ("show down", SEVENTEEN, "refused line 18 TooMany\n"),
     ] {
-        let (status, sink) = run(rt.alloc(), words, script.as_bytes(), 64)?;
+        let (status, text, _) = run(rt.alloc(), words, script.as_bytes(), 64)?;
         assert_eq!(rt; status, 2, "{script:?}");
-        assert_eq!(rt; sink.bytes(), want.as_bytes(), "{script:?}");
+        assert_eq!(rt; text.as_slice(), want.as_bytes(), "{script:?}");
     }
     Ok(())
 }
@@ -379,16 +394,15 @@ fn shows_a_long_script(rt: HostRuntime) -> Result<(), Fail> {
         want.extend_from_slice(b"devlist\n")?;
     }
     want.extend_from_slice(b"more 0\n")?;
-    let (status, sink) = run(alloc, "show up", &script, 4_096)?;
+    let (status, text, _) = run(alloc, "show up", &script, 4_096)?;
     assert_eq!(rt; status, 0);
-    assert_eq!(rt; sink.bytes(), want.as_slice());
+    assert_eq!(rt; text.as_slice(), want.as_slice());
     Ok(())
 }
 
 #[test]
 fn reads_no_more_than_a_script_has(rt: HostRuntime) -> Result<(), Fail> {
     let alloc = rt.alloc();
-    let words = words_of(alloc, "show up")?;
     let mut lines = bytes_of(alloc, "phase op\n")?;
     let mut unknown = Vec::new(alloc);
     for _ in 0..70_000 {
@@ -402,21 +416,15 @@ fn reads_no_more_than_a_script_has(rt: HostRuntime) -> Result<(), Fail> {
         ended.push(if place == 17_000 { b'\n' } else { b'y' })?;
     }
     for (script, want) in [
-        (&lines, "refused line 65537 TooMany\n"),
-        (&unknown, "refused line 1 Unknown\n"),
-        (&long, "refused line 1 TooLong\n"),
-        (&ended, "refused line 1 TooLong\n"),
+        (lines.as_slice(), "refused line 65537 TooMany\n"),
+        (unknown.as_slice(), "refused line 1 Unknown\n"),
+        (long.as_slice(), "refused line 1 TooLong\n"),
+        (ended.as_slice(), "refused line 1 TooLong\n"),
     ] {
-        let mut source = MemSource::new(Vec::from_slice(alloc, script)?, 4_096, Vec::new(alloc));
-        let mut sink = MemSink::new(alloc, 4_096, 4_096, Vec::new(alloc))?;
-        assert_eq!(rt;
-            tool_main(alloc, &words, &mut source, &mut sink),
-            2,
-            "{want:?}"
-        );
-        assert_eq!(rt; sink.bytes(), want.as_bytes());
-        let left = read_all(alloc, &mut source)?;
-        assert!(rt; left.len() > 0, "{want:?}");
+        let (status, text, left) = run(alloc, "show up", script, 4_096)?;
+        assert_eq!(rt; status, 2, "{want:?}");
+        assert_eq!(rt; text.as_slice(), want.as_bytes());
+        assert!(rt; left > 0, "{want:?}");
     }
     Ok(())
 }
@@ -424,11 +432,10 @@ fn reads_no_more_than_a_script_has(rt: HostRuntime) -> Result<(), Fail> {
 #[test]
 fn failed_read_shows_nothing(rt: HostRuntime) -> Result<(), Fail> {
     let alloc = rt.alloc();
-    let words = words_of(alloc, "show up")?;
     let fails = [3].to_vec(alloc)?;
     let mut source = MemSource::new(bytes_of(alloc, IMPORT)?, 4, fails);
     let mut sink = MemSink::new(alloc, 4_096, 4_096, Vec::new(alloc))?;
-    assert_eq!(rt; tool_main(alloc, &words, &mut source, &mut sink), 3);
+    assert_eq!(rt; call(alloc, "show up", &mut source, &mut sink)?, 3);
     assert_eq!(rt; sink.bytes(), b"".as_slice());
     Ok(())
 }
@@ -436,36 +443,45 @@ fn failed_read_shows_nothing(rt: HostRuntime) -> Result<(), Fail> {
 #[test]
 fn failed_write_shows_a_front(rt: HostRuntime) -> Result<(), Fail> {
     let alloc = rt.alloc();
-    let words = words_of(alloc, "show up")?;
     let mut source = MemSource::new(bytes_of(alloc, IMPORT)?, 64, Vec::new(alloc));
     let fails = [2].to_vec(alloc)?;
     let mut sink = MemSink::new(alloc, 4_096, 8, fails)?;
-    assert_eq!(rt; tool_main(alloc, &words, &mut source, &mut sink), 4);
+    assert_eq!(rt; call(alloc, "show up", &mut source, &mut sink)?, 4);
     assert_eq!(rt; sink.bytes(), b"import 3".as_slice());
     Ok(())
 }
 
-/// The exit code of a call over `*OPC?` and an ample sink, and what it printed.
+/// The exit code of a call over `*OPC?` and an ample sink, what it printed, and the number of bytes that were not read.
 fn exit(
     alloc: Global,
     words: Result<Vec<String>, WordsFault>,
-) -> Result<(ExitCode, MemSource, MemSink), Memory> {
+) -> Result<(ExitCode, Vec<u8>, usize), Fail> {
     ask_limits_are_the_products();
     let mut source = MemSource::new(bytes_of(alloc, "*OPC?")?, 64, Vec::new(alloc));
     let mut sink = MemSink::new(alloc, 4_096, 4_096, Vec::new(alloc))?;
-    let code = tool_exit(alloc, words, &mut source, &mut sink);
-    Ok((code, source, sink))
+    let code = exit_over(alloc, words, &mut source, &mut sink);
+    let text = Vec::from_slice(alloc, sink.bytes())?;
+    Ok((code, text, left_in(alloc, &mut source)?))
+}
+
+fn exit_over(
+    alloc: Global,
+    words: Result<Vec<String>, WordsFault>,
+    source: &mut MemSource,
+    sink: &mut MemSink,
+) -> ExitCode {
+    tool_exit(alloc, words, source, sink)
 }
 
 #[test]
 fn exit_code_is_the_status(rt: HostRuntime) -> Result<(), Fail> {
     let alloc = rt.alloc();
-    let (code, _, sink) = exit(alloc, Ok(words_of(alloc, "ask")?))?;
+    let (code, text, _) = exit(alloc, Ok(words_of(alloc, "ask")?))?;
     assert_eq!(rt; code, ExitCode::from(0));
-    assert_eq!(rt; sink.bytes(), OPERATION_COMPLETE.as_bytes());
-    let (code, _, sink) = exit(alloc, Ok(words_of(alloc, "show up")?))?;
+    assert_eq!(rt; text.as_slice(), OPERATION_COMPLETE.as_bytes());
+    let (code, text, _) = exit(alloc, Ok(words_of(alloc, "show up")?))?;
     assert_eq!(rt; code, ExitCode::from(2));
-    assert_eq!(rt; sink.bytes(), b"refused line 1 Unknown\n".as_slice());
+    assert_eq!(rt; text.as_slice(), b"refused line 1 Unknown\n".as_slice());
     Ok(())
 }
 
@@ -474,10 +490,10 @@ fn word_that_is_no_text_is_a_faulty_command_line(rt: HostRuntime) -> Result<(), 
     let alloc = rt.alloc();
     let fault = WordsFault::from(io::Error::from(io::ErrorKind::InvalidData));
     assert_eq!(rt; fault, WordsFault::NotText);
-    let (code, mut source, sink) = exit(alloc, Err(fault))?;
+    let (code, text, left) = exit(alloc, Err(fault))?;
     assert_eq!(rt; code, ExitCode::from(1));
-    assert_eq!(rt; sink.bytes(), b"usage\n".as_slice());
-    assert_eq!(rt; read_all(alloc, &mut source)?.len(), 5, "nothing was read");
+    assert_eq!(rt; text.as_slice(), b"usage\n".as_slice());
+    assert_eq!(rt; left, 5, "nothing was read");
     Ok(())
 }
 
@@ -486,10 +502,10 @@ fn want_of_memory_for_the_words_leaves_5(rt: HostRuntime) -> Result<(), Fail> {
     let alloc = rt.alloc();
     let fault = WordsFault::from(io::Error::from(io::ErrorKind::OutOfMemory));
     assert_eq!(rt; fault, WordsFault::from(AllocError));
-    let (code, mut source, sink) = exit(alloc, Err(fault))?;
+    let (code, text, left) = exit(alloc, Err(fault))?;
     assert_eq!(rt; code, ExitCode::from(5));
-    assert_eq!(rt; sink.bytes(), b"".as_slice());
-    assert_eq!(rt; read_all(alloc, &mut source)?.len(), 5, "nothing was read");
+    assert_eq!(rt; text.as_slice(), b"".as_slice());
+    assert_eq!(rt; left, 5, "nothing was read");
     Ok(())
 }
 
