@@ -4,3 +4,5 @@ pub mod Following
 pub mod Moving
 pub mod Showing
 pub mod Bounded
+pub mod Leading
+pub mod Turning

@@ -4,3 +4,6 @@ pub mod Crossing
 pub mod Telling
 pub mod LoopLink
 pub mod Resting
+pub mod World
+pub mod WorldSteps
+pub mod WorldEvents

@@ -1,9 +1,11 @@
 //! The instrument in memory, at the other end of a link.
 //!
 //! A [`LoopLink`] is a link that holds the instrument's node, what was sent to it and what was taken from it. It always
-//! tells its run: what is told is a lawful run of the instrument from power-on, and fits the bytes sent and taken.
+//! tells its run: what is told is a lawful run of the instrument from power-on, and fits the bytes sent and taken. A [`World`]
+//! is a hub over such a link, whose events are those of a script.
 #![tactic(auto)]
 
+mod applied;
 mod history;
 mod line;
 mod loop_act;
@@ -13,8 +15,13 @@ mod resting;
 mod tally;
 #[cfg(test)]
 mod tests;
+mod world;
+#[cfg(test)]
+mod world_tests;
 
+pub use applied::Applied;
 pub use loop_act::LoopAct;
 pub use loop_link::LoopLink;
 pub use resting::instruments_come_to_rest;
 pub use usbip_export::{DevEvent, Log, LogEntry};
+pub use world::World;

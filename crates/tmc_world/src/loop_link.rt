@@ -1,9 +1,10 @@
-ghost use Rattle.std.specs.Prelude.{◌≡◌, ◌<◌, ◌≤◌, [], false, length, take, IfOk};
+ghost use Rattle.std.specs.Prelude.{◌≡◌, ◌≢◌, ◌⊎◌, ◌↔◌, ◌<◌, ◌≤◌, [], false, length, take, IfOk, IsTrue};
 ghost use Rattle.tmc_base.specs.Link.{got_count, SendCounts, PollCounts};
 ghost use Rattle.usbip_export.specs.Seen.{standing};
 ghost use Rattle.tmc_world.specs.declared.pace.Pace.TheVariants as pace;
 ghost use Rattle.tmc_world.specs.declared.loop_act.LoopAct.TheVariants as act;
 ghost use Rattle.usbip_export.specs.Events.{IsCalm};
+ghost use Rattle.tmc_world.specs.Crossing.{IsShut};
 ghost use Rattle.tmc_world.specs.LoopLink.{begun_loop, IsTold, Sends, Polls, PollEnds, Readies, MayHaveMoved, HasMoved, ActEnds, Tends};
 
 use crate::LoopAct;
@@ -104,6 +105,20 @@ impl LoopLink {
         ensures told { IsTold self.now }
     {
         self.line.log()
+    }
+
+    /// Whether a byte waits to be taken, or the node is closed.
+    pub(crate) fn has_more(&self) -> bool
+        ensures { IsTrue result ↔ ((self.now.node.out ≢ []) ⊎ IsShut self.now.node) }
+    {
+        self.line.waiting() > 0 || self.line.closed()
+    }
+
+    /// Whether something in the node waits for memory.
+    pub(crate) fn is_late(&self) -> bool
+        ensures { result ≡ self.now.late }
+    {
+        self.line.is_late()
     }
 
     /// What the link tells is so at any time. Does nothing.

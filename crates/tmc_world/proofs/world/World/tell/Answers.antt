@@ -1,0 +1,15 @@
+use Rattle.std.proofs.Common.{sym, subst}
+use Rattle.event_text.specs.declared.event.Event.TheVariants as event
+use Rattle.tmc_world.specs.declared.applied.Applied.{Applied}
+use Rattle.tmc_world.specs.World.{begun, setting_of, tells}
+use Rattle.tmc_world.specs.WorldEvents.{LeadsTo}
+use Rattle.tmc_world.specs.WorldSteps.{asking_of_tell}
+use Rattle.tmc_world.proofs.Leading.{asks_lead}
+use Rattle.tmc_world.proofs.world.World.tell.Goals as goal
+
+pub returns : goal.returns
+returns c = λ first depth old b.
+    subst (λ (x : Applied). LeadsTo first depth (event.Tell c.args.session c.args.message.now) old x c.tell.new.self) (sym c.asked.ensures)
+    (asks_lead first depth (asking_of_tell c.args.session c.args.message.now) (event.Tell c.args.session c.args.message.now) old
+    c.args.self.now.hub c.tell.new.self c.tell.result (λ said next a. a) (λ next w. w) b c.tell.ensures.link
+    (c.tell.ensures.asks (tells begun.link) (setting_of first depth) old.past old.link.sent old.link.taken b.behind))
