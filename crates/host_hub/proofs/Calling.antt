@@ -1,5 +1,5 @@
 -- the calls of a link in a turn
-use Rattle.std.proofs.Common.{◌≡◌, ◌≢◌, ◌∙◌, ◌⊎◌, ◌<◌, ℕ, inl, inr, true, false, List, [], ◌∷◌, ◌++◌, length, take, Option, Some, None, refl, sym, subst, arith, append-nil}
+use Rattle.std.proofs.Common.{◌≡◌, ◌≢◌, ◌∙◌, ◌⊎◌, ◌<◌, ℕ, inl, inr, true, false, List, [], ◌∷◌, ◌++◌, length, take, Option, Some, None, refl, sym, ap, subst, arith, append-nil}
 use Rattle.std.specs.Prelude.{◌==◌}
 use Rattle.tmc_base.specs.declared.link.PollStep.{PollStep}
 use Rattle.tmc_base.specs.declared.link.PollStep.TheVariants as poll
@@ -7,15 +7,18 @@ use Rattle.tmc_base.specs.declared.link.SendStep.{SendStep}
 use Rattle.tmc_base.specs.declared.link.SendStep.TheVariants as send
 use Rattle.tmc_base.specs.Faults.{Rose}
 use Rattle.host_hub.specs.declared.hub_core.HubCore.{HubCore}
-use Rattle.tmc_base.specs.Link.{Counts}
+use Rattle.tmc_base.specs.Link.{Counts, PollsWithin, got_count, took_count}
 use Rattle.tmc_base.specs.Told.{Told}
 use Rattle.host_hub.specs.declared.outcome.End.{End}
 use Rattle.host_hub.specs.declared.outcome.End.TheVariants as end
+use Rattle.host_hub.specs.declared.answers.Turn.{Turn}
+use Rattle.host_hub.specs.declared.answers.Turn.TheVariants as turn
 use Rattle.host_hub.specs.Behind.{Account}
-use Rattle.host_hub.specs.HubCalls.{EndsSend, PollsOnce, SendsOn, SendsOnce, TurnsOn, said_by, said_of, sent_count}
+use Rattle.host_hub.specs.HubCalls.{EndsPoll, EndsSend, IsAnswer, IsIdleSend, KeepsPoll, KeepsSend, KeepsTurn, PollsOnce, SendsOn, SendsOnce, TurnsOn, WithinSend, came_count, said_by, said_of, sent_count}
 use Rattle.host_hub.specs.Order.{Setting}
 use Rattle.host_hub.specs.Record.{Past}
 use Rattle.host_hub.specs.Tied.{Failed}
+use Rattle.host_hub.proofs.Turns.{counted}
 
 pub rose_some : (old new : ℕ) → Rose old new → new ≢ 0
 rose_some old new r e = omega (arith, r.0, e)
@@ -88,3 +91,37 @@ same_said (Some (send.Took n)) step ends = refl
 same_said (Some send.Idle) step ends = refl
 same_said (Some send.Failed) step ends = no_some end.LinkFault ends
 same_said (Some send.Memory) step ends = refl
+
+-- ---- a turn that moves no byte
+
+same_send : (sent : Option SendStep) (offered : ℕ) (old new : HubCore) → WithinSend sent offered → EndsSend sent None → sent_count sent ≡ 0 → KeepsSend sent old new → new ≡ old
+same_send None offered old new within ends none keeps = keeps
+same_send (Some (send.Took n)) offered old new within ends none keeps = absurd (omega (arith, within.0, none))
+same_send (Some send.Idle) offered old new within ends none keeps = keeps
+same_send (Some send.Failed) offered old new within ends none keeps = no_some end.LinkFault ends
+same_send (Some send.Memory) offered old new within ends none keeps = keeps
+
+same_poll : (step : PollStep) (over : Option End) (old new : HubCore) → PollsWithin step 8192 → EndsPoll step over → over ≡ None → got_count step ≡ 0 → KeepsPoll step old new → new ≡ old
+same_poll (poll.Got n) over old new within ends runs none keeps = absurd (omega (arith, within.0, none))
+same_poll poll.Idle over old new within ends runs none keeps = keeps
+same_poll poll.Closed over old new within ends runs none keeps = no_some end.Unplugged (sym runs ∙ ends)
+same_poll poll.Failed over old new within ends runs none keeps = no_some end.LinkFault (sym runs ∙ ends)
+same_poll poll.Memory over old new within ends runs none keeps = keeps
+
+idle_count : (sent : Option SendStep) → IsIdleSend sent → sent_count sent ≡ 0
+idle_count None idle = refl
+idle_count (Some step) idle = ap took_count idle
+
+same_but_turned : (old new : HubCore) (n : ℕ) → new ≡ counted old n → new ≡ counted old new.turned
+same_but_turned old new n same = same ∙ ap (λ (t : ℕ). counted old t) (sym (ap (λ (core : HubCore). core.turned) same))
+
+pub keeps_turn : (answer : Turn) (sent : Option SendStep) (step : PollStep) (offered : ℕ) (old between new : HubCore) (n : ℕ) → IsAnswer answer new.end sent (Some step)
+    → WithinSend sent offered → PollsWithin step 8192 → EndsSend sent None → EndsPoll step new.end → KeepsSend sent (counted old n) between → KeepsPoll step between new → KeepsTurn answer old new
+keeps_turn turn.Moved sent step offered old between new n is sending polling sent_well polled_well first then = tt
+keeps_turn (turn.Ended e) sent step offered old between new n is sending polling sent_well polled_well first then = tt
+keeps_turn turn.Idle sent step offered old between new n is sending polling sent_well polled_well first then =
+    same_but_turned old new n
+    (same_poll step new.end between new polling polled_well is.0 (ap came_count is.2) then ∙ same_send sent offered (counted old n) between sending sent_well (idle_count sent is.1) first)
+keeps_turn turn.Memory sent step offered old between new n is sending polling sent_well polled_well first then =
+    same_but_turned old new n
+    (same_poll step new.end between new polling polled_well is.0 (omega (arith, is.1)) then ∙ same_send sent offered (counted old n) between sending sent_well (omega (arith, is.1)) first)

@@ -128,6 +128,29 @@ EndsPoll poll.Closed ended = ended ≡ Some end.Unplugged
 EndsPoll (poll.Got n) ended = Unit {0}
 EndsPoll step ended = ended ≡ None
 
+-- and behind both, where the second was made
+abbrev pub EndsTurn : Option SendStep → Option PollStep → Option End → Type 0
+EndsTurn sent None ended = EndsSend sent ended
+EndsTurn sent (Some step) ended = EndsSend sent None × EndsPoll step ended
+
+-- a call that moved no byte, and did not end the hub, leaves it as it was
+abbrev pub KeepsSend : Option SendStep → (old new : HubCore) → Type 0
+KeepsSend None old new = new ≡ old
+KeepsSend (Some send.Idle) old new = new ≡ old
+KeepsSend (Some send.Memory) old new = new ≡ old
+KeepsSend step old new = Unit {0}
+
+abbrev pub KeepsPoll : PollStep → (old new : HubCore) → Type 0
+KeepsPoll poll.Idle old new = new ≡ old
+KeepsPoll poll.Memory old new = new ≡ old
+KeepsPoll step old new = Unit {0}
+
+-- so a turn that says that no byte moved counts itself, and changes nothing else
+abbrev pub KeepsTurn : Turn → (old new : HubCore) → Type 0
+KeepsTurn turn.Idle old new = new ≡ record old { turned = new.turned }
+KeepsTurn turn.Memory old new = new ≡ record old { turned = new.turned }
+KeepsTurn answer old new = Unit {0}
+
 -- where a hub runs behind its calls of the link, none of them failed or found the link closed; and each step says how much moved
 pub record CanAnswer (ended : Option End) (sent : Option SendStep) (came : PollStep) : Type 0 where
   pub sending : EndsSend sent None
@@ -153,6 +176,7 @@ pub record Sends {A : Type 0} (tells : A → Told) (counts : A → Counts) (send
   pub within : WithinSend sent (length old.core.urbs.outbox)
   pub counted : CountsSend sent (counts old.link) (counts new.link)
   pub ends : EndsSend sent new.core.end
+  pub keeps : KeepsSend sent old.core new.core
   pub births : births_of new.core ≡ births_of old.core
   pub goes : (start : Told) (s : Setting) (past : Past) (before received : List ℕ) → Behind tells counts start s past before received old
       → SendsOn sent start (tells new.link) (counts new.link) s past before received old.core.urbs.outbox new.core
@@ -164,6 +188,7 @@ pub record Polls {A : Type 0} (tells : A → Told) (counts : A → Counts) (poll
   pub within : PollsWithin came 8192
   pub counted : PollCounts came (counts old.link) (counts new.link)
   pub ends : EndsPoll came new.core.end
+  pub keeps : KeepsPoll came old.core new.core
   pub births : births_of new.core ≡ births_of old.core
   pub goes : (start : Told) (s : Setting) (past : Past) (before received : List ℕ) → Behind tells counts start s past before received old
       → TurnsOn start (tells new.link) (counts new.link) s past before (received ++ bytes) (said_of came) new.core
@@ -179,6 +204,8 @@ pub record Turns {A : Type 0} (tells : A → Told) (counts : A → Counts) (send
   pub send_counts : CountsSend sent (counts old.link) (counts between)
   pub poll_counts : CountsPoll came (counts between) (counts new.link)
   pub answers : IsAnswer answer new.core.end sent came
+  pub ends : EndsTurn sent came new.core.end
+  pub keeps : KeepsTurn answer old.core new.core
   pub births : HasTurned (births_of old.core) (births_of new.core)
   pub turns : (start : Told) (s : Setting) (past : Past) (before received : List ℕ) → Behind tells counts start s past before received old
       → TurnsOn start (tells new.link) (counts new.link) s past (before ++ take (sent_count sent) old.core.urbs.outbox) (received ++ bytes) (said_by sent came) new.core

@@ -2,7 +2,7 @@ use Rattle.std.proofs.Common.{◌++◌, [], refl, sym, subst, take}
 use Rattle.tmc_base.specs.declared.link.PollStep.{PollStep}
 use Rattle.tmc_base.specs.Link.{got_count}
 use Rattle.tmc_base.specs.Told.{CameIn}
-use Rattle.host_hub.specs.HubCalls.{EndsPoll, TurnsOn, said_of}
+use Rattle.host_hub.specs.HubCalls.{EndsPoll, KeepsPoll, TurnsOn, said_of}
 use Rattle.host_hub.proofs.Calling.{either_poll, neither_poll, rose_some}
 use Rattle.host_hub.proofs.Entering.{same_births}
 use Rattle.host_hub.proofs.turning.poll.Goals as goal
@@ -15,6 +15,7 @@ returns-in-Idle g c = record {
   within = c.poll-step.ensures.within;
   counted = c.poll-step.ensures.counts;
   ends = either_poll (λ (x : PollStep). EndsPoll x c.args.core.now.end) c.poll-step.result c.in-Idle.is c.requires.running c.requires.running;
+  keeps = either_poll (λ (x : PollStep). KeepsPoll x c.args.core.now c.args.core.now) c.poll-step.result c.in-Idle.is refl refl;
   births = refl;
   goes = λ start s past before received b.
       let came : CameIn [] (g.L.Link.told c.args.link.now) (g.L.Link.told c.poll-step.new.self) =
@@ -33,6 +34,7 @@ returns-in-Failed g c = record {
   within = c.poll-step.ensures.within;
   counted = c.poll-step.ensures.counts;
   ends = subst (λ (x : PollStep). EndsPoll x c.fail.new.self.end) (sym c.in-Failed.is) c.fail.ensures.ended;
+  keeps = subst (λ (x : PollStep). KeepsPoll x c.args.core.now c.fail.new.self) (sym c.in-Failed.is) tt;
   births = same_births c.args.core.now c.fail.new.self c.fail.ensures.leaves.keeps;
   goes = λ start s past before received b.
       subst
@@ -49,6 +51,7 @@ returns-in-Closed g c = record {
   within = c.poll-step.ensures.within;
   counted = c.poll-step.ensures.counts;
   ends = subst (λ (x : PollStep). EndsPoll x c.close.new.self.end) (sym c.in-Closed.is) c.close.ensures.ended;
+  keeps = subst (λ (x : PollStep). KeepsPoll x c.args.core.now c.close.new.self) (sym c.in-Closed.is) tt;
   births = same_births c.args.core.now c.close.new.self c.close.ensures.leaves.keeps;
   goes = λ start s past before received b.
       subst
@@ -65,6 +68,7 @@ returns-in-Got g c = record {
   within = c.in-Got.ensures.within;
   counted = c.in-Got.ensures.counts;
   ends = tt;
+  keeps = tt;
   births = same_births c.args.core.now c.feed.new.self c.feed.ensures.keeps;
   goes = λ start s past before received b.
       c.accounts_are_turned.ensures.fed start _ _ _ (g.L.Link.counts c.poll-step.new.self) s past before received _ c.args.core.now c.feed.new.self b c.requires.running

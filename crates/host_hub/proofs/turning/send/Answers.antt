@@ -3,7 +3,7 @@ use Rattle.std.specs.Prelude.{◌==◌}
 use Rattle.tmc_base.specs.declared.link.SendStep.{SendStep}
 use Rattle.tmc_base.specs.Link.{SendsWithin, took_count}
 use Rattle.tmc_base.specs.Told.{WentOut}
-use Rattle.host_hub.specs.HubCalls.{EndsSend, SendsOn}
+use Rattle.host_hub.specs.HubCalls.{EndsSend, KeepsSend, SendsOn}
 use Rattle.host_hub.proofs.Calling.{either_send, neither_send, rose_some, sends_once, some_length}
 use Rattle.host_hub.proofs.Entering.{same_births}
 use Rattle.host_hub.proofs.turning.send.Goals as goal
@@ -16,6 +16,7 @@ returns-in-Failed g c = record {
   within = subst (λ (l : List ℕ). SendsWithin c.send-step.result (length l)) c.outbox-2.ensures c.send-step.ensures.within;
   counted = c.send-step.ensures.counts;
   ends = subst (λ (x : SendStep). EndsSend (Some x) c.fail.new.self.end) (sym c.in-Failed.is) c.fail.ensures.ended;
+  keeps = subst (λ (x : SendStep). KeepsSend (Some x) c.args.core.now c.fail.new.self) (sym c.in-Failed.is) tt;
   births = same_births c.args.core.now c.fail.new.self c.fail.ensures.leaves.keeps;
   goes = λ start s past before received b.
       subst (λ (x : SendStep). SendsOn (Some x) start (g.L.Link.told c.send-step.new.self) (g.L.Link.counts c.send-step.new.self) s past before received c.args.core.now.urbs.outbox c.fail.new.self)
@@ -32,6 +33,7 @@ returns-in-Idle g c = record {
   within = subst (λ (l : List ℕ). SendsWithin c.send-step.result (length l)) c.outbox-2.ensures c.send-step.ensures.within;
   counted = c.send-step.ensures.counts;
   ends = either_send (λ (x : SendStep). EndsSend (Some x) c.args.core.now.end) c.send-step.result c.in-Idle.is c.requires.running c.requires.running;
+  keeps = either_send (λ (x : SendStep). KeepsSend (Some x) c.args.core.now c.args.core.now) c.send-step.result c.in-Idle.is refl refl;
   births = refl;
   goes = λ start s past before received b.
       let went : WentOut [] (g.L.Link.told c.args.link.now) (g.L.Link.told c.send-step.new.self) =

@@ -4,7 +4,7 @@ use Rattle.tmc_base.specs.declared.link.SendStep.TheVariants as send
 use Rattle.host_hub.specs.declared.outcome.End.{End}
 use Rattle.host_hub.specs.HubCalls.{EndsSend, PollsOnce, TurnsOn, sent_count}
 use Rattle.host_hub.specs.Tied.{Said}
-use Rattle.host_hub.proofs.Calling.{ended_failed, goes_on, polls_on, same_said, turns_ended}
+use Rattle.host_hub.proofs.Calling.{ended_failed, goes_on, keeps_turn, polls_on, same_said, turns_ended}
 use Rattle.host_hub.proofs.turning.turn.Goals as goal
 
 pub returns-in-Some : goal.returns-in-Some
@@ -20,6 +20,8 @@ returns-in-Some g c =
       send_counts = c.send-sent.ensures.counted;
       poll_counts = refl;
       answers = c.in-Some.is;
+      ends = c.send-sent.ensures.ends;
+      keeps = tt;
       births = c.send-sent.ensures.births ∙ ap (λ (n : ℕ). record { turned = n; born = c.args.core.now.notes.births }) c.saturating_add-core.ensures;
       turns = λ start s past before received b.
           turns_ended c.send-sent.result start _ _ s past before received c.args.core.now.urbs.outbox c.send-sent.new.core failed
@@ -54,6 +56,9 @@ returns g c =
       send_counts = c.send-sent.ensures.counted;
       poll_counts = c.poll-came.ensures.counted;
       answers = c.answer.ensures;
+      ends = (ends, c.poll-came.ensures.ends);
+      keeps = keeps_turn c.answer.result c.send-sent.result c.poll-came.result _ c.args.core.now c.send-sent.new.core c.poll-came.new.core _ c.answer.ensures c.send-sent.ensures.within
+          c.poll-came.ensures.within ends c.poll-came.ensures.ends c.send-sent.ensures.keeps c.poll-came.ensures.keeps;
       births = c.poll-came.ensures.births
           ∙ (c.send-sent.ensures.births ∙ ap (λ (n : ℕ). record { turned = n; born = c.args.core.now.notes.births }) c.saturating_add-core.ensures);
       turns = λ start s past before received b.
