@@ -6,3 +6,10 @@ pub mod Showing
 pub mod Bounded
 pub mod Leading
 pub mod Turning
+pub mod RestMoves
+pub mod RestTurns
+pub mod RestNumbers
+pub mod RestLess
+pub mod RestTries
+pub mod RestLoops
+pub mod RestStands

@@ -1,5 +1,5 @@
 -- a hub over a paced link in memory: what happened at it, and the link with the instrument at its other end
-use Rattle.std.specs.Prelude.{◌≡◌, ℕ, Some, [], List, length, drop}
+use Rattle.std.specs.Prelude.{◌≡◌, ℕ, ◌<◌, ◌^◌, Some, [], List, length, drop}
 use Rattle.tmc_base.specs.Link.{Counts}
 use Rattle.tmc_base.specs.Told.{Told, Peer}
 use Rattle.usb_setup.specs.declared.ends.Ends.{Ends}
@@ -59,3 +59,15 @@ pub record IsBehind (first depth : ℕ) (world : Worldly) (hub : HubParts Looped
   pub link : hub.link ≡ world.link
   pub idle : world.link.pace ≡ shut
   pub behind : Behind tells counted (tells begun.link) (setting_of first depth) world.past world.link.sent world.link.taken hub
+
+-- some world stands behind it, of which the first message has a number of 32 bits
+pub record HasWorld (hub : HubParts Looped) : Type 0 where
+  pub first : ℕ
+  pub numbered : first < 2 ^ 32
+  pub depth : ℕ
+  pub world : Worldly
+  pub behind : IsBehind first depth world hub
+
+-- what a world is made of
+pub record WorldParts : Type 0 where
+  pub hub : HubParts Looped

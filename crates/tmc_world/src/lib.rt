@@ -11,7 +11,11 @@ mod line;
 mod loop_act;
 mod loop_link;
 mod pace;
+mod rest;
+#[cfg(test)]
+mod rest_tests;
 mod resting;
+mod stub;
 mod tally;
 #[cfg(test)]
 mod tests;
@@ -22,6 +26,6 @@ mod world_tests;
 pub use applied::Applied;
 pub use loop_act::LoopAct;
 pub use loop_link::LoopLink;
-pub use resting::instruments_come_to_rest;
+pub use resting::{instruments_come_to_rest, worlds_come_to_rest};
 pub use usbip_export::{DevEvent, Log, LogEntry};
 pub use world::World;

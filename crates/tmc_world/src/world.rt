@@ -7,13 +7,14 @@ ghost use Rattle.usbip_export.specs.Seen.{standing};
 ghost use Rattle.event_text.specs.declared.event.Event.TheVariants as event;
 ghost use Rattle.tmc_world.specs.declared.pace.Pace.TheVariants as pace;
 ghost use Rattle.tmc_world.specs.LoopLink.{IsTold};
-ghost use Rattle.tmc_world.specs.World.{Worldly, IsBehind, begun};
+ghost use Rattle.tmc_world.specs.World.{Worldly, HasWorld, IsBehind, begun};
 ghost use Rattle.tmc_world.specs.WorldEvents.{LeadsTo, TurnsTo, applied_ask};
 
 use crate::{Applied, LoopAct, LoopLink};
 use event_text::EventAnswer;
 use host_hub::{AskFault, Hub, Turn};
 use std::alloc::Global;
+use std::marker::Model;
 use tmc_base::{Memory, TendStep};
 use usb_setup::Ends;
 use usbip_export::{DevEvent, Log};
@@ -32,10 +33,20 @@ const ENDS: Ends = Ends {
     notify_size: 8,
 };
 
-/// A hub, and the instrument at the other end of its link, in memory.
+/// A hub, and the instrument at the other end of its link, in memory. Some world stands behind it.
 #[derive(Drop)]
 pub struct World {
     hub: Hub<LoopLink>,
+}
+
+impl Model for World {
+    ghost use Rattle.tmc_world.specs.World.{HasWorld, WorldParts};
+
+    ghost Value = { WorldParts };
+
+    ghost view = { λ a. record { hub = a.hub } };
+
+    ghost invariant = { λ a. HasWorld a.hub };
 }
 
 impl World {
@@ -51,6 +62,13 @@ impl World {
             Ok(hub) => Ok(World { hub }),
             Err((_link, memory)) => Err(memory),
         }
+    }
+
+    /// Some world stands behind the hub, at any time. Does nothing.
+    pub(crate) fn stands(&self)
+        ensures { HasWorld self.now.hub }
+    {
+        let _hub = &self.hub;
     }
 
     /// The hub.
