@@ -186,19 +186,6 @@ plain_asking a p = record { kind_is = by a.kind p.messages p.limited; some = p.s
     by kind.Status m l = let f : false ≡ true = m in cc
     by (kind.Remote act) m l = let f : false ≡ true = m in cc
 
-plain_own : (more : Past) → All IsOwn more → All IsPlain more
-plain_own [] a = tt
-plain_own (Wrote n o k ∷ more) a = (a.0, plain_own more a.1)
-plain_own (Took m ∷ more) a = absurd a.0
-plain_own (Fell m e ∷ more) a = absurd a.0
-plain_own (Stopped e ∷ more) a = (tt, plain_own more a.1)
-plain_own (Recovers ∷ more) a = absurd a.0
-plain_own (Asked t b ∷ more) a = absurd a.0
-plain_own (Cancelled t ∷ more) a = absurd a.0
-plain_own (Cleared w ∷ more) a = absurd a.0
-plain_own (GaveUp ∷ more) a = absurd a.0
-plain_own (Settled t o ∷ more) a = (tt, plain_own more a.1)
-
 plain_given : (more : Past) → All IsOfGivingUp more → All IsPlain more
 plain_given [] a = tt
 plain_given (Wrote n o k ∷ more) a = absurd a.0
@@ -212,25 +199,12 @@ plain_given (Cleared w ∷ more) a = absurd a.0
 plain_given (GaveUp ∷ more) a = absurd a.0
 plain_given (Settled t o ∷ more) a = (tt, plain_given more a.1)
 
-pub plain_turn : (more : Past) → All IsOfTurn more → All IsPlain more
-plain_turn [] a = tt
-plain_turn (Wrote n o k ∷ more) a = (a.0, plain_turn more a.1)
-plain_turn (Took m ∷ more) a = (tt, plain_turn more a.1)
-plain_turn (Fell m e ∷ more) a = (tt, plain_turn more a.1)
-plain_turn (Stopped e ∷ more) a = (tt, plain_turn more a.1)
-plain_turn (Recovers ∷ more) a = absurd a.0
-plain_turn (Asked t b ∷ more) a = absurd a.0
-plain_turn (Cancelled t ∷ more) a = absurd a.0
-plain_turn (Cleared w ∷ more) a = absurd a.0
-plain_turn (GaveUp ∷ more) a = absurd a.0
-plain_turn (Settled t o ∷ more) a = (tt, plain_turn more a.1)
-
 pub all_joined : (Is : Happening → Type 0) (more past : Past) → All Is more → All Is past → All Is (more ++ past)
 all_joined Is [] past a b = b
 all_joined Is (x ∷ more) past a b = (a.0, all_joined Is more past a.1 b)
 
-pub plain_ask : (past : Past) (asking : Asking) (more : Past) → IsProper asking → AddsAsk past asking more → All IsPlain more
-plain_ask past asking more p a = subst (All IsPlain) (sym a.is) (all_joined IsPlain a.own (Asked _ asking ∷ []) (plain_own a.own a.by_itself) (plain_asking asking p, tt))
+pub plain_ask : (past : Past) (asking : Asking) (more : Past) → IsProper asking → (a : AddsAsk past asking more) → All IsPlain a.own → All IsPlain more
+plain_ask past asking more p a plain = subst (All IsPlain) (sym a.is) (all_joined IsPlain a.own (Asked _ asking ∷ []) plain (plain_asking asking p, tt))
 
 pub plain_giving : (more : Past) → AddsGivingUp more → All IsPlain more
 plain_giving more a = subst (All IsPlain) (sym a.is) (all_joined IsPlain a.own (GaveUp ∷ []) (plain_given a.own a.by_itself) (tt, tt))
@@ -690,7 +664,7 @@ account_stopped laws start now counts s past sent received core new e a running 
   taken = λ all. quiet_lies s stop.more past a.count a.rest a.whole.among stop.rests.kept.lawful none (a.taken (ap (λ (o : Option End). takes_all_by o (stopped past)) running));
   shows = shows_at s (stop.more ++ past) a.count a.rest counts e shown (front_stop stop.more past e stop.stop);
   sum = subst (λ (n : ℕ). n ≤ LIMITS_MAX) (sym (same_limits stop.more past (none_turn stop.more stop.own))) a.sum;
-  plain = all_joined IsPlain stop.more past (plain_turn stop.more stop.own) a.plain;
+  plain = all_joined IsPlain stop.more past stop.plain a.plain;
   short = leaves.keeps.short a.short;
   joined = subst (λ (l : List ℕ). StaysJoined s (stop.more ++ past) start now l a.rest)
       (sym (outbox_more s stop.more past sent core.urbs.outbox new.urbs.outbox received a.rest a.rest a.tied (stands_spelled s (stop.more ++ past) sent new stop.rests)))
@@ -726,7 +700,7 @@ account_fed laws start now later counts after s past sent received bytes core ne
         refused = λ f e. fed.refused f (back_stop fed.more past (end.PeerFault f) none e);
       };
       sum = subst (λ (n : ℕ). n ≤ LIMITS_MAX) (sym (same_limits fed.more past (none_turn fed.more fed.own))) a.sum;
-      plain = all_joined IsPlain fed.more past (plain_turn fed.more fed.own) a.plain;
+      plain = all_joined IsPlain fed.more past fed.plain a.plain;
       short = keeps.short a.short;
       joined = subst (λ (l : List ℕ). StaysJoined s (fed.more ++ past) start later l fed.left)
           (sym (outbox_more s fed.more past sent core.urbs.outbox new.urbs.outbox received a.rest a.rest a.tied (stands_spelled s (fed.more ++ past) sent new fed.rests)))

@@ -22,6 +22,7 @@ use Rattle.host_hub.specs.Shown.{ShowsTicket}
 use Rattle.host_hub.specs.Steps.{settle_all}
 use Rattle.host_hub.specs.Knows.{Knows}
 use Rattle.host_hub.specs.Stands.{Rests}
+use Rattle.host_hub.specs.Joined.{IsPlain}
 use Rattle.host_hub.specs.Hears.{GoesByAnswer, IsBehind}
 use Rattle.host_hub.proofs.Endings.{fell_kept}
 use Rattle.host_hub.proofs.Begins.{ended_rests}
@@ -123,6 +124,7 @@ fell_goes s past all new m e kept running may ends is k =
       takes = refl;
       more = a.more;
       behind = settling_all IsBehind (λ t o. tt) a.more a.settling;
+      plain = settling_all IsPlain (λ t o. tt) a.more a.settling;
       rests = subst (λ (p : Past). Rests s p all new) a.same
           (ended_rests s (settle_all e (live past) (Fell m e ∷ past)) all new e is k (fell_kept s past m e kept running may ends));
     }

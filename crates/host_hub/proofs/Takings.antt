@@ -32,6 +32,7 @@ use Rattle.host_hub.specs.Order.{Setting}
 use Rattle.host_hub.specs.Record.{Asked, Cancelled, Cleared, Fell, GaveUp, Happening, Past, Recovers, Settled, Stopped, Took, Wrote, written}
 use Rattle.host_hub.specs.Book.{KeepsBook, live}
 use Rattle.host_hub.specs.Calls.{All, IsOfTurn}
+use Rattle.host_hub.specs.Joined.{IsPlain}
 use Rattle.host_hub.specs.Crossings.{crossings}
 use Rattle.host_hub.specs.Hand.{ended}
 use Rattle.host_hub.specs.Law.{ByBytes}
@@ -89,8 +90,8 @@ nothing_lies s past count = record {
 
 behind_turn : (more : Past) → All IsBehind more → All IsOfTurn more
 behind_turn [] h = tt
-behind_turn (Wrote n o k ∷ more) h = (h.0, behind_turn more h.1)
-behind_turn (Recovers ∷ more) h = absurd h.0
+behind_turn (Wrote n o k ∷ more) h = (tt, behind_turn more h.1)
+behind_turn (Recovers ∷ more) h = (tt, behind_turn more h.1)
 behind_turn (Settled t o ∷ more) h = (tt, behind_turn more h.1)
 behind_turn (Stopped e ∷ more) h = (by e h.0, behind_turn more h.1)
   where
@@ -133,6 +134,18 @@ takes_turn m (Cancelled t) h = absurd h
 takes_turn m (Cleared w) h = absurd h
 takes_turn m GaveUp h = absurd h
 takes_turn m (Settled t o) h = absurd h
+
+takes_plain : (m : down.Message) (x : Happening) → Takes m x → IsPlain x
+takes_plain m (Took answer) h = tt
+takes_plain m (Fell answer e) h = tt
+takes_plain m (Wrote n o k) h = absurd h
+takes_plain m (Stopped e) h = absurd h
+takes_plain m Recovers h = absurd h
+takes_plain m (Asked t a) h = absurd h
+takes_plain m (Cancelled t) h = absurd h
+takes_plain m (Cleared w) h = absurd h
+takes_plain m GaveUp h = absurd h
+takes_plain m (Settled t o) h = absurd h
 
 takes_due : (s : Setting) (count : ℕ) (m : down.Message) (x : Happening) → Takes m x → seqnum_of m < s.first + count → IsDueIn s count x
 takes_due s count m (Took answer) h less = subst (λ (k : down.Message). seqnum_of k < s.first + count) (sym h) less
@@ -263,6 +276,7 @@ module _ (rows : Rows) (core : HubCore) (piece : List ℕ) (step : DownStep) (r 
       record {
         more = [];
         own = tt;
+        plain = tt;
         due = tt;
         fault = λ e. none_some end.LinkFault e;
         closing = λ e. none_some end.Unplugged e;
@@ -317,6 +331,7 @@ module _ (rows : Rows) (core : HubCore) (piece : List ℕ) (step : DownStep) (r 
       fed = record {
         more = g.more ++ g.first ∷ [];
         own = all_added IsOfTurn g.more g.first (behind_turn g.more g.behind) (takes_turn (down.RetSubmit head (data_of r)) g.first g.takes);
+        plain = all_added IsPlain g.more g.first g.plain (takes_plain (down.RetSubmit head (data_of r)) g.first g.takes);
         due = all_added (IsDueIn s count) g.more g.first (behind_due s count g.more g.behind)
             (takes_due s count (down.RetSubmit head (data_of r)) g.first g.takes (low_found (s.first + count) head.seqnum (urbs.outstanding (crossings s past)) (ap is_some spelled_now.1)));
         fault = λ e. stop end.LinkFault e;
@@ -376,6 +391,7 @@ module _ (rows : Rows) (core : HubCore) (piece : List ℕ) (step : DownStep) (r 
         record {
           more = a.more ++ Stopped e ∷ [];
           own = all_added IsOfTurn a.more (Stopped e) (settling_all IsOfTurn (λ t o. tt) a.more a.settling) other;
+          plain = all_added IsPlain a.more (Stopped e) (settling_all IsPlain (λ t o. tt) a.more a.settling) tt;
           due = all_added (IsDueIn s count) a.more (Stopped e) (settling_all (IsDueIn s count) (λ t o. tt) a.more a.settling) tt;
           fault = λ k. by_field end.LinkFault (sym stop ∙ k);
           closing = λ k. by_closing (sym stop ∙ k);
@@ -493,6 +509,7 @@ fed_then s past sent received count first behind mid new f running g =
     record {
       more = g.more ++ f.more;
       own = all_both IsOfTurn g.more f.more g.own f.own;
+      plain = all_both IsPlain g.more f.more g.plain f.plain;
       due = all_both (IsDueIn s count) g.more f.more g.due f.due;
       fault = λ e. g.fault (sym same ∙ e);
       closing = λ e. g.closing (sym same ∙ e);
@@ -520,6 +537,7 @@ fed_ended s past sent received count first behind core e a none over =
     record {
       more = f.more;
       own = f.own;
+      plain = f.plain;
       due = f.due;
       fault = f.fault;
       closing = f.closing;
@@ -570,6 +588,7 @@ fed_nothing s past sent received rest count core f = record {
   fed = record {
     more = [];
     own = tt;
+    plain = tt;
     due = tt;
     fault = λ e. none_some end.LinkFault e;
     closing = λ e. none_some end.Unplugged e;
