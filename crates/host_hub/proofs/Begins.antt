@@ -217,7 +217,7 @@ all_more e (t ∷ ts) past =
       same = a.same ∙ sym (append_assoc a.more (Settled t (named e) ∷ []) past);
     }
 
-none_end : {P : Type 0} (e : End) → Some e ≡ None → P
+pub none_end : {P : Type 0} (e : End) → Some e ≡ None → P
 none_end e h = absurd (no h)
   where
     no : Some e ≡ None → ⊥

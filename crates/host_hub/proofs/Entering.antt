@@ -18,7 +18,8 @@ use Rattle.host_hub.specs.Order.{Setting}
 use Rattle.host_hub.specs.Record.{Asking, Past}
 use Rattle.host_hub.specs.Refusals.{has_message}
 use Rattle.host_hub.specs.Stands.{IsGivenUp, Rests}
-use Rattle.host_hub.proofs.Accounts.{account_entered, account_roomier, ask_limits, giving_limits, plain_ask, plain_giving, quiet_ask, quiet_giving}
+use Rattle.host_hub.proofs.AccountAdds.{ask_limits, giving_limits, plain_ask, plain_giving, quiet_ask, quiet_giving}
+use Rattle.host_hub.proofs.Accounts.{account_entered, account_roomier}
 use Rattle.host_hub.proofs.Asks.{unrefused}
 use Rattle.host_hub.proofs.Undisturbing.{Joins}
 

@@ -26,7 +26,7 @@ use Rattle.host_hub.specs.Knows.{HasActive, HasBook, Knows}
 use Rattle.host_hub.specs.Stands.{IsIdle, IsOut, Rests, Stands}
 use Rattle.host_hub.specs.Hears.{GoesByAnswer, Hears, HearsOut, IsBehind, endpoint_out, failed_as}
 use Rattle.host_hub.proofs.Answering.{HeardOut, answered_out, ends_failed, ends_gone, heard_out, hears_out, plain_submit}
-use Rattle.host_hub.proofs.Plain.{Answered}
+use Rattle.host_hub.proofs.PlainAnswers.{Answered}
 use Rattle.host_hub.proofs.Lawful.{lawful_book}
 use Rattle.host_hub.proofs.Begins.{ended_rests, none_entries}
 use Rattle.host_hub.proofs.Failing.{failed_kept}

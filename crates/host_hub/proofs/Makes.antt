@@ -42,7 +42,7 @@ use Rattle.host_hub.specs.Stands.{GoesTo, IsInMessage, IsOut, Rests, Stands}
 use Rattle.host_hub.specs.Writes.{Done, GoesOn, PartIsNext, RequestIsNext}
 use Rattle.host_hub.specs.Hears.{GoesByAnswer, Hears, HearsOut, IsBehind, OfItself, TicketEnds}
 use Rattle.host_hub.proofs.Answering.{HeardOut, answered_out, ends_fine, heard_out, hears_out}
-use Rattle.host_hub.proofs.Plain.{Answered, pieces_out, pieces_took}
+use Rattle.host_hub.proofs.PlainAnswers.{Answered, pieces_out, pieces_took}
 use Rattle.host_hub.proofs.Clean.{clean_answers, clean_recovered, clean_settles}
 use Rattle.host_hub.proofs.Lawful.{lawful_book}
 use Rattle.host_hub.proofs.Parts.{same_asking}
