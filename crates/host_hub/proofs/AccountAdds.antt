@@ -25,13 +25,13 @@ StopsQuietly e = Unit {0}
 abbrev pub IsQuiet : Happening → Type 0
 IsQuiet (Took answer) = ⊥
 IsQuiet (Fell answer e) = ⊥
-pub IsQuiet (Stopped e) = StopsQuietly e
+IsQuiet (Stopped e) = StopsQuietly e
 IsQuiet x = Unit {0}
 
 -- no answer came
 abbrev pub TakesNone : Happening → Type 0
 TakesNone (Took answer) = ⊥
-pub TakesNone (Fell answer e) = ⊥
+TakesNone (Fell answer e) = ⊥
 TakesNone x = Unit {0}
 
 quiet_own : (more : Past) → All IsOwn more → All IsQuiet more
@@ -87,7 +87,7 @@ same_limits (Cancelled t ∷ more) past a = same_limits more past a.1
 same_limits (Cleared w ∷ more) past a = same_limits more past a.1
 same_limits (GaveUp ∷ more) past a = same_limits more past a.1
 same_limits (Settled t o ∷ more) past a = same_limits more past a.1
-pub same_limits (Asked t b ∷ more) past a = absurd a.0
+same_limits (Asked t b ∷ more) past a = absurd a.0
 
 none_own : (more : Past) → All IsOwn more → All AsksNone more
 none_own [] a = tt
@@ -126,7 +126,7 @@ none_turn (Stopped e ∷ more) a = (tt, none_turn more a.1)
 none_turn (Asked t b ∷ more) a = absurd a.0
 none_turn (Cancelled t ∷ more) a = absurd a.0
 none_turn (Cleared w ∷ more) a = absurd a.0
-pub none_turn (GaveUp ∷ more) a = absurd a.0
+none_turn (GaveUp ∷ more) a = absurd a.0
 
 pub ask_limits : (past : Past) (asking : Asking) (more : Past) → AddsAsk past asking more → limits (more ++ past) ≡ limits past + asking.limit
 ask_limits past asking more a =
@@ -180,7 +180,7 @@ pub same_end : (e f : End) → Some e ≡ Some f → e ≡ f
 same_end e f g = cc
 
 -- no end by the link or by bytes was added
-quiet_stop : (more past : Past) (e : End) → All IsQuiet more → stopped past ≡ None → stopped (more ++ past) ≡ Some e → StopsQuietly e
+pub quiet_stop : (more past : Past) (e : End) → All IsQuiet more → stopped past ≡ None → stopped (more ++ past) ≡ Some e → StopsQuietly e
 quiet_stop [] past e a none f = no_some e (sym none ∙ f)
 quiet_stop (Wrote n o k ∷ more) past e a none f = quiet_stop more past e a.1 none f
 quiet_stop (Took m ∷ more) past e a none f = absurd a.0
@@ -191,9 +191,9 @@ quiet_stop (Asked t b ∷ more) past e a none f = quiet_stop more past e a.1 non
 quiet_stop (Cancelled t ∷ more) past e a none f = quiet_stop more past e a.1 none f
 quiet_stop (Cleared w ∷ more) past e a none f = quiet_stop more past e a.1 none f
 quiet_stop (GaveUp ∷ more) past e a none f = quiet_stop more past e a.1 none f
-pub quiet_stop (Settled t o ∷ more) past e a none f = quiet_stop more past e a.1 none f
+quiet_stop (Settled t o ∷ more) past e a none f = quiet_stop more past e a.1 none f
 
-takes_quiet : (more : Past) → All IsQuiet more → All TakesNone more
+pub takes_quiet : (more : Past) → All IsQuiet more → All TakesNone more
 takes_quiet [] a = tt
 takes_quiet (Wrote n o k ∷ more) a = (tt, takes_quiet more a.1)
 takes_quiet (Took m ∷ more) a = absurd a.0
@@ -204,9 +204,9 @@ takes_quiet (Asked t b ∷ more) a = (tt, takes_quiet more a.1)
 takes_quiet (Cancelled t ∷ more) a = (tt, takes_quiet more a.1)
 takes_quiet (Cleared w ∷ more) a = (tt, takes_quiet more a.1)
 takes_quiet (GaveUp ∷ more) a = (tt, takes_quiet more a.1)
-pub takes_quiet (Settled t o ∷ more) a = (tt, takes_quiet more a.1)
+takes_quiet (Settled t o ∷ more) a = (tt, takes_quiet more a.1)
 
-takes_still : (more : Past) → All MovesNothing more → All TakesNone more
+pub takes_still : (more : Past) → All MovesNothing more → All TakesNone more
 takes_still [] a = tt
 takes_still (Wrote n o k ∷ more) a = absurd a.0
 takes_still (Took m ∷ more) a = absurd a.0
@@ -217,7 +217,7 @@ takes_still (Asked t b ∷ more) a = (tt, takes_still more a.1)
 takes_still (Cancelled t ∷ more) a = (tt, takes_still more a.1)
 takes_still (Cleared w ∷ more) a = (tt, takes_still more a.1)
 takes_still (GaveUp ∷ more) a = (tt, takes_still more a.1)
-pub takes_still (Settled t o ∷ more) a = (tt, takes_still more a.1)
+takes_still (Settled t o ∷ more) a = (tt, takes_still more a.1)
 
 -- ---- the bytes of the answers stay
 

@@ -28,9 +28,6 @@ use Rattle.host_hub.proofs.Within.{none_unbegun}
 use Rattle.host_hub.proofs.JoiningWrites.{Laws, joined_with, joint_now, owns_kept}
 use Rattle.host_hub.proofs.JoiningAnswers.{behind}
 
-    by true f = clash f
-    by false f = clash f
-
 -- ---- the book
 
 joined_settled : Laws → (s : Setting) (past : Past) (t : ℕ) (o : Outcome) (bytes read : List ℕ) (steps : List RunStep) (state : State) → IsSimple s → Lawful s (Settled t o ∷ past)

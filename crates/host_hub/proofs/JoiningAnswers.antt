@@ -38,19 +38,14 @@ use Rattle.host_hub.specs.Outstanding.{Sent, awaited_by, outstanding}
 use Rattle.host_hub.specs.Owned.{IsFront}
 use Rattle.host_hub.specs.Pieces.{Piece, answered, answered_for, data_in, extended, got, pieces}
 use Rattle.host_hub.specs.Plan.{last, message_end, parts}
-use Rattle.host_hub.proofs.InHand.{head_of, is_submit, pauses_is, reads_is, spells, whole_is}
+use Rattle.host_hub.proofs.InHand.{head_of, is_submit, pauses_is, reads_is, whole_is}
 use Rattle.host_hub.proofs.Lists.{clash}
-use Rattle.host_hub.proofs.Numbered.{submit_last}
 use Rattle.host_hub.proofs.Numbers.{same_outstanding}
-use Rattle.host_hub.proofs.Plain.{AtEnd, AtPart, AtRead, AtRequest, InHand, NoneOut, OneOut, Out, Stage, Stands, plain_proper}
+use Rattle.host_hub.proofs.Plain.{AtEnd, AtPart, AtRead, AtRequest, InHand, NoneOut, OneOut, Out, Stage, Stands}
 use Rattle.host_hub.proofs.PlainWrites.{later}
 use Rattle.host_hub.proofs.PlainAnswers.{Answered, answered_one, pieces_out, pieces_read, pieces_took}
 use Rattle.host_hub.proofs.PlainStands.{stands}
-use Rattle.host_hub.proofs.Quiets.{proper_plain}
 use Rattle.host_hub.proofs.JoiningWrites.{Laws, joined_with, joint_now, owns_kept, sizes}
-
-        (spells s n k simple p (omega (arith, submit_last s past n k (proper_plain k (plain_proper k p)) h.1.1)) (sizes s past t m.asking k m.move))
-        before
 
 -- ---- an answer is taken
 
@@ -406,3 +401,5 @@ unlink_never {P} s past head this h (OneOut t n k p e hand lives l) x =
     by (n == head.seqnum) (subst (λ (es : List Outstanding). is_unlink (dirs.find head.seqnum es) ≡ true) (entries_same s past n t k h p e) x.0)
   where
     by : (b : Bool) → is_unlink (if b then Some (Submit n (order.way_of k) (size_of s.ends k)) else None) ≡ true → P
+    by true f = clash f
+    by false f = clash f

@@ -35,12 +35,14 @@ use Rattle.host_hub.specs.Owned.{IsFront}
 use Rattle.host_hub.specs.Pieces.{Piece, data_in, got, opened, pieces, requested}
 use Rattle.host_hub.specs.Plan.{ended_at, last, message_end, next_tag, part_of, parts}
 use Rattle.host_hub.specs.Tied.{bytes_of}
-use Rattle.host_hub.proofs.InHand.{head_of, is_submit, wrote_writes}
+use Rattle.host_hub.proofs.InHand.{head_of, is_submit, spells, wrote_writes}
 use Rattle.host_hub.proofs.Lists.{clash}
+use Rattle.host_hub.proofs.Numbered.{submit_last}
 use Rattle.host_hub.proofs.Numbers.{may_next}
-use Rattle.host_hub.proofs.Plain.{BeginsWith, GoesOnWith, Move, ReadsWith, RequestsFirst, RequestsNext, Stands, planned_of}
+use Rattle.host_hub.proofs.Plain.{BeginsWith, GoesOnWith, Move, ReadsWith, RequestsFirst, RequestsNext, Stands, plain_proper, planned_of}
 use Rattle.host_hub.proofs.PlainWrites.{Moves, later, moves, pieces_wrote}
 use Rattle.host_hub.proofs.PlainStands.{stands}
+use Rattle.host_hub.proofs.Quiets.{proper_plain}
 use Rattle.host_hub.proofs.Within.{none_unbegun}
 
 -- ---- what host_joint and the lower crates say
@@ -183,3 +185,5 @@ joined_wrote laws s past n t k bytes read steps state simple p h j =
         laws.writes s.devid (hand_of past) (hand_of new) (head_of s n k) (text_of k) (submit_bytes (head_of s n k) unused (text_of k)) (next s.first past) bytes read steps state
         (wrote_writes s past n t m.asking simple (later s past n t k simple h) m.lives m.asked m.plain k h.0 (planned_of s past t k p h.1.2).turn m.move)
         numbered
+        (spells s n k simple p (omega (arith, submit_last s past n k (proper_plain k (plain_proper k p)) h.1.1)) (sizes s past t m.asking k m.move))
+        before

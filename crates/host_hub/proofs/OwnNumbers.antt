@@ -64,14 +64,14 @@ kept_at s past m o k n x h e =
     rw (differ m n (λ f. omega (arith, f, low, is))) e
 
 -- it began its ticket
-wrote_begun : (past : Past) (n t : ℕ) (x : Sent) → wrote_at n past ≡ Some x → x.owner ≡ Of t → is_begun t past ≡ true
+pub wrote_begun : (past : Past) (n t : ℕ) (x : Sent) → wrote_at n past ≡ Some x → x.owner ≡ Of t → is_begun t past ≡ true
 wrote_begun [] n t x e of = cc
 wrote_begun (Wrote m o k ∷ past) n t x e of = by (λ f. wrote_begun past n t x f of) (now m o k n x past e)
   where
     by : (wrote_at n past ≡ Some x → is_begun t past ≡ true) → Now m o k n x past → is_of t o || is_begun t past ≡ true
     by again (inl (f, g)) = or_left _ _ (subst (λ (w : Owner). is_of t w ≡ true) (sym of ∙ ap (λ (z : Sent). z.owner) g) (own t))
     by again (inr f) = or_right (is_of t o) (is_begun t past) (again f)
-pub wrote_begun (y ∷ past) n t x e of = wrote_begun past n t x e of
+wrote_begun (y ∷ past) n t x e of = wrote_begun past n t x e of
 
 -- a start stays where it is
 pub begun_start : (past : Past) (m v t : ℕ) (k : Order) → is_begun t past ≡ true → start t (Wrote m (Of v) k ∷ past) ≡ start t past

@@ -51,11 +51,11 @@ plain_asking t a (Cleared w ∷ past) p e = plain_asking t a past p.1 e
 plain_asking t a (GaveUp ∷ past) p e = plain_asking t a past p.1 e
 plain_asking t a (Settled u o ∷ past) p e = plain_asking t a past p.1 e
 
-plain_speaks : (k : Kind) (limit : ℕ) → IsPlainKind k limit → is_status_kind k ≡ false
+pub plain_speaks : (k : Kind) (limit : ℕ) → IsPlainKind k limit → is_status_kind k ≡ false
 plain_speaks kind.Ask limit p = refl
 plain_speaks kind.Tell limit p = refl
 plain_speaks kind.Trigger limit p = absurd p
-pub plain_speaks (kind.Remote act) limit p = absurd p
+plain_speaks (kind.Remote act) limit p = absurd p
 plain_speaks kind.Status limit p = absurd p
 
 pub plain_quiet : (k : Order) → IsPlainOrder k → is_listen k ≡ false
@@ -66,7 +66,7 @@ plain_quiet (Trigger tag) p = absurd p
 plain_quiet Listen p = absurd p
 plain_quiet (Class request) p = absurd p
 plain_quiet (ClearHalt endpoint) p = absurd p
-pub plain_quiet (Unlink target) p = absurd p
+plain_quiet (Unlink target) p = absurd p
 
 pub plain_proper : (k : Order) → IsPlainOrder k → IsProper k
 plain_proper (Part tag text eom) p = tt
@@ -76,7 +76,7 @@ plain_proper (Trigger tag) p = absurd p
 plain_proper Listen p = absurd p
 plain_proper (Class request) p = absurd p
 plain_proper (ClearHalt endpoint) p = absurd p
-pub plain_proper (Unlink target) p = absurd p
+plain_proper (Unlink target) p = absurd p
 
 pub planned_of : (s : Setting) (past : Past) (t : ℕ) (k : Order) → IsPlainOrder k → WriteLaw s past (Of t) k → Planned s past t k
 planned_of s past t (Part tag text eom) p law = law.0

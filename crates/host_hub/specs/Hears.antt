@@ -22,7 +22,7 @@ use Rattle.host_hub.specs.Writes.{GoesOn}
 use Rattle.host_hub.specs.declared.outcome.End.{End}
 use Rattle.host_hub.specs.declared.outcome.End.TheVariants as end
 use Rattle.host_hub.specs.declared.outcome.Outcome.{Outcome}
-use Rattle.host_hub.specs.Record.{Asking, Fell, Happening, Of, Past, Settled, Stopped, Took, Wrote}
+use Rattle.host_hub.specs.Record.{Asking, Fell, Happening, Of, Past, Settled, Stopped, Took, Wrote, Recovers}
 use Rattle.host_hub.specs.Hand.{in_hand}
 use Rattle.host_hub.specs.Recovery.{AreRecovered}
 use Rattle.host_hub.specs.Steps.{Working}
