@@ -5,4 +5,9 @@ pub mod Moving
 pub mod Showing
 pub mod Bounded
 pub mod Leading
+pub mod Still
 pub mod Turning
+pub mod Passing
+pub mod Late
+pub mod Facts
+pub mod Keeping

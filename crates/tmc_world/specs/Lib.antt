@@ -7,3 +7,4 @@ pub mod Resting
 pub mod World
 pub mod WorldSteps
 pub mod WorldEvents
+pub mod WorldFacts

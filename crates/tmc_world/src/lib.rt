@@ -6,12 +6,14 @@
 #![tactic(auto)]
 
 mod applied;
+mod events;
 mod history;
 mod line;
 mod loop_act;
 mod loop_link;
 mod pace;
 mod resting;
+mod runs;
 mod tally;
 #[cfg(test)]
 mod tests;
@@ -23,5 +25,6 @@ pub use applied::Applied;
 pub use loop_act::LoopAct;
 pub use loop_link::LoopLink;
 pub use resting::instruments_come_to_rest;
+pub use runs::world_runs_keep_the_laws;
 pub use usbip_export::{DevEvent, Log, LogEntry};
 pub use world::World;
