@@ -234,7 +234,7 @@ turn_stays s old before mid said b t u knows knows_mid is =
     let core = kept_core said before.core mid.core t.keeps is in
     let was = knows (tells begun.link) s old.past old.link.sent old.link.taken b in
     let now = knows_mid (tells begun.link) s (u.more ++ old.past) mid.link.sent mid.link.taken u.account in
-    ap (λ (l : Past). l ++ old.past) (nothing_came s old.past u.more u.adds.own
+    ap (λ (l : Past). l ++ old.past) (nothing_came s old.past u.more u.adds.own u.account.plain
     (sym now.over ∙ still_ended said mid.core.end t.sent t.came t.answers is)
     (sym now.number ∙ ap (λ (c : HubCore). c.urbs.next) core ∙ was.number)
     (sym u.account.rests.knows.answers ∙ ap (λ (c : HubCore). c.taken) core ∙ b.rests.knows.answers)

@@ -1,5 +1,5 @@
 -- a hub over a paced link in memory: what happened at it, and the link with the instrument at its other end
-use Rattle.std.specs.Prelude.{◌≡◌, ℕ, Some, [], List, length, drop}
+use Rattle.std.specs.Prelude.{◌≡◌, ℕ, false, Some, [], List, length, drop}
 use Rattle.tmc_base.specs.Link.{Counts}
 use Rattle.tmc_base.specs.Told.{Told, Peer}
 use Rattle.usb_setup.specs.declared.ends.Ends.{Ends}

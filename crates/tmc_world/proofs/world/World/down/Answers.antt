@@ -3,7 +3,7 @@ use Rattle.event_text.specs.declared.event.Event.TheVariants as event
 use Rattle.tmc_world.specs.declared.applied.Applied.{Applied}
 use Rattle.tmc_world.specs.WorldEvents.{LeadsTo}
 use Rattle.tmc_world.proofs.Passing.{down_closed, down_leads}
-use Rattle.tmc_world.proofs.events.World.down.Goals as goal
+use Rattle.tmc_world.proofs.world.World.down.Goals as goal
 
 pub returns-then-may_go_down : goal.returns-then-may_go_down
 returns-then-may_go_down c = λ first depth old b.

@@ -3,7 +3,7 @@ use Rattle.event_text.specs.declared.event.Event.TheVariants as event
 use Rattle.tmc_world.specs.declared.applied.Applied.{Applied}
 use Rattle.tmc_world.specs.WorldEvents.{LeadsTo}
 use Rattle.tmc_world.proofs.Passing.{up_closed, up_leads}
-use Rattle.tmc_world.proofs.events.World.up.Goals as goal
+use Rattle.tmc_world.proofs.world.World.up.Goals as goal
 
 pub returns-then-may_go_up : goal.returns-then-may_go_up
 returns-then-may_go_up c = λ first depth old b.
