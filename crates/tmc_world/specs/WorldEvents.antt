@@ -65,15 +65,18 @@ pub record WantsDown (s : Setting) (most : ℕ) (old new : Worldly) : Type 0 whe
 abbrev pub WantsDev : DevEvent → (old new : Worldly) → Type 0
 WantsDev does old new = (new.past ≡ old.past) × Tends old.link (act.Dev does) tend.Memory new.link
 
--- Memory is wanting for an event. A call that asks has no cause to refuse, and nothing has changed. An event that moves bytes up, or a
--- step of the instrument, may have been made, where its answers wait.
+-- Memory is wanting for a move. One that moves bytes up, or a step of the instrument, may have been made, where its answers wait.
+abbrev pub MoveWants : Setting → Event → (old new : Worldly) → Type 0
+MoveWants s (event.Up most) old new = WantsUp s most old new ⊎ MadeLate s (event.Up most) old new
+MoveWants s (event.Down most) old new = WantsDown s most old new
+MoveWants s (event.Dev does) old new = WantsDev does old new ⊎ MadeLate s (event.Dev does) old new
+MoveWants s _ old new = ⊥
+
+-- Memory is wanting for an event. A call that asks has no cause to refuse, and nothing has changed.
 abbrev pub Wants : Setting → Event → (old new : Worldly) → Type 0
 Wants s (event.Ask session limit message) old new = (ask_fault s old.past (asking_of_ask session limit message) ≡ None) × (new ≡ old)
 Wants s (event.Tell session message) old new = (ask_fault s old.past (asking_of_tell session message) ≡ None) × (new ≡ old)
-Wants s (event.Up most) old new = WantsUp s most old new ⊎ MadeLate s (event.Up most) old new
-Wants s (event.Down most) old new = WantsDown s most old new
-Wants s (event.Dev does) old new = WantsDev does old new ⊎ MadeLate s (event.Dev does) old new
-Wants s _ old new = ⊥
+Wants s move old new = MoveWants s move old new
 
 abbrev pub Applies : Setting → Event → (old : Worldly) → Applied → (new : Worldly) → Type 0
 Applies s does old (applied.Answer said) new = Steps s does old said new
