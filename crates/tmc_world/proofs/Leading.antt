@@ -75,11 +75,11 @@ asks_lead first depth asking does old hub new (Ok ticket) steps wants b same (no
       new = record old { past = l.more ++ old.past };
       goes = steps (answer.Ticket ticket) (record old { past = l.more ++ old.past })
           (none, next, record { more = l.more; adds = l.adds; kept = l.account.rests.kept; is = refl });
-      behind = record { link = same ∙ b.link; idle = b.idle; behind = l.account };
+      behind = record { link = same ∙ b.link; idle = b.idle; unwanted = b.unwanted; behind = l.account };
     }
 asks_lead first depth asking does old hub new (Err why) steps wants b same (w, a) =
     why_refused first depth asking does old new why (ask_fault (setting_of first depth) old.past asking) steps wants
-    (record { link = same ∙ b.link; idle = b.idle; behind = a }) refl (no_memory (setting_of first depth) (ended old.past) old.past asking) w
+    (record { link = same ∙ b.link; idle = b.idle; unwanted = b.unwanted; behind = a }) refl (no_memory (setting_of first depth) (ended old.past) old.past asking) w
 
 -- ---- the hub is given up
 
@@ -93,7 +93,7 @@ gives first depth old hub new None is given again b same =
       new = record old { past = l.more ++ old.past };
       goes = subst (λ (x : Option End). GivesUp (setting_of first depth) x old (record old { past = l.more ++ old.past })) (sym is)
           (record { more = l.more; adds = l.adds; kept = l.account.rests.kept; is = refl });
-      behind = record { link = same ∙ b.link; idle = b.idle; behind = l.account };
+      behind = record { link = same ∙ b.link; idle = b.idle; unwanted = b.unwanted; behind = l.account };
     }
 gives first depth old hub new (Some e) is given again b same =
     record {
@@ -116,17 +116,18 @@ giving_leads first depth old hub new given again b same =
 -- an act of the instrument leaves the pace and the bytes as they are
 record Stays (old new : Looped) : Type 0 where
   pace : new.pace ≡ old.pace
+  wants : new.wants ≡ old.wants
   sent : new.sent ≡ old.sent
   taken : new.taken ≡ old.taken
 
 stays : (old new : Looped) → new ≡ record old { node = new.node; run = new.run; late = new.late } → Stays old new
-stays old new is = record { pace = ap (λ (l : Looped). l.pace) is; sent = ap (λ (l : Looped). l.sent) is; taken = ap (λ (l : Looped). l.taken) is }
+stays old new is = record { pace = ap (λ (l : Looped). l.pace) is; wants = ap (λ (l : Looped). l.wants) is; sent = ap (λ (l : Looped). l.sent) is; taken = ap (λ (l : Looped). l.taken) is }
 
 same_stays : (old new : Looped) → new ≡ old → Stays old new
-same_stays old new is = record { pace = ap (λ (l : Looped). l.pace) is; sent = ap (λ (l : Looped). l.sent) is; taken = ap (λ (l : Looped). l.taken) is }
+same_stays old new is = record { pace = ap (λ (l : Looped). l.pace) is; wants = ap (λ (l : Looped). l.wants) is; sent = ap (λ (l : Looped). l.sent) is; taken = ap (λ (l : Looped). l.taken) is }
 
 then_stays : (old mid new : Looped) → Stays old mid → Stays mid new → Stays old new
-then_stays old mid new a b = record { pace = b.pace ∙ a.pace; sent = b.sent ∙ a.sent; taken = b.taken ∙ a.taken }
+then_stays old mid new a b = record { pace = b.pace ∙ a.pace; wants = b.wants ∙ a.wants; sent = b.sent ∙ a.sent; taken = b.taken ∙ a.taken }
 
 catching_stays : (late : Bool) (old ready : Looped) → CatchesUp late old ready → Stays old ready
 catching_stays true old ready (moved, l) = stays old ready moved.is
@@ -150,6 +151,7 @@ behind_stays first depth old link new same st b went =
     record {
       link = refl;
       idle = st.pace ∙ ap (λ (l : Looped). l.pace) same ∙ b.idle;
+      unwanted = st.wants ∙ ap (λ (l : Looped). l.wants) same ∙ b.unwanted;
       behind = subst (λ (bytes : List ℕ). Behind tells counted (tells begun.link) (setting_of first depth) old.past bytes new.link.taken new)
           (sym (st.sent ∙ ap (λ (l : Looped). l.sent) same))
           (subst (λ (bytes : List ℕ). Behind tells counted (tells begun.link) (setting_of first depth) old.past old.link.sent bytes new)
@@ -165,7 +167,7 @@ acts_goes : (first depth : ℕ) (does : DevEvent) (old : Worldly) (step : TendSt
     → IsBehind first depth (record { past = old.past; link = new.link }) new → LeadsTo first depth (event.Dev does) old (went step) new
 acts_goes first depth does old tend.Did new t b = record { new = record { past = old.past; link = new.link }; goes = (refl, t); behind = b }
 acts_goes first depth does old tend.NotNow new t b = record { new = record { past = old.past; link = new.link }; goes = (refl, t); behind = b }
-acts_goes first depth does old tend.Memory new t b = record { new = record { past = old.past; link = new.link }; goes = (refl, t); behind = b }
+acts_goes first depth does old tend.Memory new t b = record { new = record { past = old.past; link = new.link }; goes = inl (refl, t); behind = b }
 
 pub acts_lead : (first depth : ℕ) (does : DevEvent) (old : Worldly) (hub new : HubParts Looped) (step : TendStep) → Tends hub.link (act.Dev does) step new.link
     → new.core ≡ hub.core

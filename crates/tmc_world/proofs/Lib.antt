@@ -5,6 +5,7 @@ pub mod Moving
 pub mod Showing
 pub mod Bounded
 pub mod Leading
+pub mod Still
 pub mod Turning
 pub mod RestMoves
 pub mod RestTurns
@@ -13,3 +14,7 @@ pub mod RestLess
 pub mod RestTries
 pub mod RestLoops
 pub mod RestStands
+pub mod Passing
+pub mod Late
+pub mod Facts
+pub mod Keeping

@@ -64,11 +64,12 @@ telling_taken run old new count unlate telling is = telling_same run (taken_from
 
 -- ---- a link by its parts
 
-abbrev pub shown : Pace → (send_fails poll_fails : Bool) → Counts → List RunStep → Crossing → Looped
-shown pace send_fails poll_fails counts run now = record {
+abbrev pub shown : Pace → (send_fails poll_fails wants : Bool) → Counts → List RunStep → Crossing → Looped
+shown pace send_fails poll_fails wants counts run now = record {
   pace = pace;
   send_fails = send_fails;
   poll_fails = poll_fails;
+  wants = wants;
   node = now.node;
   sent = now.sent;
   taken = now.taken;
@@ -77,17 +78,17 @@ shown pace send_fails poll_fails counts run now = record {
   counts = counts;
 }
 
-pub shown_moved : (pace : Pace) (send_fails poll_fails : Bool) (counts : Counts) (run more : List RunStep) (old new : Crossing) → IsNodes old new
-    → shown pace send_fails poll_fails counts more new
-    ≡ record (shown pace send_fails poll_fails counts run old) { node = new.node; run = more; late = new.late }
-shown_moved pace send_fails poll_fails counts run more old new nodes =
-    ap (λ (l : List ℕ). shown pace send_fails poll_fails counts more (record new { sent = l })) (ap (λ (c : Crossing). c.sent) nodes)
-    ∙ ap (λ (l : List ℕ). shown pace send_fails poll_fails counts more (record new { sent = old.sent; taken = l })) (ap (λ (c : Crossing). c.taken) nodes)
+pub shown_moved : (pace : Pace) (send_fails poll_fails wants : Bool) (counts : Counts) (run more : List RunStep) (old new : Crossing) → IsNodes old new
+    → shown pace send_fails poll_fails wants counts more new
+    ≡ record (shown pace send_fails poll_fails wants counts run old) { node = new.node; run = more; late = new.late }
+shown_moved pace send_fails poll_fails wants counts run more old new nodes =
+    ap (λ (l : List ℕ). shown pace send_fails poll_fails wants counts more (record new { sent = l })) (ap (λ (c : Crossing). c.sent) nodes)
+    ∙ ap (λ (l : List ℕ). shown pace send_fails poll_fails wants counts more (record new { sent = old.sent; taken = l })) (ap (λ (c : Crossing). c.taken) nodes)
 
-pub shown_sent : (pace shut : Pace) (send_fails poll_fails : Bool) (counts : Counts) (run more : List RunStep) (bytes : List ℕ) (old new : Crossing)
+pub shown_sent : (pace shut : Pace) (send_fails poll_fails wants : Bool) (counts : Counts) (run more : List RunStep) (bytes : List ℕ) (old new : Crossing)
     → new.sent ≡ old.sent ++ bytes → new.taken ≡ old.taken
-    → shown shut send_fails poll_fails counts more new
-    ≡ record (shown pace send_fails poll_fails counts run old) { pace = shut; sent = old.sent ++ bytes; node = new.node; run = more; late = new.late }
-shown_sent pace shut send_fails poll_fails counts run more bytes old new sent taken =
-    ap (λ (l : List ℕ). shown shut send_fails poll_fails counts more (record new { sent = l })) sent
-    ∙ ap (λ (l : List ℕ). shown shut send_fails poll_fails counts more (record new { sent = old.sent ++ bytes; taken = l })) taken
+    → shown shut send_fails poll_fails wants counts more new
+    ≡ record (shown pace send_fails poll_fails wants counts run old) { pace = shut; sent = old.sent ++ bytes; node = new.node; run = more; late = new.late }
+shown_sent pace shut send_fails poll_fails wants counts run more bytes old new sent taken =
+    ap (λ (l : List ℕ). shown shut send_fails poll_fails wants counts more (record new { sent = l })) sent
+    ∙ ap (λ (l : List ℕ). shown shut send_fails poll_fails wants counts more (record new { sent = old.sent ++ bytes; taken = l })) taken

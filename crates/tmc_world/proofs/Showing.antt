@@ -23,9 +23,9 @@ use Rattle.tmc_world.specs.Pacing.{send_room}
 use Rattle.tmc_world.proofs.Moving.{shown}
 use Rattle.tmc_world.specs.LoopLink.{Looped, IsTold, Sends, Polls, Tends, HasMoved, Readies, MayHaveMoved, CatchesUp, ActEnds, ActGoes}
 
-pub telling_told : (pace : Pace) (send_fails poll_fails : Bool) (counts : Counts) (run : List RunStep) (now : Crossing) → IsTelling run now
-    → IsTold (shown pace send_fails poll_fails counts run now)
-telling_told pace send_fails poll_fails counts run now telling =
+pub telling_told : (pace : Pace) (send_fails poll_fails wants : Bool) (counts : Counts) (run : List RunStep) (now : Crossing) → IsTelling run now
+    → IsTold (shown pace send_fails poll_fails wants counts run now)
+telling_told pace send_fails poll_fails wants counts run now telling =
     let follows = telling.follows in
     record {
       imported = telling.sound.imported;
@@ -171,7 +171,13 @@ polls_told old new size poll.Failed buf polls told =
       taken = ap (λ (l : Looped). l.taken) polls.is;
       tells = none_more old new (ap (λ (l : Looped). l.run) polls.is);
     }) told
-polls_told old new size poll.Memory buf polls told = none_came old new (wants_ready old.pace old.late old new polls.moved) told
+polls_told old new size poll.Memory buf (inl polls) told =
+    none_came old new (record {
+      sent = ap (λ (l : Looped). l.sent) polls.is;
+      taken = ap (λ (l : Looped). l.taken) polls.is;
+      tells = none_more old new (ap (λ (l : Looped). l.run) polls.is);
+    }) told
+polls_told old new size poll.Memory buf (inr polls) told = none_came old new (wants_ready old.pace old.late old new polls.moved) told
 
 -- ---- an act
 

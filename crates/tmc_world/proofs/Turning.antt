@@ -9,10 +9,12 @@ use Rattle.tmc_base.specs.declared.link.TendStep.{TendStep}
 use Rattle.tmc_base.specs.declared.link.TendStep.TheVariants as tend
 use Rattle.tmc_base.specs.Told.{Told, Peer}
 use Rattle.host_hub.specs.declared.answers.Turn.{Turn}
+use Rattle.host_hub.specs.declared.answers.Turn.TheVariants as turn
 use Rattle.host_hub.specs.declared.outcome.End.{End}
-use Rattle.host_hub.specs.Behind.{Behind, HubParts}
+use Rattle.host_hub.specs.declared.hub_core.HubCore.{HubCore}
+use Rattle.host_hub.specs.Behind.{Behind, Holds, HubParts}
 use Rattle.host_hub.specs.Hand.{ended}
-use Rattle.host_hub.specs.HubCalls.{Turns, TurnsOn, SendsOnce, PollsOnce, IsAnswer}
+use Rattle.host_hub.specs.HubCalls.{Turns, TurnsOn, SendsOnce, PollsOnce, IsAnswer, EndsTurn, KeepsTurn, said_by}
 use Rattle.host_hub.specs.Order.{Setting}
 use Rattle.host_hub.specs.Record.{Past, written}
 use Rattle.host_hub.specs.Tied.{spelled}
@@ -23,6 +25,7 @@ use Rattle.tmc_world.specs.Pacing.{poll_room, send_shut, poll_shut, with_send_ro
 use Rattle.tmc_world.specs.LoopLink.{Looped, Sends, Polls, PollEnds, Readies, MayHaveMoved, Tends}
 use Rattle.tmc_world.specs.World.{Worldly, IsBehind, begun, counted, outbox, setting_of, shut, tells}
 use Rattle.tmc_world.specs.WorldEvents.{TurnsTo}
+use Rattle.tmc_world.proofs.Still.{nothing_came}
 
 -- ---- rooms
 
@@ -114,7 +117,8 @@ polls_paced old size poll.Idle bytes new (inr p) is =
 polls_paced old size poll.Closed bytes new p is =
     ends_paced (poll_room old.pace size) p.ready poll.Closed bytes new p.ends (readies_paced old.pace old.late old p.ready p.begins.readies is)
 polls_paced old size poll.Failed bytes new p is = of_pace new _ (ap (λ (l : Looped). l.pace) p.is) (poll_paced old.pace is)
-polls_paced old size poll.Memory bytes new p is = moved_paced old.pace old.late old new p.moved is
+polls_paced old size poll.Memory bytes new (inl p) is = of_pace new _ (ap (λ (l : Looped). l.pace) p.is) is
+polls_paced old size poll.Memory bytes new (inr p) is = moved_paced old.pace old.late old new p.moved is
 
 once_polled_paced : (sent : Option SendStep) (came : Option PollStep) (bytes : List ℕ) (old new : Looped) → PollsOnce Polls sent came bytes old new
     → IsPaced old.pace → IsPaced new.pace
@@ -128,6 +132,50 @@ once_polled_paced (Some send.Idle) None bytes old new p is = absurd p
 once_polled_paced (Some send.Idle) (Some step) bytes old new p is = polls_paced old 8192 step bytes new p is
 once_polled_paced (Some send.Memory) None bytes old new p is = absurd p
 once_polled_paced (Some send.Memory) (Some step) bytes old new p is = polls_paced old 8192 step bytes new p is
+
+-- ---- no want of memory is owed behind a turn
+
+wants_of : (old new : Looped) → new.wants ≡ old.wants → old.wants ≡ false → new.wants ≡ false
+wants_of old new same none = same ∙ none
+
+ready_wants : (p : Pace) (late : Bool) (old ready : Looped) → Readies p late old ready → ready.wants ≡ old.wants
+ready_wants Calm late old ready (moved, calm) = ap (λ (l : Looped). l.wants) moved.is
+ready_wants (Paced rooms) true old ready moved = ap (λ (l : Looped). l.wants) moved.is
+ready_wants (Paced rooms) false old ready same = ap (λ (l : Looped). l.wants) same
+
+moved_wants : (p : Pace) (late : Bool) (old new : Looped) → MayHaveMoved p late old new → new.wants ≡ old.wants
+moved_wants Calm late old new moved = ap (λ (l : Looped). l.wants) moved.is
+moved_wants (Paced rooms) true old new moved = ap (λ (l : Looped). l.wants) moved.is
+moved_wants (Paced rooms) false old new same = ap (λ (l : Looped). l.wants) same
+
+polls_unwanted : (old : Looped) (size : ℕ) (step : PollStep) (bytes : List ℕ) (new : Looped) → Polls old size step bytes new → new.wants ≡ false
+polls_unwanted old size (poll.Got n) bytes new p =
+    ap (λ (l : Looped). l.wants) p.ends.is ∙ ready_wants old.pace old.late old p.ready p.begins.readies ∙ p.begins.unwanted
+polls_unwanted old size poll.Idle bytes new (inl p) = ap (λ (l : Looped). l.wants) p.is ∙ p.unwanted
+polls_unwanted old size poll.Idle bytes new (inr p) =
+    ap (λ (l : Looped). l.wants) p.ends.is ∙ ready_wants old.pace old.late old p.ready p.begins.readies ∙ p.begins.unwanted
+polls_unwanted old size poll.Closed bytes new p =
+    ap (λ (l : Looped). l.wants) p.ends.is ∙ ready_wants old.pace old.late old p.ready p.begins.readies ∙ p.begins.unwanted
+polls_unwanted old size poll.Failed bytes new p = ap (λ (l : Looped). l.wants) p.is ∙ p.unwanted
+polls_unwanted old size poll.Memory bytes new (inl p) = ap (λ (l : Looped). l.wants) p.is
+polls_unwanted old size poll.Memory bytes new (inr p) = moved_wants old.pace old.late old new p.moved ∙ p.unwanted
+
+failed_wants : (piece : List ℕ) (old new : Looped) → SendsOnce Sends piece (Some send.Failed) old new → new.wants ≡ old.wants
+failed_wants [] old new s = absurd s
+failed_wants (byte ∷ bytes) old new s = ap (λ (l : Looped). l.wants) s.is
+
+turn_unwanted : (piece : List ℕ) (sent : Option SendStep) (came : Option PollStep) (bytes : List ℕ) (old between new : Looped) → SendsOnce Sends piece sent old between
+    → PollsOnce Polls sent came bytes between new → old.wants ≡ false → new.wants ≡ false
+turn_unwanted piece (Some send.Failed) None bytes old between new s (same, none) w = ap (λ (l : Looped). l.wants) same ∙ failed_wants piece old between s ∙ w
+turn_unwanted piece (Some send.Failed) (Some step) bytes old between new s p w = absurd p
+turn_unwanted piece None None bytes old between new s p w = absurd p
+turn_unwanted piece None (Some step) bytes old between new s p w = polls_unwanted between 8192 step bytes new p
+turn_unwanted piece (Some (send.Took n)) None bytes old between new s p w = absurd p
+turn_unwanted piece (Some (send.Took n)) (Some step) bytes old between new s p w = polls_unwanted between 8192 step bytes new p
+turn_unwanted piece (Some send.Idle) None bytes old between new s p w = absurd p
+turn_unwanted piece (Some send.Idle) (Some step) bytes old between new s p w = polls_unwanted between 8192 step bytes new p
+turn_unwanted piece (Some send.Memory) None bytes old between new s p w = absurd p
+turn_unwanted piece (Some send.Memory) (Some step) bytes old between new s p w = polls_unwanted between 8192 step bytes new p
 
 -- ---- the bytes of a world
 
@@ -161,21 +209,58 @@ abbrev Keeps : HubParts Looped → HubParts Looped → Type 0
 Keeps old new = (start : Told) (s : Setting) (past : Past) (sent received : List ℕ) → Behind tells counted start s past sent received old
     → Behind tells counted start s past sent received new
 
+-- ---- a turn that wanted memory left the record
+
+abbrev KnowsHub : HubParts Looped → Type 0
+KnowsHub hub = Holds tells counted hub
+
+kept_core : (said : Turn) (old new : HubCore) → KeepsTurn said old new → said ≡ turn.Memory → new ≡ record old { turned = new.turned }
+kept_core turn.Memory old new k is = k
+kept_core turn.Idle old new k is = k
+kept_core turn.Moved old new k is = cc
+kept_core (turn.Ended e) old new k is = cc
+
+still_ended : (said : Turn) (e : Option End) (sent : Option SendStep) (came : Option PollStep) → IsAnswer said e sent came → said ≡ turn.Memory → e ≡ None
+still_ended turn.Memory e sent came a is = a.0
+still_ended turn.Idle e sent came a is = a.0
+still_ended turn.Moved e sent came a is = cc
+still_ended (turn.Ended f) e sent came a is = cc
+
+turn_stays : (s : Setting) (old : Worldly) (before mid : HubParts Looped) (said : Turn)
+    → Behind tells counted (tells begun.link) s old.past old.link.sent old.link.taken before → (t : Turns tells counted Sends Polls said before mid)
+    → (u : TurnsOn (tells begun.link) (tells mid.link) (counted mid.link) s old.past mid.link.sent mid.link.taken (said_by t.sent t.came) mid.core)
+    → KnowsHub before → KnowsHub mid → said ≡ turn.Memory → u.more ++ old.past ≡ old.past
+turn_stays s old before mid said b t u knows knows_mid is =
+    let core = kept_core said before.core mid.core t.keeps is in
+    let was = knows (tells begun.link) s old.past old.link.sent old.link.taken b in
+    let now = knows_mid (tells begun.link) s (u.more ++ old.past) mid.link.sent mid.link.taken u.account in
+    ap (λ (l : Past). l ++ old.past) (nothing_came s old.past u.more u.adds.own u.account.plain
+    (sym now.over ∙ still_ended said mid.core.end t.sent t.came t.answers is)
+    (sym now.number ∙ ap (λ (c : HubCore). c.urbs.next) core ∙ was.number)
+    (sym u.account.rests.knows.answers ∙ ap (λ (c : HubCore). c.taken) core ∙ b.rests.knows.answers)
+    (sym u.account.rests.knows.marks ∙ ap (λ (c : HubCore). c.notes.marks) core ∙ b.rests.knows.marks))
+
 -- a hub whose link was opened for a turn, turned, and was closed again
 turn_goes : (first depth : ℕ) (rooms : Pace) (old : Worldly) (before mid after : HubParts Looped) (said : Turn)
     → (outbox (setting_of first depth) old ≡ before.core.urbs.outbox)
-    → before.link ≡ record old.link { pace = rooms } → IsPaced rooms
+    → before.link ≡ record old.link { pace = rooms } → IsPaced rooms → old.link.wants ≡ false
     → Behind tells counted (tells begun.link) (setting_of first depth) old.past old.link.sent old.link.taken before
     → Turns tells counted Sends Polls said before mid
-    → (IsPaced mid.link.pace → after.link ≡ record mid.link { pace = shut }) → Keeps mid after
+    → (IsPaced mid.link.pace → after.link ≡ record mid.link { pace = shut }) → Keeps mid after → KnowsHub before → KnowsHub mid
     → TurnsTo first depth rooms old said after
-turn_goes first depth rooms old before mid after said box link paced b t shuts keeps =
+turn_goes first depth rooms old before mid after said box link paced unwanted b t shuts keeps knows knows_mid =
     let s = setting_of first depth in
     let u = turned_on mid.link s old.past _ _ _ mid.core (t.turns (tells begun.link) s old.past old.link.sent old.link.taken b) in
     let done = shuts (once_polled_paced t.sent t.came t.bytes t.between mid.link t.polls_once
     (once_sent_paced before.core.urbs.outbox t.sent before.link t.between t.sends_once (of_pace before.link rooms (ap (λ (l : Looped). l.pace) link) paced))) in
     let over : IsBehind first depth (record { past = u.more ++ old.past; link = record mid.link { pace = shut } }) after =
-    record { link = done; idle = refl; behind = keeps (tells begun.link) s (u.more ++ old.past) mid.link.sent mid.link.taken u.account } in
+    record {
+      link = done;
+      idle = refl;
+      unwanted = turn_unwanted before.core.urbs.outbox t.sent t.came t.bytes before.link t.between mid.link t.sends_once t.polls_once
+          (ap (λ (l : Looped). l.wants) link ∙ unwanted);
+      behind = keeps (tells begun.link) s (u.more ++ old.past) mid.link.sent mid.link.taken u.account;
+    } in
     let left : mid.core.urbs.outbox ≡ drop (length mid.link.sent) (spelled (written s (u.more ++ old.past))) =
     sym (behind_bytes mid.link.sent mid.core.urbs.outbox _ u.account.tied.written) in
     record {
@@ -206,6 +291,8 @@ turn_goes first depth rooms old before mid after said box link paced b t shuts k
         taken = u.account.taken;
       };
       answers = subst (λ (e : Option End). IsAnswer said e t.sent t.came) u.account.rests.knows.over t.answers;
+      ends = subst (λ (e : Option End). EndsTurn t.sent t.came e) u.account.rests.knows.over t.ends;
+      stays = turn_stays s old before mid said b t u knows knows_mid;
       behind = over;
     }
 
@@ -215,13 +302,13 @@ pub turning_leads : (first depth most least : ℕ) (old : Worldly) (hub a b c d 
     → (b.core.end ≡ None → Turns tells counted Sends Polls said b c)
     → Tends c.link (act.RoomSend 0) sd d.link → Keeps c d
     → Tends d.link (act.RoomPoll 0) se e.link → Keeps d e
-    → IsBehind first depth old hub → ended old.past ≡ None → TurnsTo first depth (Paced (record { send = most; poll = least })) old said e
-turning_leads first depth most least old hub a b c d e sa sb sd se said ta ca ka tb cb kb turns td kd te ke is runs =
+    → KnowsHub b → KnowsHub c → IsBehind first depth old hub → ended old.past ≡ None → TurnsTo first depth (Paced (record { send = most; poll = least })) old said e
+turning_leads first depth most least old hub a b c d e sa sb sd se said ta ca ka tb cb kb turns td kd te ke knows knows_mid is runs =
     let core = cb ∙ ca in
     turn_goes first depth (Paced (record { send = most; poll = least })) old b c e said
     (sym (outbox_is first depth old hub is) ∙ ap (λ x. x.urbs.outbox) (sym core))
-    (rooms_opened most least old.link hub.link a.link b.link is.link is.idle (room_send most hub.link sa a.link ta) (room_poll least a.link sb b.link tb)) tt
+    (rooms_opened most least old.link hub.link a.link b.link is.link is.idle (room_send most hub.link sa a.link ta) (room_poll least a.link sb b.link tb)) tt is.unwanted
     (kb _ _ _ _ _ (ka _ _ _ _ _ is.behind))
     (turns (ap (λ x. x.end) core ∙ is.behind.rests.knows.over ∙ runs))
     (λ paced. closed_again c.link d.link e.link paced (room_send 0 c.link sd d.link td) (room_poll 0 d.link se e.link te))
-    (λ start s past sent received w. ke start s past sent received (kd start s past sent received w))
+    (λ start s past sent received w. ke start s past sent received (kd start s past sent received w)) knows knows_mid

@@ -9,3 +9,4 @@ pub mod WorldSteps
 pub mod Rests
 pub mod WorldEvents
 pub mod RestCalls
+pub mod WorldFacts

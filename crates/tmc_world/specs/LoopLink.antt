@@ -31,6 +31,8 @@ pub record Looped : Type 0 where
   -- whether the next send is to fail, and the next poll
   pub send_fails : Bool
   pub poll_fails : Bool
+  -- whether a send wanted memory, so that the next poll is to want it too
+  pub wants : Bool
   pub node : Seen
   pub sent : List ℕ
   pub taken : List ℕ
@@ -46,6 +48,7 @@ begun_loop pace = record {
   pace = pace;
   send_fails = false;
   poll_fails = false;
+  wants = false;
   node = begun true;
   sent = [];
   taken = [];
@@ -97,11 +100,11 @@ pub record SendTakes (count : ℕ) (old : Looped) (piece : List ℕ) (new : Loop
     late = new.late;
   }
 
--- memory is wanting
+-- memory is wanting, and the next poll is to want it too: so the turn that sent moves nothing
 pub record SendWants (old new : Looped) : Type 0 where
   pub unnamed : old.send_fails ≡ false
   pub room : NoSendRoom old.pace → ⊥
-  pub is : new ≡ old
+  pub is : new ≡ record old { wants = true }
 
 abbrev pub Sends : Looped → List ℕ → SendStep → Looped → Type 0
 Sends old piece (send.Took n) new = SendTakes n old piece new
@@ -111,13 +114,20 @@ Sends old piece send.Memory new = SendWants old new
 
 -- ---- a poll
 
+-- one that is to want memory, since the send before it did, does so first of all
+pub record PollRefrains (old new : Looped) : Type 0 where
+  pub wanted : old.wants ≡ true
+  pub is : new ≡ record old { wants = false }
+
 -- one that is to fail does so
 pub record PollFails (old new : Looped) : Type 0 where
+  pub unwanted : old.wants ≡ false
   pub named : old.poll_fails ≡ true
   pub is : new ≡ record old { poll_fails = false; pace = poll_shut old.pace; counts = one_fault old.counts }
 
 -- there is no room
 pub record PollShut (old new : Looped) : Type 0 where
+  pub unwanted : old.wants ≡ false
   pub unnamed : old.poll_fails ≡ false
   pub shut : NoPollRoom old.pace
   pub is : new ≡ record old { counts = one_idle old.counts }
@@ -137,6 +147,7 @@ Readies (Paced rooms) false old ready = ready ≡ old
 
 -- a poll that is not to fail, and for which there is room; each answer is spelled
 pub record PollBegins (old ready : Looped) : Type 0 where
+  pub unwanted : old.wants ≡ false
   pub unnamed : old.poll_fails ≡ false
   pub room : NoPollRoom old.pace → ⊥
   pub readies : Readies old.pace old.late old ready
@@ -187,6 +198,7 @@ MayHaveMoved (Paced rooms) true old new = HasMoved old new
 MayHaveMoved (Paced rooms) false old new = new ≡ old
 
 pub record PollWants (old new : Looped) : Type 0 where
+  pub unwanted : old.wants ≡ false
   pub unnamed : old.poll_fails ≡ false
   pub room : NoPollRoom old.pace → ⊥
   pub moved : MayHaveMoved old.pace old.late old new
@@ -196,7 +208,7 @@ Polls old size (poll.Got n) bytes new = PollGoes old size (poll.Got n) bytes new
 Polls old size poll.Idle bytes new = PollShut old new ⊎ PollGoes old size poll.Idle bytes new
 Polls old size poll.Closed bytes new = PollGoes old size poll.Closed bytes new
 Polls old size poll.Failed bytes new = PollFails old new
-Polls old size poll.Memory bytes new = PollWants old new
+Polls old size poll.Memory bytes new = PollRefrains old new ⊎ PollWants old new
 
 -- ---- an act
 

@@ -1,5 +1,5 @@
 -- a hub over a paced link in memory: what happened at it, and the link with the instrument at its other end
-use Rattle.std.specs.Prelude.{◌≡◌, ℕ, ◌<◌, ◌^◌, Some, [], List, length, drop}
+use Rattle.std.specs.Prelude.{◌≡◌, ℕ, ◌<◌, ◌^◌, false, Some, [], List, length, drop}
 use Rattle.tmc_base.specs.Link.{Counts}
 use Rattle.tmc_base.specs.Told.{Told, Peer}
 use Rattle.usb_setup.specs.declared.ends.Ends.{Ends}
@@ -53,11 +53,12 @@ tells link = Peer link.sent link.taken link.run
 abbrev pub counted : Looped → Counts
 counted link = link.counts
 
--- A world behind a hub of this setting: its link is the hub's, which has no room between events, and its past is a record behind the
--- hub since power-on.
+-- A world behind a hub of this setting: its link is the hub's, which has no room between events and owes no want of memory, and its past
+-- is a record behind the hub since power-on.
 pub record IsBehind (first depth : ℕ) (world : Worldly) (hub : HubParts Looped) : Type 0 where
   pub link : hub.link ≡ world.link
   pub idle : world.link.pace ≡ shut
+  pub unwanted : world.link.wants ≡ false
   pub behind : Behind tells counted (tells begun.link) (setting_of first depth) world.past world.link.sent world.link.taken hub
 
 -- some world stands behind it, of which the first message has a number of 32 bits

@@ -1,11 +1,12 @@
 -- what became of an event in a world, and of the hub behind which the world stands
-use Rattle.std.specs.Prelude.{◌≡◌, ℕ, List, Option, None, Result, Ok, Err}
+use Rattle.std.specs.Prelude.{◌≡◌, ◌≢◌, ◌⊎◌, ℕ, Bool, true, List, [], Option, None, Result, Ok, Err}
 use Rattle.tmc_base.specs.declared.link.PollStep.{PollStep}
 use Rattle.tmc_base.specs.declared.link.SendStep.{SendStep}
 use Rattle.tmc_base.specs.declared.link.TendStep.TheVariants as tend
 use Rattle.host_hub.specs.declared.answers.Turn.{Turn}
+use Rattle.host_hub.specs.declared.answers.Turn.TheVariants as turn
 use Rattle.host_hub.specs.Hand.{ended}
-use Rattle.host_hub.specs.HubCalls.{IsAnswer}
+use Rattle.host_hub.specs.HubCalls.{EndsTurn, IsAnswer}
 use Rattle.tmc_world.specs.declared.pace.Pace.{Pace}
 use Rattle.host_hub.specs.declared.refusals.AskFault.{AskFault}
 use Rattle.host_hub.specs.declared.refusals.AskFault.TheVariants as fault
@@ -18,10 +19,12 @@ use Rattle.event_text.specs.declared.event.Event.TheVariants as event
 use Rattle.tmc_world.specs.declared.applied.Applied.{Applied}
 use Rattle.tmc_world.specs.declared.applied.Applied.TheVariants as applied
 use Rattle.tmc_world.specs.declared.loop_act.LoopAct.TheVariants as act
-use Rattle.tmc_world.specs.LoopLink.{Looped, Tends}
-use Rattle.tmc_world.specs.World.{Worldly, IsBehind, setting_of}
+use Rattle.tmc_law.specs.declared.dev_event.DevEvent.{DevEvent}
+use Rattle.tmc_world.specs.Counting.{one_idle}
+use Rattle.tmc_world.specs.LoopLink.{Looped, MayHaveMoved, Tends}
+use Rattle.tmc_world.specs.World.{Worldly, IsBehind, outbox, setting_of, shut}
 use Rattle.tmc_world.specs.Rests.{StopsBy}
-use Rattle.tmc_world.specs.WorldSteps.{Steps, IsClosedTo, TurnsBy, asking_of_ask, asking_of_tell}
+use Rattle.tmc_world.specs.WorldSteps.{Steps, IsClosedTo, MayGoDown, MayGoUp, TurnsBy, asking_of_ask, asking_of_tell}
 
 -- a ticket, or a refusal by its cause; a call that wants memory answers that alone
 abbrev pub applied_ask : Result ℕ AskFault → Applied
@@ -29,16 +32,49 @@ applied_ask (Ok ticket) = applied.Answer (answer.Ticket ticket)
 applied_ask (Err fault.Memory) = applied.Memory
 applied_ask (Err why) = applied.Answer (answer.Refused why)
 
--- Memory is wanting for a move, and nothing has changed. Nor has it by a step of the instrument, but that what waits for memory in its node
--- may be taken in and spelled in part.
+-- what a turn answers that an event makes
+abbrev pub applied_turn : Turn → Applied
+applied_turn turn.Memory = applied.Memory
+applied_turn said = applied.Answer answer.Done
+
+-- what became of an event behind which answers wait for memory, or do not
+abbrev pub spelled_by : (late : Bool) → Applied → Applied
+spelled_by true (applied.Answer said) = applied.Memory
+spelled_by late became = became
+
+-- ---- want of memory
+
+-- The event was enabled and made its step, and what it put out waits for memory in the node.
+pub record MadeLate (s : Setting) (does : Event) (old new : Worldly) : Type 0 where
+  pub made : Steps s does old answer.Done new
+  pub late : new.link.late ≡ true
+
+-- bytes may go up, and nothing has changed
+abbrev pub WantsUp : Setting → (most : ℕ) → (old new : Worldly) → Type 0
+WantsUp s most old new = MayGoUp s most old × (new ≡ old)
+
+-- Bytes may go down, and nothing has changed but that the link counted that it did not send, where the outbox is not empty, and that
+-- what waits for memory in the node may be taken in and spelled in part.
+pub record WantsDown (s : Setting) (most : ℕ) (old new : Worldly) : Type 0 where
+  pub due : MayGoDown most old
+  pub past : new.past ≡ old.past
+  pub idled : Looped
+  pub idles : ((outbox s old ≡ []) × (idled ≡ old.link)) ⊎ ((outbox s old ≢ []) × (idled ≡ record old.link { counts = one_idle old.link.counts }))
+  pub moved : MayHaveMoved shut old.link.late idled new.link
+
+-- a step of the instrument: nothing has changed but that what waits for memory in its node may be taken in and spelled in part
+abbrev pub WantsDev : DevEvent → (old new : Worldly) → Type 0
+WantsDev does old new = (new.past ≡ old.past) × Tends old.link (act.Dev does) tend.Memory new.link
+
+-- Memory is wanting for a move. One that moves bytes up, or a step of the instrument, may have been made, where its answers wait.
 abbrev pub MoveWants : Setting → Event → (old new : Worldly) → Type 0
-MoveWants s (event.Dev does) old new = (new.past ≡ old.past) × Tends old.link (act.Dev does) tend.Memory new.link
-MoveWants s (event.Up most) old new = new ≡ old
-MoveWants s (event.Down most) old new = new ≡ old
+MoveWants s (event.Up most) old new = WantsUp s most old new ⊎ MadeLate s (event.Up most) old new
+MoveWants s (event.Down most) old new = WantsDown s most old new
+MoveWants s (event.Dev does) old new = WantsDev does old new ⊎ MadeLate s (event.Dev does) old new
 MoveWants s _ old new = ⊥
 
--- Memory is wanting for an event: a call that asks has no cause to refuse, and nothing has changed. Where nothing is to be left to do, some
--- moves were made, and then memory was wanting.
+-- Memory is wanting for an event. A call that asks has no cause to refuse, and nothing has changed. Where nothing was to be left to do, some moves
+-- were made, and then memory was wanting.
 abbrev pub Wants : Setting → Event → (old new : Worldly) → Type 0
 Wants s (event.Ask session limit message) old new = (ask_fault s old.past (asking_of_ask session limit message) ≡ None) × (new ≡ old)
 Wants s (event.Tell session message) old new = (ask_fault s old.past (asking_of_tell session message) ≡ None) × (new ≡ old)
@@ -56,11 +92,14 @@ pub record LeadsTo (first depth : ℕ) (does : Event) (old : Worldly) (became : 
   pub goes : Applies (setting_of first depth) does old became new
   pub behind : IsBehind first depth new hub
 
--- one turn of a hub that runs led it to behind a world, and answered so
+-- One turn of a hub that runs led it to behind a world, and answered so. The hub has ended behind it by what the link answered, or
+-- runs on. Where memory was wanting, nothing happened at the hub.
 pub record TurnsTo (first depth : ℕ) (rooms : Pace) (old : Worldly) (said : Turn) (hub : HubParts Looped) : Type 0 where
   pub new : Worldly
   pub sent : Option SendStep
   pub came : Option PollStep
   pub turns : TurnsBy (setting_of first depth) rooms sent came old new
   pub answers : IsAnswer said (ended new.past) sent came
+  pub ends : EndsTurn sent came (ended new.past)
+  pub stays : said ≡ turn.Memory → new.past ≡ old.past
   pub behind : IsBehind first depth new hub

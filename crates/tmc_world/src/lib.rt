@@ -6,6 +6,7 @@
 #![tactic(auto)]
 
 mod applied;
+mod events;
 mod history;
 mod line;
 mod loop_act;
@@ -15,7 +16,7 @@ mod rest;
 #[cfg(test)]
 mod rest_tests;
 mod resting;
-mod stub;
+mod runs;
 mod tally;
 #[cfg(test)]
 mod tests;
@@ -27,5 +28,6 @@ pub use applied::Applied;
 pub use loop_act::LoopAct;
 pub use loop_link::LoopLink;
 pub use resting::{instruments_come_to_rest, worlds_come_to_rest};
+pub use runs::world_runs_keep_the_laws;
 pub use usbip_export::{DevEvent, Log, LogEntry};
 pub use world::World;

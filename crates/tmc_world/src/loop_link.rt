@@ -23,6 +23,8 @@ use usbip_export::{DevEvent, Log, calls_join};
 /// A paced link moves the bytes that its rooms allow: each room is for the next send, or the next poll, and is used up by
 /// it. Its instrument moves by acts alone. A calm link has no rooms, and its instrument makes its calm moves at each poll.
 ///
+/// Where a send wants memory, so does the poll behind it, whatever else is to become of that.
+///
 /// It always tells its run: a lawful run of the instrument from power-on.
 #[derive(Drop)]
 pub struct LoopLink {
@@ -31,6 +33,8 @@ pub struct LoopLink {
     pace: Pace,
     send_fails: bool,
     poll_fails: bool,
+    /// Whether a send wanted memory, so that the next poll is to want it too.
+    wants: bool,
     tally: Tally,
 }
 
@@ -45,6 +49,7 @@ impl Model for LoopLink {
       pace = a.pace;
       send_fails = a.send_fails;
       poll_fails = a.poll_fails;
+      wants = a.wants;
       node = a.line.node;
       sent = a.line.sent;
       taken = a.line.taken;
@@ -81,6 +86,7 @@ impl LoopLink {
             pace,
             send_fails: false,
             poll_fails: false,
+            wants: false,
             tally: Tally::new(),
         })
     }
@@ -146,6 +152,7 @@ impl LoopLink {
             return SendStep::Idle;
         }
         if self.line.send(&piece[..count]).is_err() {
+            self.wants = true;
             return SendStep::Memory;
         }
         self.history = self.history.and(&self.line);
@@ -159,6 +166,10 @@ impl LoopLink {
         ensures goes { Polls self.old (length buf.old) result (take (got_count result) buf.new) self.new }
         ensures counts { PollCounts result self.old.counts self.new.counts }
     {
+        if self.wants {
+            self.wants = false;
+            return PollStep::Memory;
+        }
         if self.poll_fails {
             self.poll_fails = false;
             self.pace = self.pace.poll_shut();

@@ -84,7 +84,7 @@ fn crossed(rt: &impl Abort, link: &LoopLink, sent: &[u8], taken: &[u8], entries:
 }
 
 /// What a client sends to an imported instrument: `*IDN?`, and the request for its response.
-const UP: [u8; 176] = [
+pub(crate) const UP: [u8; 176] = [
     0, 0, 0, 1, 0, 0, 0, 1, 0, 1, 0, 2, 0, 0, 0, 0, 0, 0, 0, 1, // USBIP_CMD_SUBMIT 1: OUT, endpoint 1
     0, 0, 0, 0, 0, 0, 0, 20, 0, 0, 0, 0, 255, 255, 255, 255, 0, 0, 0, 0, // 20 bytes
     0, 0, 0, 0, 0, 0, 0, 0, //
@@ -100,7 +100,7 @@ const UP: [u8; 176] = [
 ];
 
 /// What it is answered.
-const DOWN: [u8; 176] = [
+pub(crate) const DOWN: [u8; 176] = [
     0, 0, 0, 3, 0, 0, 0, 1, 0, 0, 0, 0, 0, 0, 0, 0, 0, 0, 0, 0, // USBIP_RET_SUBMIT 1
     0, 0, 0, 0, 0, 0, 0, 20, // status, 20 bytes
     0, 0, 0, 0, 255, 255, 255, 255, 0, 0, 0, 0, 0, 0, 0, 0, 0, 0, 0, 0, //

@@ -7,12 +7,14 @@ ghost use Rattle.usbip_export.specs.Seen.{standing};
 ghost use Rattle.event_text.specs.declared.event.Event.TheVariants as event;
 ghost use Rattle.tmc_world.specs.declared.pace.Pace.TheVariants as pace;
 ghost use Rattle.tmc_world.specs.LoopLink.{IsTold};
-ghost use Rattle.tmc_world.specs.World.{Worldly, HasWorld, IsBehind, begun};
+ghost use Rattle.tmc_world.specs.World.{Worldly, HasWorld, IsBehind, begun, setting_of};
 ghost use Rattle.tmc_world.specs.WorldEvents.{LeadsTo, TurnsTo, applied_ask};
+ghost use Rattle.tmc_world.specs.WorldFacts.{WorldFacts};
 
 use crate::{Applied, LoopAct, LoopLink};
 use event_text::EventAnswer;
 use host_hub::{AskFault, Hub, Turn};
+use host_joint::joints_begin;
 use std::alloc::Global;
 use std::marker::Model;
 use tmc_base::{Memory, TendStep};
@@ -84,6 +86,15 @@ impl World {
         ensures told { IsTold self.now.hub.link }
     {
         self.hub.link().log()
+    }
+
+    /// What holds in the world is so at any time. Does nothing.
+    pub fn holds(&self)
+        ensures { (first depth : ℕ) (world : Worldly) → IsBehind first depth world self.now.hub → WorldFacts (setting_of first depth) world self.now.hub }
+    {
+        joints_begin();
+        self.hub.book();
+        self.hub.link().log();
     }
 
     /// This session asks.

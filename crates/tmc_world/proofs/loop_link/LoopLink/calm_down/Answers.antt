@@ -12,6 +12,6 @@ returns-clause-moved c =
     rw (← c.self.view_is) (record {
       works = c.calm.ensures.works;
       tells = front_told _ _ _ c.and-self-inside.ensures;
-      is = shown_moved c.self.inside.pace c.self.inside.send_fails c.self.inside.poll_fails c.self.inside.tally (told_of [] c.self.inside.history.moments)
+      is = shown_moved c.self.inside.pace c.self.inside.send_fails c.self.inside.poll_fails c.self.inside.wants c.self.inside.tally (told_of [] c.self.inside.history.moments)
           (told_of [] c.and-self-inside.result.moments) c.self.inside.line c.calm.new.self c.calm.ensures.is;
     })

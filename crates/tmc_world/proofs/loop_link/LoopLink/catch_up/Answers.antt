@@ -13,7 +13,7 @@ returns c =
       moved = rw (← c.self.view_is) (record {
         works = c.catch_up.ensures.works;
         tells = front_told _ _ _ c.and-self-inside.ensures;
-        is = shown_moved c.self.inside.pace c.self.inside.send_fails c.self.inside.poll_fails c.self.inside.tally (told_of [] c.self.inside.history.moments)
+        is = shown_moved c.self.inside.pace c.self.inside.send_fails c.self.inside.poll_fails c.self.inside.wants c.self.inside.tally (told_of [] c.self.inside.history.moments)
             (told_of [] c.and-self-inside.result.moments) c.self.inside.line c.catch_up.new.self c.catch_up.ensures.is;
       });
     }

@@ -26,9 +26,9 @@ returns-clause-goes c =
       hears = on_ok c.send.result _ c.send.ensures.hears went;
       tells = front_told _ _ _ c.and-self-inside.ensures;
       is =
-          ap (λ (p : Pace). shown p c.self.inside.send_fails c.self.inside.poll_fails c.self.inside.tally (told_of [] c.and-self-inside.result.moments) c.send.new.self)
+          ap (λ (p : Pace). shown p c.self.inside.send_fails c.self.inside.poll_fails c.self.inside.wants c.self.inside.tally (told_of [] c.and-self-inside.result.moments) c.send.new.self)
           c.send_shut-self-inside-2.ensures
-          ∙ shown_sent c.self.inside.pace (send_shut c.self.inside.pace) c.self.inside.send_fails c.self.inside.poll_fails c.self.inside.tally
+          ∙ shown_sent c.self.inside.pace (send_shut c.self.inside.pace) c.self.inside.send_fails c.self.inside.poll_fails c.self.inside.wants c.self.inside.tally
           (told_of [] c.self.inside.history.moments) (told_of [] c.and-self-inside.result.moments) (take c.send_room-count.result c.args.piece.now)
           c.self.inside.line c.send.new.self (on_ok c.send.result _ c.send.ensures.sent went) (on_ok c.send.result _ c.send.ensures.taken went);
     })

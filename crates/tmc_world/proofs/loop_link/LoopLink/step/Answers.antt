@@ -20,7 +20,7 @@ returns-in-Applied c = record {
   ends = rw (← c.self.view_is) (record {
     drives = c.act.ensures.applied c.in-Applied.is;
     tells = front_told _ _ _ c.and-self-inside.ensures;
-    is = shown_moved c.self.inside.pace c.self.inside.send_fails c.self.inside.poll_fails c.self.inside.tally (told_of [] c.self.inside.history.moments)
+    is = shown_moved c.self.inside.pace c.self.inside.send_fails c.self.inside.poll_fails c.self.inside.wants c.self.inside.tally (told_of [] c.self.inside.history.moments)
         (told_of [] c.and-self-inside.result.moments) c.self.inside.line c.act.new.self c.act.ensures.is;
   });
 }

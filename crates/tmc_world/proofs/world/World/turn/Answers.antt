@@ -9,4 +9,4 @@ returns c = λ first depth old b runs.
     c.tend-2.ensures.tends c.tend-2.ensures.core c.tend-2.ensures.behind
     c.turn-turn.ensures.turns
     c.tend-3.ensures.tends c.tend-3.ensures.behind
-    c.tend-4.ensures.tends c.tend-4.ensures.behind b runs
+    c.tend-4.ensures.tends c.tend-4.ensures.behind c.tend-2.ensures.holds c.turn-turn.ensures.holds b runs
