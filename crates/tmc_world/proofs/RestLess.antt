@@ -17,8 +17,7 @@ use Rattle.usbip_export.specs.Work.{weight}
 use Rattle.tmc_world.specs.LoopLink.{Acts}
 use Rattle.tmc_world.specs.World.{Worldly, outbox, setting_of}
 use Rattle.tmc_world.specs.WorldSteps.{GoesDown, GoesUp, IsFirstOpen, MayGoDown, MayGoUp, Moves, NoneOpen, moves}
-use Rattle.tmc_world.specs.RestCalls.{steps_of}
-use Rattle.tmc_world.specs.Rests.{IsLess, Left, GoesOn, left_of, writes_left}
+use Rattle.tmc_world.specs.Rests.{IsLess, Left, GoesOn, left_of, writes_left, steps_of}
 use Rattle.tmc_world.proofs.Bounded.{Lessens}
 use Rattle.tmc_world.proofs.RestMoves.{Which, Step, Behind, crossings, which}
 use Rattle.tmc_world.proofs.RestNumbers.{Fits}

@@ -1,6 +1,7 @@
 -- moves of a world that stands behind a hub, one behind another
-use Rattle.std.proofs.Common.{◌≡◌, ◌∙◌, ◌≢◌, ◌+◌, ◌*◌, ◌<◌, ◌≤◌, inl, inr, ℕ, Bool, true, false, List, [], ◌∷◌, ◌++◌, length, Option, Some, None, refl, sym, ap, subst, arith}
+use Rattle.std.proofs.Common.{◌≡◌, ◌∙◌, ◌≢◌, ◌+◌, ◌*◌, ◌<◌, ◌≤◌, inl, inr, ℕ, Bool, true, false, List, [], ◌∷◌, ◌++◌, length, Option, Some, None, Result, Ok, Err, IfOk, refl, sym, ap, subst, arith}
 use Rattle.std.specs.Prelude.{◌⊎◌}
+use Rattle.tmc_base.specs.declared.memory.Memory.{Memory}
 use Rattle.host_hub.specs.Behind.{HubParts}
 use Rattle.host_hub.specs.Hand.{ended}
 use Rattle.host_hub.specs.Order.{Setting}
@@ -13,12 +14,12 @@ use Rattle.tmc_world.specs.LoopLink.{Looped}
 use Rattle.tmc_world.specs.World.{Worldly, HasWorld, IsBehind, outbox, setting_of}
 use Rattle.tmc_world.specs.WorldSteps.{IsFirstOpen, MayGoUp, Moves, NoneOpen, moves}
 use Rattle.tmc_world.specs.WorldEvents.{LeadsTo, MoveWants}
-use Rattle.tmc_world.specs.Rests.{MovesBy, WantsFirst, WantsNext}
-use Rattle.tmc_world.specs.RestCalls.{AreShut, HasCalmed, HasMade, HasRested, HasStopped, HasTaken, IsSpent, MakesNone, MakesOne, WantsOne, down_moves, steps_of, to_send, to_write, up_moves}
+use Rattle.tmc_world.specs.Rests.{MovesBy, WantsFirst, WantsNext, down_moves, steps_of, up_moves}
+use Rattle.tmc_world.specs.RestCalls.{AreShut, Drains, HasCalmed, HasMade, HasRested, HasStopped, HasTaken, IsSpent, MakesNone, MakesOne, WantsOne, to_send, to_write}
 use Rattle.tmc_world.proofs.Turning.{outbox_is}
 use Rattle.tmc_world.proofs.RestMoves.{comes_to_rest, first_behind, first_in_front, moves_on, none_of_both, one_more, rests_on, wants_behind, wants_in_front}
 use Rattle.tmc_world.proofs.RestLess.{are_calm, no_box, writes_of}
-use Rattle.tmc_world.proofs.RestTries.{StepMade, same_sends, same_writes, sends_is, step_made}
+use Rattle.tmc_world.proofs.RestTries.{StepMade, late_in, same_sends, same_writes, sends_is, step_made}
 
 -- ---- some moves, and one more
 
@@ -58,9 +59,6 @@ stopped_on first depth old a b m l =
       goes = (m.made ++ g.0, record { mid = g.1.mid; moved = moves_on (setting_of first depth) m.made g.0 old m.new g.1.mid m.moved g.1.moved; stops = g.1.stops });
       behind = l.behind;
     }
-
-late_in : (first depth : ℕ) (world : Worldly) (hub : HubParts Looped) (late : Bool) → IsBehind first depth world hub → hub.link.late ≡ late → world.link.late ≡ late
-late_in first depth world hub late b is = ap (λ (l : Looped). l.late) (sym b.link) ∙ is
 
 -- ---- steps of the instrument
 
@@ -174,31 +172,21 @@ still_spent old new spent t none =
 
 -- ---- rounds
 
-pub rounds_calm : (first depth : ℕ) (old : Worldly) (a b : HubParts Looped) (m : HasMade first depth old a) → HasCalmed first depth m.new b
-    → HasMade first depth old b
-rounds_calm first depth old a b m c = made_on first depth old a b m c.made
-
 -- the instrument made its steps, and then bytes went up
-pub rounds_up : (first depth : ℕ) (old : Worldly) (a b c : HubParts Looped) (m : HasMade first depth old a) (k : HasCalmed first depth m.new b)
-    → MakesOne first depth up_moves k.made.new c → HasMade first depth old c
-rounds_up first depth old a b c m k u =
-    made_on first depth old a c m (made_on first depth m.new b c k.made
-    (one_made first depth up_moves k.made.new c k.unlate
+pub rounds_up : (first depth : ℕ) (old : Worldly) (a b : HubParts Looped) (k : HasCalmed first depth old a)
+    → MakesOne first depth up_moves k.made.new b → HasMade first depth old b
+rounds_up first depth old a b k u =
+    made_on first depth old a b k.made
+    (one_made first depth up_moves k.made.new b k.unlate
     (λ move opened. first_behind (setting_of first depth) move (steps_of calm_moves) (up_moves ++ down_moves) k.made.new k.none
-    (first_in_front (setting_of first depth) move up_moves down_moves k.made.new opened)) u))
+    (first_in_front (setting_of first depth) move up_moves down_moves k.made.new opened)) u)
 
-pub rounds_up_stops : (first depth : ℕ) (old : Worldly) (a b c : HubParts Looped) (m : HasMade first depth old a) (k : HasCalmed first depth m.new b)
-    → WantsOne first depth up_moves k.made.new c → HasStopped first depth old c
-rounds_up_stops first depth old a b c m k w =
-    stopped_on first depth old a c m (stopped first depth m.new b c k.made w.new
+pub rounds_up_stops : (first depth : ℕ) (old : Worldly) (a b : HubParts Looped) (k : HasCalmed first depth old a)
+    → WantsOne first depth up_moves k.made.new b → HasStopped first depth old b
+rounds_up_stops first depth old a b k w =
+    stopped first depth old a b k.made w.new
     (inr (k.unlate, wants_behind (MoveWants (setting_of first depth)) (setting_of first depth) (steps_of calm_moves) (up_moves ++ down_moves) k.made.new w.new k.none
-    (wants_in_front (MoveWants (setting_of first depth)) (setting_of first depth) up_moves down_moves k.made.new w.new w.wants))) w.behind)
-
--- where no bytes may go up the same world stands
-pub rounds_none_up : (first depth : ℕ) (old : Worldly) (a b c : HubParts Looped) (m : HasMade first depth old a) (k : HasCalmed first depth m.new b)
-    → MakesNone first depth up_moves k.made.new c → HasMade first depth old c
-rounds_none_up first depth old a b c m k n =
-    made_on first depth old a c m (record { new = k.made.new; made = k.made.made; moved = k.made.moved; behind = n.behind })
+    (wants_in_front (MoveWants (setting_of first depth)) (setting_of first depth) up_moves down_moves k.made.new w.new w.wants))) w.behind
 
 pub rounds_rest : (first depth : ℕ) (old : Worldly) (a b : HubParts Looped) (m : HasMade first depth old a) → HasRested first depth m.new b
     → HasRested first depth old b
@@ -207,3 +195,48 @@ rounds_rest first depth old a b m l = record {
   goes = (m.made ++ l.goes.0, rests_on (setting_of first depth) m.made l.goes.0 old m.new l.new m.moved l.goes.1);
   behind = l.behind;
 }
+
+-- the instrument made its steps, and bytes went down
+pub rounds_down : (first depth : ℕ) (old : Worldly) (a b c : HubParts Looped) (k : HasCalmed first depth old a) (result : Result Bool Memory)
+    → MakesNone first depth up_moves k.made.new b → (IsBehind first depth k.made.new b → Drains first depth k.made.new result c) → Drains first depth old result c
+rounds_down first depth old a b c k result n drains = by result (drains n.behind) where
+  m : HasMade first depth old b
+  m = record { new = k.made.new; made = k.made.made; moved = k.made.moved; behind = n.behind }
+  by : (r : Result Bool Memory) → Drains first depth k.made.new r c → Drains first depth old r c
+  by (Ok true) d = made_on first depth old b c m d
+  by (Ok false) d = rounds_rest first depth old b c m d
+  by (Err memory) d = stopped_on first depth old b c m d
+
+-- what is written comes before what is sent
+pub rounds_less : (old a b c : HubParts Looped) (h : HasWorld old) (k : HasCalmed h.first h.depth h.world a) (result : Result Bool Memory)
+    → MakesNone h.first h.depth up_moves k.made.new b
+    → ((d : Drains h.first h.depth h.world result c) → IfOk result (λ more. more ≡ true → to_write c < to_write b))
+    → Drains h.first h.depth h.world result c
+    → IfOk result (λ more. more ≡ true → to_send c < to_send old)
+rounds_less old a b c h k result n less drains = by result drains (less drains) where
+  calm : to_send b ≡ to_send old
+  calm = same_sends h.first h.depth k.made.new b a n.behind k.made.behind ∙ calmed_sends old a h k
+  by : (r : Result Bool Memory) → Drains h.first h.depth h.world r c → IfOk r (λ more. more ≡ true → to_write c < to_write b)
+      → IfOk r (λ more. more ≡ true → to_send c < to_send old)
+  by (Ok true) d f = λ is. let l = f refl in let s : length c.core.urbs.outbox ≤ 4096 = d.behind.behind.short in omega (arith, l, s, calm)
+  by (Ok false) d f = λ is. cc
+  by (Err memory) d f = tt
+
+pub rounds_up_less : (old a b : HubParts Looped) (h : HasWorld old) (k : HasCalmed h.first h.depth h.world a) → to_send b < to_send a → to_send b < to_send old
+rounds_up_less old a b h k less = let e = calmed_sends old a h k in omega (arith, less, e)
+
+pub drains_more : (first depth : ℕ) (old : Worldly) (r : Bool) (hub : HubParts Looped) → r ≡ true → Drains first depth old (Ok r) hub → HasMade first depth old hub
+drains_more first depth old true hub is d = d
+drains_more first depth old false hub is d = cc
+
+pub drains_none : (first depth : ℕ) (old : Worldly) (r : Bool) (hub : HubParts Looped) → r ≡ false → Drains first depth old (Ok r) hub → HasRested first depth old hub
+drains_none first depth old true hub is d = cc
+drains_none first depth old false hub is d = d
+
+pub no_bytes : (bytes : List ℕ) → length bytes ≤ 0 → bytes ≡ []
+no_bytes [] none = refl
+no_bytes (byte ∷ bytes) none = absurd (omega (arith, none))
+
+pub some_bytes : (bytes : List ℕ) → 0 < length bytes → bytes ≢ []
+some_bytes [] some = absurd (omega (arith, some))
+some_bytes (byte ∷ bytes) some = λ e. cc

@@ -10,8 +10,7 @@ use Rattle.usbip_export.specs.Seen.{standing}
 use Rattle.usbip_export.specs.Events.{all, calm_moves}
 use Rattle.tmc_world.specs.World.{Worldly}
 use Rattle.tmc_world.specs.WorldSteps.{IsFirstOpen, IsLawfulNow, IsOpenTo, MayGoDown, MayGoUp, Moves, NoneOpen, RestsBy, moves}
-use Rattle.tmc_world.specs.RestCalls.{down_moves, steps_of, up_moves}
-use Rattle.tmc_world.specs.Rests.{MovesBy, StopsBy, Wanting, WantsFirst, WantsNext}
+use Rattle.tmc_world.specs.Rests.{MovesBy, StopsBy, Wanting, WantsFirst, WantsNext, down_moves, steps_of, up_moves}
 
 -- ---- which move is the first
 

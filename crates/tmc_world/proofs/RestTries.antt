@@ -1,5 +1,5 @@
 -- one move of a world that stands behind a hub
-use Rattle.std.proofs.Common.{◌≡◌, ◌∙◌, ◌≢◌, ◌+◌, ◌*◌, ◌-◌, ◌^◌, ◌<◌, ◌≤◌, inl, inr, ℕ, Bool, true, false, List, [], ◌∷◌, ◌++◌, length, Option, Some, None, Result, Ok, Err, refl, sym, ap, ap₂, subst, arith, length-append}
+use Rattle.std.proofs.Common.{drop, slice_index_or, IfOk, ◌≡◌, ◌∙◌, ◌≢◌, ◌+◌, ◌*◌, ◌-◌, ◌^◌, ◌<◌, ◌≤◌, inl, inr, ℕ, Bool, true, false, List, [], ◌∷◌, ◌++◌, length, Option, Some, None, Result, Ok, Err, refl, sym, ap, ap₂, subst, arith, length-append}
 use Rattle.std.specs.Prelude.{◌⊎◌}
 use Rattle.tmc_base.specs.declared.memory.Memory.{Memory}
 use Rattle.tmc_base.specs.declared.link.TendStep.TheVariants as tend
@@ -24,8 +24,8 @@ use Rattle.tmc_world.specs.LoopLink.{Looped, Acts, ActGoes, CatchesUp, IsNotNow}
 use Rattle.tmc_world.specs.World.{Worldly, HasWorld, IsBehind, outbox, setting_of}
 use Rattle.tmc_world.specs.WorldSteps.{GoesDown, GoesUp, IsClosedTo, IsFirstOpen, IsLawfulNow, MayGoDown, MayGoUp, Moves, NoneOpen, Steps}
 use Rattle.tmc_world.specs.WorldEvents.{LeadsTo, MoveWants}
-use Rattle.tmc_world.specs.Rests.{IsLess, Left, WantsFirst, left_of, writes_left}
-use Rattle.tmc_world.specs.RestCalls.{AreShut, HasTaken, IsSpent, MakesNone, MakesOne, Tries, WantsOne, down_moves, ends_left, steps_of, to_send, to_take, to_write, up_moves}
+use Rattle.tmc_world.specs.Rests.{IsLess, Left, WantsFirst, left_of, writes_left, down_moves, steps_of, up_moves}
+use Rattle.tmc_world.specs.RestCalls.{AreShut, HasTaken, IsSpent, MakesNone, MakesOne, Tries, WantsOne, ends_left, to_send, to_take, to_write}
 use Rattle.tmc_world.proofs.Bounded.{Lessens}
 use Rattle.tmc_world.proofs.Turning.{outbox_is}
 use Rattle.tmc_world.proofs.RestNumbers.{Fits}
@@ -260,3 +260,54 @@ down_taken fits old new h spent m = record {
       → ((e : End) × (new.core.end ≡ Some e)) ⊎ (length m.new.link.node.out < length h.world.link.node.out)
   over (inl (e, it)) = inl (e, m.behind.behind.rests.knows.over ∙ it)
   over (inr less) = inr less
+
+-- ---- the first of some steps, and the others
+
+pub late_in : (first depth : ℕ) (world : Worldly) (hub : HubParts Looped) (late : Bool) → IsBehind first depth world hub → hub.link.late ≡ late → world.link.late ≡ late
+late_in first depth world hub late b is = ap (λ (l : Looped). l.late) (sym b.link) ∙ is
+
+pub first_tried : (first depth : ℕ) (events : List DevEvent) (otherwise : DevEvent) (old : Worldly) (said : EventAnswer) (hub : HubParts Looped) → 1 ≤ length events
+    → old.link.late ≡ false → LeadsTo first depth (event.Dev (slice_index_or events 0 otherwise)) old (applied.Answer said) hub
+    → MakesOne first depth (steps_of events) old hub
+first_tried first depth [] otherwise old said hub some unlate l = absurd (omega (arith, some))
+first_tried first depth (does ∷ others) otherwise old said hub some unlate l = tries_first first depth does others old said hub unlate l
+
+pub next_tried : (first depth : ℕ) (events others : List DevEvent) (otherwise : DevEvent) (old : Worldly) (result : Result Bool Memory) (mid new : HubParts Looped)
+    → 1 ≤ length events → others ≡ drop 1 events → old.link.late ≡ false → LeadsTo first depth (event.Dev (slice_index_or events 0 otherwise)) old applied.NotEnabled mid
+    → (IsBehind first depth old mid → old.link.late ≡ false → Tries first depth (steps_of others) old result new) → Tries first depth (steps_of events) old result new
+next_tried first depth [] others otherwise old result mid new some rest unlate l next = absurd (omega (arith, some))
+next_tried first depth (does ∷ behind) others otherwise old result mid new some rest unlate l next =
+    let d = declined_behind first depth does old mid unlate l in
+    tries_next first depth does behind old result new d.0 (subst (λ (es : List DevEvent). Tries first depth (steps_of es) old result new) rest (next d.1 unlate))
+
+pub first_wants : (first depth : ℕ) (events : List DevEvent) (otherwise : DevEvent) (old : Worldly) (hub : HubParts Looped) → 1 ≤ length events
+    → LeadsTo first depth (event.Dev (slice_index_or events 0 otherwise)) old applied.Memory hub → WantsOne first depth (steps_of events) old hub
+first_wants first depth [] otherwise old hub some l = absurd (omega (arith, some))
+first_wants first depth (does ∷ others) otherwise old hub some l = tries_wants first depth does others old hub l
+
+-- the same weight is left behind a step that was declined
+pub next_lighter : (events : List DevEvent) (otherwise : DevEvent) (result : Result Bool Memory) (old mid new : HubParts Looped) (h : HasWorld old) → old.link.late ≡ false
+    → LeadsTo h.first h.depth (event.Dev (slice_index_or events 0 otherwise)) h.world applied.NotEnabled mid
+    → (mid.link.late ≡ false → IfOk result (λ moved. moved ≡ true → weight (standing new.link.node) < weight (standing mid.link.node)))
+    → IfOk result (λ moved. moved ≡ true → weight (standing new.link.node) < weight (standing old.link.node))
+next_lighter events otherwise result old mid new h unlate l less = by result (less (ap (λ (x : Looped). x.late) same ∙ unlate)) where
+  d : IsBehind h.first h.depth h.world mid
+  d = (declined_behind h.first h.depth (slice_index_or events 0 otherwise) h.world mid (late_in h.first h.depth h.world old false h.behind unlate) l).1
+  same : mid.link ≡ old.link
+  same = d.link ∙ sym h.behind.link
+  by : (r : Result Bool Memory) → IfOk r (λ moved. moved ≡ true → weight (standing new.link.node) < weight (standing mid.link.node))
+      → IfOk r (λ moved. moved ≡ true → weight (standing new.link.node) < weight (standing old.link.node))
+  by (Ok moved) f = λ is. subst (λ (x : Looped). weight (standing new.link.node) < weight (standing x.node)) same (f is)
+  by (Err memory) f = tt
+
+-- ---- what a call answered
+
+pub made_if : (first depth : ℕ) (events : List Event) (old : Worldly) (r : Bool) (hub : HubParts Looped) → r ≡ true → Tries first depth events old (Ok r) hub
+    → MakesOne first depth events old hub
+made_if first depth events old true hub is t = t
+made_if first depth events old false hub is t = cc
+
+pub none_if : (first depth : ℕ) (events : List Event) (old : Worldly) (r : Bool) (hub : HubParts Looped) → r ≡ false → Tries first depth events old (Ok r) hub
+    → MakesNone first depth events old hub
+none_if first depth events old true hub is t = cc
+none_if first depth events old false hub is t = t

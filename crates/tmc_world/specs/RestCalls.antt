@@ -6,7 +6,7 @@ use Rattle.host_hub.specs.Behind.{HubParts}
 use Rattle.tmc_law.specs.declared.dev_event.DevEvent.{DevEvent}
 use Rattle.tmc_law.specs.State.{State}
 use Rattle.usbip_export.specs.Seen.{standing}
-use Rattle.usbip_export.specs.Events.{all, calm_moves}
+use Rattle.usbip_export.specs.Events.{calm_moves}
 use Rattle.event_text.specs.declared.answer.EventAnswer.TheVariants as answer
 use Rattle.event_text.specs.declared.event.Event.{Event}
 use Rattle.event_text.specs.declared.event.Event.TheVariants as event
@@ -15,21 +15,9 @@ use Rattle.tmc_world.specs.LoopLink.{Looped}
 use Rattle.tmc_world.specs.World.{Worldly, IsBehind, setting_of}
 use Rattle.tmc_world.specs.WorldSteps.{IsFirstOpen, IsLawfulNow, Moves, NoneOpen}
 use Rattle.tmc_world.specs.WorldEvents.{LeadsTo, MoveWants}
-use Rattle.tmc_world.specs.Rests.{MovesBy, WantsFirst, writes_left}
+use Rattle.tmc_world.specs.Rests.{MovesBy, WantsFirst, steps_of, writes_left}
 
 -- ---- one of some moves
-
--- steps of the instrument, as moves
-abbrev pub steps_of : List DevEvent → List Event
-steps_of [] = []
-steps_of (does ∷ others) = event.Dev does ∷ steps_of others
-
--- bytes go up, and bytes go down
-abbrev pub up_moves : List Event
-up_moves = event.Up all ∷ []
-
-abbrev pub down_moves : List Event
-down_moves = event.Down all ∷ []
 
 -- the first of them that is enabled was made
 pub record MakesOne (first depth : ℕ) (events : List Event) (old : Worldly) (hub : HubParts Looped) : Type 0 where

@@ -5,12 +5,27 @@ use Rattle.host_hub.specs.Hand.{ended}
 use Rattle.host_hub.specs.Order.{Setting}
 use Rattle.host_hub.specs.Record.{next}
 use Rattle.event_text.specs.declared.event.Event.{Event}
+use Rattle.event_text.specs.declared.event.Event.TheVariants as event
+use Rattle.tmc_law.specs.declared.dev_event.DevEvent.{DevEvent}
+use Rattle.usbip_export.specs.Events.{all}
 use Rattle.usbip_export.specs.Seen.{standing}
 use Rattle.usbip_export.specs.Work.{weight}
 use Rattle.tmc_world.specs.World.{Worldly, outbox}
 use Rattle.tmc_world.specs.WorldSteps.{IsFirstOpen, IsOpenTo, Moves, moves}
 
 -- ---- moves
+
+-- steps of the instrument, as moves
+abbrev pub steps_of : List DevEvent → List Event
+steps_of [] = []
+steps_of (does ∷ others) = event.Dev does ∷ steps_of others
+
+-- bytes go up, and bytes go down
+abbrev pub up_moves : List Event
+up_moves = event.Up all ∷ []
+
+abbrev pub down_moves : List Event
+down_moves = event.Down all ∷ []
 
 -- these moves were made, each the first that was enabled; nothing waited for memory before one
 abbrev pub MovesBy : Setting → List Event → (old new : Worldly) → Type 0

@@ -1,13 +1,14 @@
 //! A world comes to rest: what can happen happens, until nothing is left to do.
 
-ghost use Rattle.std.specs.Prelude.{◌≡◌, ◌<◌, ℕ, true, false, IfOk, OnErr, OnOk};
+ghost use Rattle.std.specs.Prelude.{◌≡◌, ◌<◌, ℕ, true, false, length, IfOk, OnErr, OnOk};
 ghost use Rattle.event_text.specs.declared.answer.EventAnswer.TheVariants as answer;
 ghost use Rattle.event_text.specs.declared.event.Event.TheVariants as event;
 ghost use Rattle.usbip_export.specs.Events.{AreCalmMoves, calm_moves};
 ghost use Rattle.usbip_export.specs.Seen.{standing};
 ghost use Rattle.usbip_export.specs.Work.{weight};
 ghost use Rattle.tmc_world.specs.declared.applied.Applied.TheVariants as applied;
-ghost use Rattle.tmc_world.specs.RestCalls.{Drains, HasCalmed, HasStopped, HasTaken, IsSpent, Tries, down_moves, steps_of, to_send, to_write, up_moves};
+ghost use Rattle.tmc_world.specs.RestCalls.{Drains, HasCalmed, HasStopped, HasTaken, IsSpent, Tries, to_send, to_write};
+ghost use Rattle.tmc_world.specs.Rests.{down_moves, steps_of, up_moves};
 ghost use Rattle.tmc_world.specs.World.{Worldly, IsBehind};
 ghost use Rattle.tmc_world.specs.WorldEvents.{LeadsTo};
 
@@ -38,12 +39,40 @@ impl World {
         ensures stops { (first depth : ℕ) (old : Worldly) → IsBehind first depth old self.old.hub → OnErr result (LeadsTo first depth event.Rest old applied.Memory self.new.hub) }
     {
         'rounds: loop {
-            self.stands();
-            self.calm()?;
-            if !self.send_all()? && !self.drain()? {
-                return Ok(());
+            match self.round() {
+                Ok(true) => (),
+                Ok(false) => return Ok(()),
+                Err(Memory) => return Err(Memory),
             }
         }
+    }
+
+    /// The instrument makes its steps, and then bytes go up, or else down. False where nothing is left to do.
+    fn round(&mut self) -> Result<bool, Memory>
+        ensures rounds { (first depth : ℕ) (old : Worldly) → IsBehind first depth old self.old.hub → Drains first depth old result self.new.hub }
+        ensures less { IfOk result (λ more. more ≡ true → to_send self.new.hub < to_send self.old.hub) }
+    {
+        self.stands();
+        self.calm()?;
+        match self.send_all() {
+            Ok(true) => Ok(true),
+            Ok(false) => self.drain(),
+            Err(Memory) => Err(Memory),
+        }
+    }
+
+    /// Whether something in the node waits for memory.
+    fn is_late(&self) -> bool
+        ensures { result ≡ self.now.hub.link.late }
+    {
+        self.hub().link().is_late()
+    }
+
+    /// How many bytes stand in the outbox.
+    fn unsent(&self) -> usize
+        ensures { result ≡ length self.now.hub.core.urbs.outbox }
+    {
+        self.hub().outbox().len()
     }
 
     /// The instrument makes its steps until none is enabled.
@@ -52,7 +81,7 @@ impl World {
         ensures stops { (first depth : ℕ) (old : Worldly) → IsBehind first depth old self.old.hub → OnErr result (HasStopped first depth old self.new.hub) }
     {
         'steps: loop {
-            if self.hub().link().is_late() {
+            if self.is_late() {
                 return Err(Memory);
             }
             match self.step(&CALM) {
@@ -65,10 +94,9 @@ impl World {
 
     /// The instrument makes the first of these steps that is enabled. False where none is.
     fn step(&mut self, events: &[DevEvent]) -> Result<bool, Memory>
-        requires calm { AreCalmMoves events.now }
-        requires unlate { self.old.hub.link.late ≡ false }
-        ensures tries { (first depth : ℕ) (old : Worldly) → IsBehind first depth old self.old.hub → Tries first depth (steps_of events.now) old result self.new.hub }
-        ensures less { IfOk result (λ moved. moved ≡ true → weight (standing self.new.hub.link.node) < weight (standing self.old.hub.link.node)) }
+        requires { AreCalmMoves events.now }
+        ensures tries { (first depth : ℕ) (old : Worldly) → IsBehind first depth old self.old.hub → old.link.late ≡ false → Tries first depth (steps_of events.now) old result self.new.hub }
+        ensures less { self.old.hub.link.late ≡ false → IfOk result (λ moved. moved ≡ true → weight (standing self.new.hub.link.node) < weight (standing self.old.hub.link.node)) }
     {
         self.stands();
         calm_moves_end();
@@ -98,7 +126,7 @@ impl World {
 
     /// Bytes go down until some are to go up. False where nothing is left to do.
     fn drain(&mut self) -> Result<bool, Memory>
-        requires spent { IsSpent self.old.hub }
+        requires { IsSpent self.old.hub }
         ensures drains { (first depth : ℕ) (old : Worldly) → IsBehind first depth old self.old.hub → Drains first depth old result self.new.hub }
         ensures less { IfOk result (λ more. more ≡ true → to_write self.new.hub < to_write self.old.hub) }
     {
@@ -108,7 +136,7 @@ impl World {
                 Ok(false) => return Ok(false),
                 Err(Memory) => return Err(Memory),
             }
-            if !self.hub().outbox().is_empty() {
+            if self.unsent() > 0 {
                 return Ok(true);
             }
         }
@@ -116,7 +144,7 @@ impl World {
 
     /// What the node put out goes down. False where there is nothing, or the hub has ended.
     fn take_all(&mut self) -> Result<bool, Memory>
-        requires spent { IsSpent self.old.hub }
+        requires { IsSpent self.old.hub }
         ensures tries { (first depth : ℕ) (old : Worldly) → IsBehind first depth old self.old.hub → Tries first depth down_moves old result self.new.hub }
         ensures taken { IfOk result (λ moved. moved ≡ true → HasTaken self.old.hub self.new.hub) }
     {
