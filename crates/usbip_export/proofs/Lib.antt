@@ -12,4 +12,5 @@ pub mod Ended
 pub mod Exchanged
 pub mod Crossed
 pub mod Failed
+pub mod Each
 pub mod Chained

@@ -7,6 +7,7 @@ pub mod Work
 pub mod Body
 pub mod Taking
 pub mod Serving
+pub mod Steps
 pub mod Ending
 pub mod Failing
 pub mod Laws
