@@ -11,8 +11,8 @@ use Rattle.tmc_device.specs.Seen.{is_closed}
 use Rattle.usbip_export.specs.Identity.{devid}
 use Rattle.usbip_export.specs.Seen.{Seen, standing}
 use Rattle.usbip_export.specs.TakenIn.{IsSpelled, Serves, TakenIn, Asked, Failed, Imported, Served}
-use Rattle.usbip_export.specs.Serving.{Works}
-use Rattle.usbip_export.specs.Steps.{steps_of, IsArrival, AreArrivals, WorksBy, StepEach, EndsBehind, TakesEach}
+use Rattle.usbip_export.specs.Serving.{Works, WorksBy}
+use Rattle.usbip_export.specs.Steps.{steps_of, IsArrival, AreArrivals, StepEach, EndsBehind, TakesEach}
 use Rattle.usbip_export.proofs.More.{all_more, steps_more}
 use Rattle.usbip_export.proofs.Worked.{closed_presence, runs_closed, works_more}
 use Rattle.usbip_export.proofs.Failed.{EndsLaw}

@@ -7,8 +7,8 @@ use Rattle.tmc_device.specs.Seen.{is_closed}
 use Rattle.usbip_export.specs.declared.body.Body.{Body}
 use Rattle.usbip_export.specs.Seen.{Seen, standing, closed_by}
 use Rattle.usbip_export.specs.TakenIn.{Serves, TakenIn, Asked, Failed, Imported, Served, Moves}
-use Rattle.usbip_export.specs.Serving.{Works}
-use Rattle.usbip_export.specs.Steps.{steps_of, MovesBy, WorksBy}
+use Rattle.usbip_export.specs.Serving.{Works, WorksBy}
+use Rattle.usbip_export.specs.Steps.{steps_of, MovesBy}
 use Rattle.usbip_export.specs.Body.{held_back, kept_of, seen_of, IsOpen}
 use Rattle.usbip_export.proofs.More.{taken_more, steps_more, standing_same}
 

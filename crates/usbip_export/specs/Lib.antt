@@ -3,11 +3,11 @@ pub mod Operations
 pub mod Seen
 pub mod TakenIn
 pub mod Events
+pub mod Steps
 pub mod Work
 pub mod Body
 pub mod Taking
 pub mod Serving
-pub mod Steps
 pub mod Ending
 pub mod Failing
 pub mod Laws

@@ -1,9 +1,11 @@
 -- how a client is served over a link
 use Rattle.std.specs.Prelude.{◌≡◌, ℕ, true, false, List, [], ◌++◌, None}
 use Rattle.tmc_base.specs.Told.{Told, IsFront, Exchanged}
+use Rattle.tmc_law.specs.Run.{Entry}
 use Rattle.tmc_device.specs.Seen.{is_closed}
 use Rattle.usbip_export.specs.Seen.{Seen, standing}
 use Rattle.usbip_export.specs.TakenIn.{TakenIn}
+use Rattle.usbip_export.specs.Steps.{steps_of}
 
 -- a node was fed these bytes, and those of its answers were sent
 pub record Works (bytes sent : List ℕ) (old new : Seen) : Type 0 where
@@ -12,6 +14,11 @@ pub record Works (bytes sent : List ℕ) (old new : Seen) : Type 0 where
   pub kept : old.kept ++ bytes ≡ took ++ new.kept
   pub taken : TakenIn took answered old new
   pub out : old.out ++ answered ≡ sent ++ new.out
+
+-- the same, and its instrument made such steps and no others
+pub record WorksBy (Only : List Entry → Type 0) (bytes sent : List ℕ) (old new : Seen) : Type 0 where
+  pub works : Works bytes sent old new
+  pub only : Only (steps_of works.taken)
 
 -- What a node and a link did together: the bytes that were sent over the link are the first of what was pending or was
 -- answered, and the node was fed the first of those that came, all of them where it is not closed and memory was not

@@ -11,7 +11,6 @@ use Rattle.usbip_export.specs.Identity.{devid}
 use Rattle.usbip_export.specs.Seen.{Seen, standing}
 use Rattle.usbip_export.specs.TakenIn.{IsSpelled, TakenIn, Asked, Failed, Imported, Served, Moves}
 use Rattle.usbip_export.specs.Events.{IsCalmMove}
-use Rattle.usbip_export.specs.Serving.{Works}
 
 -- the steps of the instrument's run; before an import it makes none
 abbrev pub steps_of : {took answered : List ℕ} {old new : Seen} → TakenIn took answered old new → List Entry
@@ -50,11 +49,6 @@ AreCalming run = (arrivals moves : List Entry) × (run ≡ arrivals ++ moves) ×
 pub record MovesBy (Only : List Entry → Type 0) (old new : Seen) : Type 0 where
   pub moves : Moves old new
   pub only : Only (steps_of moves.taken)
-
--- a node was fed these bytes, and those of its answers were sent; its instrument made such steps and no others
-pub record WorksBy (Only : List Entry → Type 0) (bytes sent : List ℕ) (old new : Seen) : Type 0 where
-  pub works : Works bytes sent old new
-  pub only : Only (steps_of works.taken)
 
 -- each of these messages is taken in by one step, in their order, and no other step is made
 abbrev pub StepEach : State → List up.Message → List Put → State → Type 0

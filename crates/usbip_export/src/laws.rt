@@ -5,9 +5,9 @@ ghost use Rattle.tmc_law.specs.declared.dev_event.DevEvent.{DevEvent};
 ghost use Rattle.usbip_export.specs.Events.{Drives, IsCalmMove};
 ghost use Rattle.usbip_export.specs.Seen.{Seen, begun, standing};
 ghost use Rattle.usbip_export.specs.TakenIn.{Moves};
-ghost use Rattle.usbip_export.specs.Serving.{Works};
+ghost use Rattle.usbip_export.specs.Serving.{Works, WorksBy};
 ghost use Rattle.usbip_export.specs.Laws.{Call, Chain, AnswersLawfully, all_bytes, all_sent};
-ghost use Rattle.usbip_export.specs.Steps.{AreArrivals, WorksBy, TakesEach};
+ghost use Rattle.usbip_export.specs.Steps.{AreArrivals, TakesEach};
 ghost use Rattle.tmc_device.specs.Seen.{is_closed};
 ghost use Rattle.usbip_export.specs.Work.{weight};
 

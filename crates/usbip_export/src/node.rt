@@ -7,8 +7,8 @@ ghost use Rattle.usbip_export.specs.Events.{Drives, IsDeclined, IsDue, IsCalm};
 ghost use Rattle.usbip_export.specs.Seen.{begun, standing, IsCaughtUp};
 ghost use Rattle.usbip_export.specs.TakenIn.{Moves};
 ghost use Rattle.usbip_export.specs.Failing.{FailsAt};
-ghost use Rattle.usbip_export.specs.Serving.{Works};
-ghost use Rattle.usbip_export.specs.Steps.{AreArrivals, AreCalming, MovesBy, WorksBy};
+ghost use Rattle.usbip_export.specs.Serving.{Works, WorksBy};
+ghost use Rattle.usbip_export.specs.Steps.{AreArrivals, AreCalming, MovesBy};
 
 use crate::Fed;
 use crate::body::Body;

@@ -1,6 +1,7 @@
 use Rattle.std.proofs.Common.{refl, subst, []}
 use Rattle.usbip_export.specs.Seen.{Seen}
-use Rattle.usbip_export.specs.Steps.{AreArrivals, WorksBy}
+use Rattle.usbip_export.specs.Steps.{AreArrivals}
+use Rattle.usbip_export.specs.Serving.{WorksBy}
 use Rattle.usbip_export.specs.Body.{seen_of}
 use Rattle.usbip_export.proofs.Worked.{fed_works, body_fed}
 use Rattle.usbip_export.proofs.node.Node.take_piece.Goals as goal
