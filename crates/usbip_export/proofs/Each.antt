@@ -13,8 +13,8 @@ use Rattle.usbip_export.specs.Seen.{Seen, standing}
 use Rattle.usbip_export.specs.TakenIn.{IsSpelled, Serves, TakenIn, Asked, Failed, Imported, Served}
 use Rattle.usbip_export.specs.Serving.{Works, WorksBy}
 use Rattle.usbip_export.specs.Steps.{steps_of, IsArrival, AreArrivals, StepEach, EndsBehind, TakesEach}
-use Rattle.usbip_export.proofs.More.{all_more, steps_more}
-use Rattle.usbip_export.proofs.Worked.{closed_presence, runs_closed, works_more}
+use Rattle.usbip_export.proofs.More.{all_more}
+use Rattle.usbip_export.proofs.Worked.{both_by, closed_presence, runs_closed}
 use Rattle.usbip_export.proofs.Failed.{EndsLaw}
 
 -- a run that did not end closed takes in its inputs in a row
@@ -30,7 +30,7 @@ step_first : (move : Move) (first rest : List Put) (run : List Entry) (s mid t :
     → StepEach s (taken move ++ inputs run) (first ++ rest) t
 step_first (Comes message) first rest run s mid t unshut arrives steps goes each = (first, rest, mid, refl, steps, each)
 step_first (Refuses number bytes f) first rest run s mid t unshut arrives steps goes each =
-    let closed : mid.presence ≡ Closed f = ap (λ (m : State). m.presence) steps.leads.2.2 in
+    let closed : mid.presence ≡ Closed f = ap (λ (m : State). m.presence) steps.leads.2 in
     absurd (unshut f (ap (λ (m : State). m.presence) (runs_closed run mid t (ap is_closed closed) goes) ∙ closed))
 step_first move first rest run s mid t unshut arrives steps goes each = absurd arrives
 
@@ -129,11 +129,4 @@ takes_each row ends bytes old new was unshut made = by made.works made.only wher
 
 pub pieces_join : (a b : List ℕ) (old mid new : Seen) → mid.refused ≡ None → WorksBy AreArrivals a [] old mid → WorksBy AreArrivals b [] mid new
     → WorksBy AreArrivals (a ++ b) [] old new
-unfolding works_more
-pieces_join a b old mid new unshut first second = record {
-  works = works_more a b [] [] old mid new unshut first.works second.works;
-  only =
-      subst AreArrivals
-      (sym (steps_more first.works.took second.works.took first.works.answered second.works.answered old mid new unshut first.works.taken second.works.taken))
-      (all_more IsArrival (steps_of first.works.taken) (steps_of second.works.taken) first.only second.only);
-}
+pieces_join a b = both_by AreArrivals AreArrivals AreArrivals (all_more IsArrival) a b [] []

@@ -8,6 +8,7 @@ pub mod Spelled
 pub mod Driven
 pub mod Calmed
 pub mod Worked
+pub mod Served
 pub mod Ended
 pub mod Exchanged
 pub mod Crossed

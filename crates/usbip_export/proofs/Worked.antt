@@ -81,25 +81,39 @@ moves_works old new moves = record {
   out = sym moves.out;
 }
 
+pub moves_by : (Only : List Entry → Type 0) (old new : Seen) → MovesBy Only old new → WorksBy Only [] [] old new
+unfolding moves_works
+moves_by Only old new made = record { works = moves_works old new made.moves; only = made.only }
+
+pub sent_by : (Only : List Entry → Type 0) → Only [] → (old : Seen) (n : ℕ) → WorksBy Only [] (take n old.out) old (record old { out = drop n old.out })
+sent_by Only none old n =
+    let same = same_taken old (record old { out = drop n old.out }) (record { imported = refl; refused = refl; state = refl; puts = refl }) in
+    record {
+      works = record {
+        took = [];
+        answered = [];
+        kept = append-nil old.kept;
+        taken = same.0;
+        out = append-nil old.out ∙ sym (take-append-drop n old.out);
+      };
+      only = subst Only (sym same.1) none;
+    }
+
 pub sent_works : (old : Seen) (n : ℕ) → Works [] (take n old.out) old (record old { out = drop n old.out })
-sent_works old n = record {
-  took = [];
-  answered = [];
-  kept = append-nil old.kept;
-  taken = (same_taken old (record old { out = drop n old.out }) (record { imported = refl; refused = refl; state = refl; puts = refl })).0;
-  out = append-nil old.out ∙ sym (take-append-drop n old.out);
-}
+sent_works old n = (sent_by (λ run. Unit {0}) tt old n).works
+
+pub nothing_by : (Only : List Entry → Type 0) → Only [] → (old : Seen) → WorksBy Only [] [] old old
+nothing_by Only none old =
+    let same = same_taken old old (record { imported = refl; refused = refl; state = refl; puts = refl }) in
+    record {
+      works = record { took = []; answered = []; kept = append-nil old.kept; taken = same.0; out = append-nil old.out };
+      only = subst Only (sym same.1) none;
+    }
 
 pub no_works : (old : Seen) → Works [] [] old old
-no_works old = record {
-  took = [];
-  answered = [];
-  kept = append-nil old.kept;
-  taken = (same_taken old old (record { imported = refl; refused = refl; state = refl; puts = refl })).0;
-  out = append-nil old.out;
-}
+no_works old = (nothing_by (λ run. Unit {0}) tt old).works
 
-unfoldable pub works_more : (a b x y : List ℕ) (old mid new : Seen) → mid.refused ≡ None → Works a x old mid → Works b y mid new → Works (a ++ b) (x ++ y) old new
+pub works_more : (a b x y : List ℕ) (old mid new : Seen) → mid.refused ≡ None → Works a x old mid → Works b y mid new → Works (a ++ b) (x ++ y) old new
 works_more a b x y old mid new unshut first second = record {
   took = first.took ++ second.took;
   answered = first.answered ++ second.answered;
@@ -115,6 +129,20 @@ works_more a b x y old mid new unshut first second = record {
       ∙ (append_assoc x mid.out second.answered
       ∙ (ap (λ (l : List ℕ). x ++ l) second.out ∙ sym (append_assoc x y new.out))));
 }
+
+pub both_by : (First Second Both : List Entry → Type 0) → ((a b : List Entry) → First a → Second b → Both (a ++ b)) → (a b x y : List ℕ)
+    (old mid new : Seen) → mid.refused ≡ None → WorksBy First a x old mid → WorksBy Second b y mid new → WorksBy Both (a ++ b) (x ++ y) old new
+unfolding works_more
+both_by First Second Both both a b x y old mid new unshut first second =
+    let before = first.works in
+    let behind = second.works in
+    record {
+      works = works_more a b x y old mid new unshut before behind;
+      only =
+          subst Both
+          (sym (steps_more before.took behind.took before.answered behind.answered old mid new unshut before.taken behind.taken))
+          (both (steps_of before.taken) (steps_of behind.taken) first.only second.only);
+    }
 
 -- ---- a closed node stays closed
 

@@ -1,5 +1,5 @@
 -- which steps the instrument of a node makes in a call
-use Rattle.std.specs.Prelude.{◌≡◌, ℕ, List, [], ◌∷◌, ◌++◌}
+use Rattle.std.specs.Prelude.{◌≡◌, ◌⊎◌, ℕ, List, [], ◌∷◌, ◌++◌}
 use Rattle.usbip_wire.specs.Up as up
 use Rattle.tmc_law.specs.declared.dev_event.DevEvent.{DevEvent}
 use Rattle.tmc_law.specs.State.{State, Presence, Closed}
@@ -27,7 +27,7 @@ AllSteps Is (entry ∷ run) = Is entry.move × AllSteps Is run
 -- a message arrives, or bytes are refused
 abbrev pub IsArrival : Move → Type 0
 IsArrival (Comes message) = Unit {0}
-IsArrival (Refuses devid bytes f) = Unit {0}
+IsArrival (Refuses number bytes f) = Unit {0}
 IsArrival _ = ⊥
 
 -- the instrument takes in what arrives, and does nothing by itself
@@ -44,6 +44,14 @@ AreCalmSteps run = AllSteps IsCalmStep run
 -- what waits arrives, and behind it the instrument makes calm moves alone
 abbrev pub AreCalming : List Entry → Type 0
 AreCalming run = (arrivals moves : List Entry) × (run ≡ arrivals ++ moves) × AreArrivals arrivals × AreCalmSteps moves
+
+-- what arrives, or a calm move
+abbrev pub IsServing : Move → Type 0
+IsServing move = IsArrival move ⊎ IsCalmStep move
+
+-- the instrument makes no step but these
+abbrev pub AreServing : List Entry → Type 0
+AreServing run = AllSteps IsServing run
 
 -- A call of a node, whose instrument made such steps and no others.
 pub record MovesBy (Only : List Entry → Type 0) (old new : Seen) : Type 0 where
