@@ -20,6 +20,10 @@ returns-in-Applied-clause-less n c = λ _.
     drives_less c.packets_are_of_transfers.ensures.takes c.packets_are_of_transfers.ensures.fills _ _ _
     (first_calm c.args.events.now _ c.in-len1-up.len_at_least c.requires.calm) (c.in-Applied.ensures.applied refl)
 
+pub returns-in-NotEnabled-clause-moves : goal.returns-in-NotEnabled-clause-moves
+returns-in-NotEnabled-clause-moves n c =
+    subst (λ (b : Body). MovesBy AreCalmSteps (seen_of b) (seen_of c.move_once.new.self)) (c.in-NotEnabled.ensures.kept (λ e. cc)) c.move_once.ensures.moves
+
 pub returns-in-NotEnabled-clause-none : goal.returns-in-NotEnabled-clause-none
 returns-in-NotEnabled-clause-none n c =
     none_on c.move_once.result c.args.events.now _ _ c.move_once.new.self c.drive.new.self c.args.self.now c.in-len1-up.len_at_least (take_rest c.args.events.now 1)

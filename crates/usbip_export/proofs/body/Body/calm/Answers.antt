@@ -6,6 +6,12 @@ use Rattle.usbip_export.proofs.Single.{spelled_by}
 use Rattle.usbip_export.proofs.Spelled.{sound_spelled, body_spelling}
 use Rattle.usbip_export.proofs.body.Body.calm.Goals as goal
 
+pub returns-in_err-take_in-clause-moves : goal.returns-in_err-take_in-clause-moves
+returns-in_err-take_in-clause-moves c = arrivals_calming _ _ c.take_in.ensures.moves
+
+pub returns-then-not-is_open-clause-moves : goal.returns-then-not-is_open-clause-moves
+returns-then-not-is_open-clause-moves c = arrivals_calming _ _ c.in_ok-take_in.ensures.moves
+
 pub returns-in_err-move_on-clause-moves : goal.returns-in_err-move_on-clause-moves
 returns-in_err-move_on-clause-moves c =
     calms_behind _ _ _ c.if-not-is_open.ensures.unrefused c.in_ok-take_in.ensures.moves c.move_on.ensures.moves
