@@ -2,16 +2,16 @@
 
 ghost use Rattle.std.specs.Prelude.{◌≡◌, ◌<◌, ◌++◌, ℕ, List, [], None, take, drop, true, false};
 ghost use Rattle.tmc_law.specs.declared.dev_event.DevEvent.{DevEvent};
+ghost use Rattle.tmc_device.specs.Seen.{is_closed};
 ghost use Rattle.usbip_export.specs.Events.{Drives, IsCalmMove};
 ghost use Rattle.usbip_export.specs.Seen.{Seen, begun, standing};
 ghost use Rattle.usbip_export.specs.TakenIn.{Moves};
+ghost use Rattle.usbip_export.specs.Steps.{AreArrivals, TakesEach};
 ghost use Rattle.usbip_export.specs.Serving.{Works, WorksBy};
 ghost use Rattle.usbip_export.specs.Laws.{Call, Chain, AnswersLawfully, all_bytes, all_sent};
-ghost use Rattle.usbip_export.specs.Steps.{AreArrivals, TakesEach};
-ghost use Rattle.tmc_device.specs.Seen.{is_closed};
 ghost use Rattle.usbip_export.specs.Work.{weight};
 
-use tmc_law::{
+use tmc_law::laws::{
     a_closed_run_ends_with_refused_bytes, packets_are_of_transfers, runs_take_in_messages,
 };
 
