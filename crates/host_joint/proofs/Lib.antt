@@ -55,3 +55,5 @@ mod Operating
 mod Triggering
 mod TriggerTied
 mod Shutting
+mod Reasoning
+mod Freeing

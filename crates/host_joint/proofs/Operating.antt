@@ -203,7 +203,7 @@ no_poll a head s t is (class.DoesPollFirst submit behind setup tag line asks row
 
 -- ---- all moves
 
-quiet_out : (a : RemoteAct) (since : List LogEntry) (head : SubmitHead) (coming : List Sent) (events : List Event) (s : State) → ActAt a since head coming events s → IsAt rests s
+pub quiet_out : (a : RemoteAct) (since : List LogEntry) (head : SubmitHead) (coming : List Sent) (events : List Event) (s : State) → ActAt a since head coming events s → IsAt rests s
 quiet_out a since head coming events s (ActComes come empty free rest nothing) = rest
 quiet_out a since head coming events s (ActPends come empty pends rest nothing) = rest
 quiet_out a since head coming events s (ActDone come given free rest one) = rest

@@ -95,16 +95,15 @@ aborts_none = (
   ),
 )
 
+pub free_comes : Steps halted_inside (Comes (up.Submit (usable_in 8) [])) [] (with_control (usable_in 8) halted_inside)
+free_comes =
+    comes halted_inside (usable_in 8) [] Control (record { plugged = refl; wide = refl; eight = refl; setup = refl; carried = refl; bytes = refl; free = refl; few = refl }) (record { number = refl; way = refl; usable = refl })
+
+pub free_answers : Steps (with_control (usable_in 8) halted_inside) Answer (answered (usable_in 8) success 0 [] ∷ []) usable_again
+free_answers = standard_answers (with_control (usable_in 8) halted_inside) (usable_in 8) in_setup (ClearHalt BulkIn) refl refl (in_asks 8) (record { request_type = refl; request = refl; value = refl; index = refl })
+
 pub frees : Runs halted_inside freeing usable_again
-frees = (
-  with_control (usable_in 8) halted_inside,
-  comes halted_inside (usable_in 8) [] Control (record { plugged = refl; wide = refl; eight = refl; setup = refl; carried = refl; bytes = refl; free = refl; few = refl }) (record { number = refl; way = refl; usable = refl }),
-  (
-    usable_again,
-    standard_answers (with_control (usable_in 8) halted_inside) (usable_in 8) in_setup (ClearHalt BulkIn) refl refl (in_asks 8) (record { request_type = refl; request = refl; value = refl; index = refl }),
-    refl,
-  ),
-)
+frees = (with_control (usable_in 8) halted_inside, free_comes, (usable_again, free_answers, refl))
 
 -- or all is cleared
 

@@ -27,6 +27,7 @@ pub mod Next
 pub mod Unplugged
 pub mod Hits
 pub mod Turns
+pub mod Reasons
 -- examples
 pub mod WorkedAsks
 pub mod WorkedTies
@@ -37,3 +38,4 @@ pub mod WorkedRecoveries
 pub mod WorkedUnplugging
 pub mod WorkedTriggers
 pub mod WorkedRemotes
+pub mod WorkedReasons

@@ -14,6 +14,7 @@ mod joints;
 mod lines;
 mod numbers;
 mod owned;
+mod reasons;
 mod recovery;
 mod remotes;
 mod ties;
@@ -25,6 +26,7 @@ mod worked_ahead;
 mod worked_lines;
 mod worked_links;
 mod worked_pieces;
+mod worked_reasons;
 mod worked_recoveries;
 mod worked_remotes;
 mod worked_triggers;
@@ -47,6 +49,7 @@ pub use joints::{
 pub use lines::{hosts_keep_lines, lines_stay, what_is_answered_is_over};
 pub use numbers::{new_numbers_are_unused, new_numbers_rise, what_ran_is_kept, what_ran_is_one};
 pub use owned::what_is_read_is_owned;
+pub use reasons::{endpoints_stay_usable, halts_have_reasons, usable_joints_go_on};
 pub use recovery::{asks_hand_over, devices_rest, drains_stay, requests_stay};
 pub use remotes::{remote_tickets_are_read, remote_tickets_are_tied};
 pub use ties::{
@@ -71,6 +74,9 @@ pub use worked_links::{
     worked_recoveries_are_joined,
 };
 pub use worked_pieces::{worked_pieces_are_asked, worked_pieces_are_read};
+pub use worked_reasons::{
+    worked_endpoints_stay_usable, worked_halts_have_reasons, worked_usable_joints_go_on,
+};
 pub use worked_recoveries::{
     worked_asks_hand_over, worked_cancels_are_asked, worked_cancels_are_recovered,
     worked_clears_stay, worked_halts_are_asked, worked_halts_are_recovered, worked_requests_stay,
