@@ -272,7 +272,7 @@ bound_kept stays never situation waits unlinks next = record {
 -- ---- what comes next
 
 -- nothing is on its way to a device, where no list has anything
-no_ups : (ups : List up.Message) → AllFitting ups → unlinks_in ups ≡ [] → ((e : Endpoint) → sent_to e ups ≡ []) → ups ≡ []
+pub no_ups : (ups : List up.Message) → AllFitting ups → unlinks_in ups ≡ [] → ((e : Endpoint) → sent_to e ups ≡ []) → ups ≡ []
 no_ups [] fit none empty = refl
 no_ups (up.Unlink head ∷ ups) fit none empty = absurd (cc)
 no_ups (up.Submit head transferred ∷ ups) fit none empty = absurd (some (sym (empty fit.0.endpoint) ∙ own))

@@ -57,3 +57,8 @@ mod TriggerTied
 mod Shutting
 mod Reasoning
 mod Freeing
+mod Idling
+mod Racing
+mod ActRacing
+mod TriggerRacing
+mod Ticketed

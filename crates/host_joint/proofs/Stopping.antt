@@ -169,7 +169,7 @@ wants_packet = record cancelled_inside { side = Sending (record { tag = 4; size 
 abbrev pub gave_packet : State
 gave_packet = record cancelled_inside { side = Idle; running = AbortsIn false 0 }
 
-all_wide : (ns : List ℕ) → all_below (2 ^ 32) ns ≡ true → AreWide ns
+pub all_wide : (ns : List ℕ) → all_below (2 ^ 32) ns ≡ true → AreWide ns
 all_wide ns e = below (2 ^ 32) ns (lit< tt) e
 
 pub cancels_second : Runs requested_second cancelling_second cancelled_inside

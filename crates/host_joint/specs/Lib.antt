@@ -28,6 +28,7 @@ pub mod Unplugged
 pub mod Hits
 pub mod Turns
 pub mod Reasons
+pub mod Races
 -- examples
 pub mod WorkedAsks
 pub mod WorkedTies
@@ -39,3 +40,4 @@ pub mod WorkedUnplugging
 pub mod WorkedTriggers
 pub mod WorkedRemotes
 pub mod WorkedReasons
+pub mod WorkedRaces

@@ -14,6 +14,7 @@ mod joints;
 mod lines;
 mod numbers;
 mod owned;
+mod races;
 mod reasons;
 mod recovery;
 mod remotes;
@@ -26,6 +27,7 @@ mod worked_ahead;
 mod worked_lines;
 mod worked_links;
 mod worked_pieces;
+mod worked_races;
 mod worked_reasons;
 mod worked_recoveries;
 mod worked_remotes;
@@ -49,6 +51,7 @@ pub use joints::{
 pub use lines::{hosts_keep_lines, lines_stay, what_is_answered_is_over};
 pub use numbers::{new_numbers_are_unused, new_numbers_rise, what_ran_is_kept, what_ran_is_one};
 pub use owned::what_is_read_is_owned;
+pub use races::{remote_tickets_are_cancelled, tickets_are_held, trigger_tickets_are_cancelled};
 pub use reasons::{endpoints_stay_usable, halts_have_reasons, usable_joints_go_on};
 pub use recovery::{asks_hand_over, devices_rest, drains_stay, requests_stay};
 pub use remotes::{remote_tickets_are_read, remote_tickets_are_tied};
@@ -74,6 +77,7 @@ pub use worked_links::{
     worked_recoveries_are_joined,
 };
 pub use worked_pieces::{worked_pieces_are_asked, worked_pieces_are_read};
+pub use worked_races::{worked_remote_tickets_are_cancelled, worked_trigger_tickets_are_cancelled};
 pub use worked_reasons::{
     worked_endpoints_stay_usable, worked_halts_have_reasons, worked_usable_joints_go_on,
 };
