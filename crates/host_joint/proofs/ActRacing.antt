@@ -1,5 +1,5 @@
 -- a remote ticket whose request is unlinked
-use Rattle.std.proofs.Common.{◌≡◌, ◌≢◌, ◌∙◌, ℕ, ◌+◌, true, false, Some, None, List, [], ◌∷◌, ◌++◌, refl, ap, sym, subst, append-nil}
+use Rattle.std.proofs.Common.{◌≡◌, ◌∙◌, ℕ, ◌+◌, true, false, Some, List, [], ◌∷◌, ◌++◌, refl, ap, sym, subst}
 use Rattle.usbip_wire.specs.declared.submit.SubmitHead.{SubmitHead}
 use Rattle.usbip_wire.specs.declared.unlink.UnlinkHead.{UnlinkHead}
 use Rattle.usbip_wire.specs.declared.ret_submit.RetSubmitHead.{RetSubmitHead}
@@ -10,13 +10,12 @@ use Rattle.instr_plain.specs.declared.remote.RemoteAct.{RemoteAct}
 use Rattle.tmc_law.specs.Endpoint.{Endpoint, Control, BulkOut, BulkIn, InterruptIn}
 use Rattle.tmc_law.specs.State.{State, Pending, queue_of, with_queue, pending, Avoids, arrived}
 use Rattle.tmc_law.specs.Put.{Put, Submitted, success}
-use Rattle.host_joint.specs.Lines.{Sent, Event, Lines, sent_to, events_of, unlinks_in, unlinked_by}
+use Rattle.host_joint.specs.Lines.{Sent, Event, Lines, sent_to, events_of}
 use Rattle.host_joint.specs.Positions.{IsAt, rests}
 use Rattle.host_joint.specs.Requests.{IsClass}
 use Rattle.host_joint.specs.Tie.{asked_of}
-use Rattle.host_joint.specs.Bond.{Bond}
 use Rattle.host_joint.specs.Remotes.{request_of, OneSince, ActAt, ActComes, ActPends, ActDone, Operating}
-use Rattle.host_joint.specs.Races.{Races, UnlinkComes, ActGone, ActOver, CancelledAct, LateAct}
+use Rattle.host_joint.specs.Races.{UnlinkComes, ActGone, ActOver, CancelledAct, LateAct}
 use Rattle.host_joint.proofs.Queues.{avoids_queue}
 use Rattle.host_joint.proofs.Flows.{all_answered}
 use Rattle.host_joint.proofs.Requesting.{Meaning}

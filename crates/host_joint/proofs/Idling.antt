@@ -1,12 +1,11 @@
 -- a device at rest of which nothing is pending: what it may do by itself
-use Rattle.std.proofs.Common.{◌≡◌, ◌≢◌, ◌∙◌, ◌⊎◌, inl, inr, ℕ, true, List, [], ◌∷◌, ◌++◌, refl, ap, sym}
+use Rattle.std.proofs.Common.{◌≡◌, ◌≢◌, ◌∙◌, ◌⊎◌, inl, inr, ℕ, true, List, [], refl, ap}
 use Rattle.usbip_wire.specs.Up as up
 use Rattle.tmc_law.specs.Endpoint.{Endpoint, Control, BulkOut, BulkIn, InterruptIn}
 use Rattle.tmc_law.specs.State.{State, Pending, queue_of}
 use Rattle.tmc_law.specs.Put.{Put, stalled}
 use Rattle.tmc_law.specs.Halts.{all_ended, HaltsItself, DoesHalt}
 use Rattle.tmc_law.specs.BulkOut as out
-use Rattle.tmc_law.specs.BulkIn as «in»
 use Rattle.tmc_law.specs.Step.{Move, Comes, Refuses, Take, Exec, Begin, Fill, Answer, Pend, Poll, Notify, Halt, Unplug, Leads}
 use Rattle.tmc_law.specs.Run.{taken}
 use Rattle.host_joint.specs.Positions.{IsAt, rests}

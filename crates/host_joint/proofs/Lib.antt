@@ -62,3 +62,4 @@ mod Racing
 mod ActRacing
 mod TriggerRacing
 mod Ticketed
+mod Telling

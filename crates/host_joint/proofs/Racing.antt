@@ -1,5 +1,5 @@
 -- the answer to a ticket's one submit and its unlink race, under each step
-use Rattle.std.proofs.Common.{◌≡◌, ◌≢◌, ◌∙◌, ◌⊎◌, inl, inr, ℕ, ◌+◌, Bool, true, false, cond, eqb, Some, None, Option, List, [], ◌∷◌, ◌++◌, refl, ap, sym, subst, append_assoc, append-nil}
+use Rattle.std.proofs.Common.{◌≡◌, ◌≢◌, ◌∙◌, ◌⊎◌, inl, inr, ℕ, ◌+◌, Bool, true, false, cond, eqb, Some, None, Option, List, [], ◌∷◌, ◌++◌, refl, ap, sym, subst, append-nil}
 use Rattle.std.proofs.lemmas.Bool.{eq-eqb}
 use Rattle.usbip_wire.specs.declared.submit.SubmitHead.{SubmitHead}
 use Rattle.usbip_wire.specs.declared.unlink.UnlinkHead.{UnlinkHead}
@@ -13,7 +13,7 @@ use Rattle.tmc_law.specs.Queues.{Unlinks, Hits, Polled, Misses}
 use Rattle.tmc_law.specs.AnswerFits.{AllAnswers}
 use Rattle.tmc_law.specs.Step.{Move, Comes, Unplug, Steps}
 use Rattle.tmc_law.specs.Run.{Entry, Runs, taken, inputs, outputs}
-use Rattle.host_joint.specs.Lines.{Sent, Lines, LeftBy, Event, Gives, events_of, heads, sent_heads, sent_to, without, unlinks_in, unlinked_by, AllFitting, InOrder}
+use Rattle.host_joint.specs.Lines.{Sent, Lines, LeftBy, Event, Gives, events_of, heads, sent_heads, sent_to, without, unlinks_in, unlinked_by, AllFitting}
 use Rattle.host_joint.specs.Unlinking.{AllHeads}
 use Rattle.host_joint.specs.Asking.{StaysPlugged}
 use Rattle.host_joint.specs.Positions.{IsAt, rests}
@@ -29,7 +29,7 @@ use Rattle.host_joint.proofs.Writing.{other_asked}
 use Rattle.tmc_law.specs.Numbers.{AllBelow, Rises, numbers}
 use Rattle.host_joint.proofs.Booking.{unlink_written}
 use Rattle.host_joint.proofs.Numbered.{below_next}
-use Rattle.host_joint.proofs.Cancelling.{fitting_more, order_more, numbers_same, bond_as, after, lines_after, same_head, unlinked_bond}
+use Rattle.host_joint.proofs.Cancelling.{fitting_more, order_more, numbers_same, bond_as, after, lines_after, unlinked_bond}
 use Rattle.host_joint.proofs.Bonding.{Keeps, bond_run, fits_step}
 use Rattle.host_joint.proofs.Joining.{no_ups}
 use Rattle.host_joint.proofs.Idling.{Idled, idles, one_taken}

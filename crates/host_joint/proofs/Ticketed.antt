@@ -1,13 +1,18 @@
 -- a ticket of one submit is held under each run, until the device is unplugged
-use Rattle.std.proofs.Common.{◌≡◌, inl, inr, ℕ, Option, List, [], ◌∷◌, ◌++◌, sym, subst}
+use Rattle.std.proofs.Common.{◌≡◌, Some, None, inl, inr, ℕ, Option, List, [], ◌∷◌, ◌++◌, sym, subst}
 use Rattle.usbip_wire.specs.declared.submit.SubmitHead.{SubmitHead}
 use Rattle.usbip_wire.specs.declared.unlink.UnlinkHead.{UnlinkHead}
 use Rattle.usbip_wire.specs.Up as up
 use Rattle.tmc_law.specs.State.{State}
 use Rattle.tmc_law.specs.Put.{Put}
 use Rattle.tmc_law.specs.Halts.{unplug_answers}
-use Rattle.tmc_law.specs.Run.{Entry, Runs, inputs, outputs}
-use Rattle.host_joint.specs.Lines.{Lines}
+use Rattle.tmc_law.specs.Laws.{message_of}
+use Rattle.tmc_law.specs.Run.{Entry, Runs, inputs, outputs, SpellsPut}
+use Rattle.usbip_wire.specs.Down.{SpellsAnswer}
+use Rattle.host_joint.specs.Joint.{entries_of, IsApart}
+use Rattle.host_joint.proofs.Joining.{Never, rising_asked, apart_asked, few_total, first_of_bond}
+use Rattle.host_joint.proofs.UntilJoined.{NeverOver, Spelled, told_spelled}
+use Rattle.host_joint.specs.Lines.{Lines, AllFitting}
 use Rattle.host_joint.specs.Asking.{StaysPlugged}
 use Rattle.host_joint.specs.Tie.{asked_of}
 use Rattle.host_joint.specs.Unplugged.{Until}
@@ -53,3 +58,37 @@ next_held Ties waits unlinks lines put ups downs t (inr held) = by held.front he
     by (p ∷ front) tie is =
         let same = first p front (unplug_answers held.before) is in
         HeldBefore held.before front (subst (λ (x : Put). Ties ups (x ∷ front) held.before) same.0 tie) held.unplugs same.1
+
+-- ---- over a link
+
+pub ticket_never : Never → (ticket : Ticket) (next : ℕ) → NeverOver (λ ups downs s. TicketHolds ticket next ups downs s)
+ticket_never never ticket next head transferred ups downs s f o over =
+    never (asked_of (waits_of ticket)) (unlinks_of ticket) head transferred ups downs s f (ticket_fitting ticket o).0 (record { rising = rising_asked (waits_of ticket); apart = apart_asked (waits_of ticket) }) (few_total (waits_of ticket))
+    (ticket_lines ticket next (up.Submit head transferred ∷ ups) downs s o) over
+  where
+    ticket_fitting : (x : Ticket) → TicketHolds x next (up.Submit head transferred ∷ ups) downs s → AllFitting (up.Submit head transferred ∷ ups)
+    ticket_fitting (Acts act since asked) h = h.bond.fitting
+    ticket_fitting (ActRaces act since asked unlink) h = h.bond.fitting
+    ticket_fitting (ActIsLate act since unlink) h = h.fitting
+    ticket_fitting (Triggers job) h = h.bond.fitting
+    ticket_fitting (TriggerRaces job unlink) h = h.bond.fitting
+    ticket_fitting (TriggerIsLate counted n unlink) h = h.fitting
+
+ticket_first : (ticket : Ticket) (next : ℕ) (put : Put) (ups : List up.Message) (downs : List Put) (s : State) (bytes : List ℕ) → IsApart (waits_of ticket) (unlinks_of ticket) → TicketHolds ticket next ups (put ∷ downs) s → SpellsPut put bytes
+    → SpellsAnswer (entries_of (waits_of ticket) (unlinks_of ticket)) (message_of put) bytes
+ticket_first (Acts act since head) next put ups downs s bytes apart o spelled = first_of_bond _ (Some head) [] next put ups downs s bytes apart o.bond spelled
+ticket_first (ActRaces act since head unlink) next put ups downs s bytes apart o spelled = first_of_bond _ (Some head) (unlink ∷ []) next put ups downs s bytes apart o.bond spelled
+ticket_first (ActIsLate act since unlink) next put ups downs s bytes apart bond spelled = first_of_bond _ None (unlink ∷ []) next put ups downs s bytes apart bond spelled
+ticket_first (Triggers job) next put ups downs s bytes apart o spelled = first_of_bond _ (Some job.head) [] next put ups downs s bytes apart o.bond spelled
+ticket_first (TriggerRaces job unlink) next put ups downs s bytes apart o spelled = first_of_bond _ (Some job.head) (unlink ∷ []) next put ups downs s bytes apart o.bond spelled
+ticket_first (TriggerIsLate counted n unlink) next put ups downs s bytes apart bond spelled = first_of_bond _ None (unlink ∷ []) next put ups downs s bytes apart bond spelled
+
+pub ticket_spelled : (ticket : Ticket) (next : ℕ) → IsApart (waits_of ticket) (unlinks_of ticket)
+    → Spelled (λ ups downs t. Until (λ ups downs t. TicketHolds ticket next ups downs t) ups downs t) (entries_of (waits_of ticket) (unlinks_of ticket))
+ticket_spelled ticket next apart put ups downs t bytes tie spelled =
+    by (next_held (λ ups downs s. TicketHolds ticket next ups downs s) (waits_of ticket) (unlinks_of ticket) (λ ups downs s o. ticket_lines ticket next ups downs s o) put ups downs t tie)
+  where
+    by : NextHeld (λ ups downs t. TicketHolds ticket next ups downs t) (waits_of ticket) put ups downs t → SpellsAnswer (entries_of (waits_of ticket) (unlinks_of ticket)) (message_of put) bytes
+    by (HeldPlugged o) = ticket_first ticket next put ups downs t bytes apart o spelled
+    by (HeldBefore before front o unplugs behind) = ticket_first ticket next put ups front before bytes apart o spelled
+    by (HeldBehind before o unplugs told) = told_spelled (waits_of ticket) (unlinks_of ticket) put downs bytes told spelled

@@ -1,5 +1,5 @@
 -- a trigger ticket whose transfer is unlinked
-use Rattle.std.proofs.Common.{◌≡◌, ◌≢◌, ◌∙◌, ◌⊎◌, inl, inr, ℕ, ◌+◌, Bool, true, false, Some, None, List, [], ◌∷◌, ◌++◌, refl, ap, sym, subst, append-nil}
+use Rattle.std.proofs.Common.{◌≡◌, ◌≢◌, ◌∙◌, ◌⊎◌, inl, inr, ℕ, ◌+◌, Bool, true, false, Some, List, [], ◌∷◌, ◌++◌, refl, ap, sym, subst}
 use Rattle.usbip_wire.specs.declared.submit.SubmitHead.{SubmitHead}
 use Rattle.usbip_wire.specs.declared.unlink.UnlinkHead.{UnlinkHead}
 use Rattle.usbip_wire.specs.declared.ret_submit.RetSubmitHead.{RetSubmitHead}

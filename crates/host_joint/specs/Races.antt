@@ -2,23 +2,27 @@
 use Rattle.std.specs.Prelude.{◌≡◌, ℕ, Bool, true, false, Some, None, List, [], ◌∷◌, ◌++◌, Option}
 use Rattle.usbip_wire.specs.declared.submit.SubmitHead.{SubmitHead}
 use Rattle.usbip_wire.specs.declared.unlink.UnlinkHead.{UnlinkHead}
+use Rattle.tmc_base.specs.declared.run_step.RunStep.{RunStep}
 use Rattle.usbip_wire.specs.Up as up
+use Rattle.usbip_wire.specs.Down as down
 use Rattle.instr_plain.specs.declared.log.LogEntry.{LogEntry}
 use Rattle.instr_plain.specs.declared.remote.RemoteAct.{RemoteAct}
 use Rattle.tmc_law.specs.Endpoint.{Control, BulkOut}
 use Rattle.tmc_law.specs.State.{State}
 use Rattle.tmc_law.specs.Put.{Put, unlink_answer, success, unlinked}
 use Rattle.tmc_law.specs.Halts.{unplug_answers}
+use Rattle.tmc_law.specs.Laws.{message_of}
 use Rattle.tmc_law.specs.Step.{Unplug, Steps}
 use Rattle.host_joint.specs.Lines.{sent_to, events_of}
 use Rattle.host_joint.specs.Jobs.{Job}
 use Rattle.host_joint.specs.Positions.{IsAt, rests}
 use Rattle.host_joint.specs.Requests.{IsClass}
 use Rattle.host_joint.specs.Tie.{asked_of}
-use Rattle.host_joint.specs.Bond.{Bond}
+use Rattle.host_joint.specs.Bond.{Bond, Stands, Resting}
+use Rattle.host_joint.specs.Joint.{JointBy}
 use Rattle.host_joint.specs.Remotes.{request_of, NoneSince, OneSince, ActAt, Operating}
 use Rattle.host_joint.specs.Triggers.{IsTrigger, NoTrigger, OneTrigger, TriggerAt, Triggering}
-use Rattle.host_joint.specs.Unplugged.{Until, TellsUnplugged}
+use Rattle.host_joint.specs.Unplugged.{Until, BoundUntil, JoinedUntil, TellsUnplugged}
 
 -- ---- any ticket of one submit
 
@@ -131,3 +135,20 @@ pub data NextHeld (Ties : List up.Message → List Put → State → Type 0) (wa
       → NextHeld Ties waits put ups downs t
   -- it tells of the unplugging
   HeldBehind : (before : State) → Ties ups [] before → Steps before Unplug (unplug_answers before) t → TellsUnplugged waits put downs → NextHeld Ties waits put ups downs t
+
+-- ---- over a link that tells its bytes and the steps of its peer
+
+-- a ticket that is held until the device is unplugged, at the two ends of a link
+abbrev pub TicketJoined : Ticket → (next devid : ℕ) → (written read : List ℕ) → List RunStep → State → Type 0
+TicketJoined ticket next devid written read steps s = JointBy (λ ups downs t. Until (λ ups downs t. TicketHolds ticket next ups downs t) ups downs t) devid written read steps s
+
+-- what its host reads next, from these bytes, is the first answer that is on its way
+pub record IsNextOfTicket (ticket : Ticket) (next devid : ℕ) (message : down.Message) (written read this : List ℕ) (steps : List RunStep) (s : State) : Type 0 where
+  pub put : Put
+  pub ups : List up.Message
+  pub downs : List Put
+  pub is : message_of put ≡ message
+  pub given : NextHeld (λ ups downs t. TicketHolds ticket next ups downs t) (waits_of ticket) put ups downs s
+  -- behind it the host is joined with another ticket, or stands at rest
+  pub later : (after : Ticket) → Until (λ ups downs t. TicketHolds after next ups downs t) ups downs s → TicketJoined after next devid written (read ++ this) steps s
+  pub rests : BoundUntil (Stands Resting) None [] next ups downs s → JoinedUntil devid (Stands Resting) None [] next written (read ++ this) steps s

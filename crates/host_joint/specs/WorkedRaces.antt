@@ -1,12 +1,12 @@
 -- the example remote ticket and the example trigger, unlinked
-use Rattle.std.specs.Prelude.{List, [], ◌∷◌, ◌++◌}
+use Rattle.std.specs.Prelude.{List, [], ◌∷◌}
 use Rattle.usbip_wire.specs.Up as up
 use Rattle.tmc_law.specs.Put.{Unlinked, success, unlinked}
 use Rattle.tmc_law.specs.Step.{Comes}
 use Rattle.tmc_law.specs.Run.{Entry}
 use Rattle.tmc_law.specs.WorkedSession.{out_submit, unlink, submits, step}
 use Rattle.tmc_law.specs.WorkedRemote.{remote_submit}
-use Rattle.tmc_law.specs.WorkedTrigger.{trigger_text, triggering}
+use Rattle.tmc_law.specs.WorkedTrigger.{trigger_text}
 
 -- the unlink finds the request, or the transfer, pending
 abbrev pub stopping_remote : List Entry

@@ -1,26 +1,33 @@
 //! The example remote ticket and the example trigger, unlinked. Each function does nothing.
 
 ghost use Rattle.std.specs.Prelude.{◌≡◌, ℕ, true, Some, None, List, [], ◌∷◌, ◌++◌, take};
+ghost use Rattle.tmc_base.specs.declared.field.Field.{Field};
+ghost use Rattle.usbip_wire.specs.declared.down.DownPhase.TheVariants.{Urbs};
+ghost use Rattle.usbip_wire.specs.DownFed.{BadAt};
 ghost use Rattle.usbip_wire.specs.Up as up;
+ghost use Rattle.usbip_wire.specs.Down as down;
 ghost use Rattle.instr_plain.specs.declared.log.LogEntry.{LogEntry};
 ghost use Rattle.instr_plain.specs.declared.remote.RemoteAct.TheVariants.{On};
 ghost use Rattle.tmc_law.specs.State.{State, start};
 ghost use Rattle.tmc_law.specs.Put.{Put, Unlinked, success, unlinked, unplugged};
-ghost use Rattle.tmc_law.specs.Run.{Runs};
-ghost use Rattle.tmc_law.specs.WorkedSession.{out_submit, unlink, answered};
+ghost use Rattle.tmc_law.specs.Run.{Runs, SpellsPut};
+ghost use Rattle.tmc_law.specs.WorkedSession.{devid, out_submit, unlink, answered};
+ghost use Rattle.tmc_law.specs.WorkedTold.{takes_in, puts_out};
 ghost use Rattle.tmc_law.specs.WorkedRemote.{remote_submit, operating};
 ghost use Rattle.tmc_law.specs.WorkedTrigger.{trigger_text, triggering, trigger_log};
 ghost use Rattle.host_joint.specs.Bond.{Stands, Resting, Bound};
+ghost use Rattle.host_joint.specs.Joint.{entries_of};
 ghost use Rattle.host_joint.specs.Remotes.{OneSince, NoneSince};
 ghost use Rattle.host_joint.specs.Triggers.{OneTrigger};
-ghost use Rattle.host_joint.specs.Races.{CancelledAct, LateAct, CancelledTrigger, LateTrigger, ActRaces, TriggerRaces, TicketHolds, NextHeld};
+ghost use Rattle.host_joint.specs.Races.{CancelledAct, LateAct, CancelledTrigger, LateTrigger, ActRaces, TriggerRaces, TicketHolds, NextHeld, TicketJoined, IsNextOfTicket};
 ghost use Rattle.host_joint.specs.WorkedRemotes.{unplugged_remote};
 ghost use Rattle.host_joint.specs.WorkedTriggers.{trigger_job, triggered, unplugged_trigger};
 ghost use Rattle.host_joint.specs.WorkedRaces.{stopping_remote, stopping_trigger, missing_trigger};
 
 use crate::{
-    remote_tickets_are_cancelled, remote_tickets_are_tied, tickets_are_held, ties_begin,
-    trigger_tickets_are_cancelled, trigger_tickets_are_tied, worked_remote_tickets_are_tied,
+    joints_begin, remote_tickets_are_cancelled, remote_tickets_are_read, tickets_are_held,
+    tickets_are_read, trigger_tickets_are_cancelled, trigger_tickets_are_read,
+    worked_remote_tickets_are_read, worked_remote_tickets_are_tied,
     worked_trigger_tickets_are_tied,
 };
 use tmc_law::laws::runs_join;
@@ -62,4 +69,32 @@ pub fn worked_trigger_tickets_are_cancelled()
     tickets_are_held();
     runs_join();
     a_trigger_is_counted();
+}
+
+/// Both over a link, whatever bytes spell the messages: from where the unlink is written, the host reads next that it hit, where the link told so. No host
+/// reads a miss while its request is not answered.
+pub fn worked_tickets_are_read()
+    ensures act { (text more : List ℕ) → up.Spells devid (up.Submit remote_submit []) text → up.Spells devid (up.Unlink (unlink 2 1)) more
+        → TicketJoined (ActRaces On [] remote_submit (unlink 2 1)) 3 devid (text ++ more) [] [] start }
+    ensures act_hit { (text more bytes : List ℕ) → up.Spells devid (up.Submit remote_submit []) text → up.Spells devid (up.Unlink (unlink 2 1)) more
+        → SpellsPut (Unlinked (unlink 2 1) (record { seqnum = 2; status = unlinked })) bytes
+        → IsNextOfTicket (ActRaces On [] remote_submit (unlink 2 1)) 3 devid (down.RetUnlink (record { seqnum = 2; status = unlinked })) (text ++ more) [] bytes
+        (takes_in text ∷ record { took = more; put = bytes } ∷ []) start }
+    ensures trigger_hit { (text more bytes : List ℕ) → up.Spells devid (up.Submit (out_submit 1 12) trigger_text) text → up.Spells devid (up.Unlink (unlink 2 1)) more
+        → SpellsPut (Unlinked (unlink 2 1) (record { seqnum = 2; status = unlinked })) bytes
+        → IsNextOfTicket (TriggerRaces trigger_job (unlink 2 1)) 3 devid (down.RetUnlink (record { seqnum = 2; status = unlinked })) (text ++ more) [] bytes
+        (takes_in text ∷ record { took = more; put = bytes } ∷ []) start }
+    ensures fine { (text more bytes rest later : List ℕ) (f : Field) → up.Spells devid (up.Submit remote_submit []) text → up.Spells devid (up.Unlink (unlink 2 1)) more
+        → SpellsPut (Unlinked (unlink 2 1) (record { seqnum = 2; status = unlinked })) bytes → bytes ≡ rest ++ later
+        → BadAt Urbs (entries_of (Some remote_submit) (unlink 2 1 ∷ [])) rest f → ⊥ }
+    ensures mistaken { (written bytes : List ℕ) (s : State) → SpellsPut (Unlinked (unlink 2 1) (record { seqnum = 2; status = success })) bytes
+        → TicketJoined (ActRaces On [] remote_submit (unlink 2 1)) 3 devid written [] (puts_out bytes ∷ []) s → ⊥ }
+{
+    worked_remote_tickets_are_read();
+    joints_begin();
+    remote_tickets_are_read();
+    trigger_tickets_are_read();
+    remote_tickets_are_cancelled();
+    trigger_tickets_are_cancelled();
+    tickets_are_read();
 }

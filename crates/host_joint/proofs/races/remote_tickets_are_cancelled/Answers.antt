@@ -1,6 +1,3 @@
-use Rattle.std.proofs.Common.{refl, sym, subst, ℕ, ◌+◌, ◌++◌, ◌∷◌, []}
-use Rattle.usbip_wire.specs.Up as up
-use Rattle.host_joint.specs.Races.{CancelledAct}
 use Rattle.host_joint.proofs.Racing.{race_hit, late_missed}
 use Rattle.host_joint.proofs.ActRacing.{act_race, act_late, act_cancelled, act_answered}
 use Rattle.host_joint.proofs.races.remote_tickets_are_cancelled.Goals as goal

@@ -1,14 +1,15 @@
-use Rattle.std.proofs.Common.{◌≡◌, ℕ, List, [], ◌∷◌, ◌++◌, take, drop, Some, refl, inl}
+use Rattle.std.proofs.Common.{◌≡◌, [], ◌∷◌, take, drop, refl, inl, ap}
+use Rattle.usbip_wire.specs.declared.ret_unlink.RetUnlinkHead.{RetUnlinkHead}
 use Rattle.usbip_wire.specs.Up as up
 use Rattle.instr_plain.specs.declared.remote.RemoteAct.TheVariants.{On}
 use Rattle.tmc_law.specs.Endpoint.{Control}
 use Rattle.tmc_law.specs.State.{State, start, arrived}
-use Rattle.tmc_law.specs.Put.{Put, Unlinked, success, unlinked, unplugged}
+use Rattle.tmc_law.specs.Put.{success, unlinked, unplugged}
 use Rattle.tmc_law.specs.Queues.{Hits}
 use Rattle.tmc_law.specs.Run.{Runs}
 use Rattle.tmc_law.specs.WorkedSession.{unlink, answered}
 use Rattle.tmc_law.specs.WorkedRemote.{remote_submit, operating}
-use Rattle.host_joint.specs.Races.{ActRaces, TicketHolds}
+use Rattle.host_joint.specs.Races.{ActRaces}
 use Rattle.host_joint.specs.WorkedRemotes.{unplugging_remote, unplugged_remote}
 use Rattle.host_joint.specs.WorkedRaces.{stopping_remote}
 use Rattle.host_joint.proofs.Coming.{comes}
@@ -19,7 +20,7 @@ pub returns-clause-unlinked : goal.returns-clause-unlinked
 returns-clause-unlinked c =
     c.remote_tickets_are_cancelled.ensures.unlink On [] remote_submit (unlink 2 1) 2 (up.Submit remote_submit [] ∷ []) [] start refl refl c.worked_remote_tickets_are_tied.ensures.begins
 
-asked : State
+abbrev asked : State
 asked = record start { control = arrived remote_submit [] ∷ [] }
 
 stops : Runs start stopping_remote start
@@ -56,5 +57,4 @@ returns-clause-unplugged c =
 
 pub returns-clause-mistaken : goal.returns-clause-mistaken
 returns-clause-mistaken c since next ups downs s o =
-    let over = (c.remote_tickets_are_cancelled.ensures.hit On since remote_submit (unlink 2 1) next (unlink 2 1) (record { seqnum = 2; status = success }) ups downs s o).0 in
-    let e : success ≡ unlinked = cc in absurd (cc)
+    let e : success ≡ unlinked = ap (λ (r : RetUnlinkHead). r.status) (c.remote_tickets_are_cancelled.ensures.hit On since remote_submit (unlink 2 1) next (unlink 2 1) (record { seqnum = 2; status = success }) ups downs s o).0 in absurd (cc)

@@ -1,13 +1,14 @@
-use Rattle.std.proofs.Common.{◌≡◌, ◌⊎◌, ℕ, true, List, [], ◌∷◌, ◌++◌, Some, refl, inl, inr}
+use Rattle.std.proofs.Common.{◌≡◌, ◌⊎◌, true, false, [], ◌∷◌, refl, inl, inr, ap}
+use Rattle.usbip_wire.specs.declared.ret_unlink.RetUnlinkHead.{RetUnlinkHead}
 use Rattle.usbip_wire.specs.Up as up
 use Rattle.tmc_law.specs.Endpoint.{BulkOut}
 use Rattle.tmc_law.specs.State.{State, start, arrived}
-use Rattle.tmc_law.specs.Put.{Put, Unlinked, success, stalled, unlinked, unplugged}
+use Rattle.tmc_law.specs.Put.{success, stalled, unlinked, unplugged}
 use Rattle.tmc_law.specs.Queues.{Hits, Misses}
 use Rattle.tmc_law.specs.Run.{Runs}
 use Rattle.tmc_law.specs.WorkedSession.{out_submit, unlink, answered}
 use Rattle.tmc_law.specs.WorkedTrigger.{trigger_text, triggering}
-use Rattle.host_joint.specs.Races.{TriggerRaces, TriggerIsLate, LateTrigger, TicketHolds}
+use Rattle.host_joint.specs.Races.{TriggerRaces, TriggerIsLate, LateTrigger}
 use Rattle.host_joint.specs.WorkedTriggers.{trigger_job, triggered, unplugging_trigger, unplugged_trigger}
 use Rattle.host_joint.specs.WorkedRaces.{stopping_trigger, missing_trigger}
 use Rattle.host_joint.proofs.Coming.{comes}
@@ -19,7 +20,7 @@ pub returns-clause-unlinked : goal.returns-clause-unlinked
 returns-clause-unlinked c =
     c.trigger_tickets_are_cancelled.ensures.unlink trigger_job (unlink 2 1) 2 (up.Submit (out_submit 1 12) trigger_text ∷ []) [] start refl refl c.worked_trigger_tickets_are_tied.ensures.begins
 
-came : State
+abbrev came : State
 came = record start { bulk_out = arrived (out_submit 1 12) trigger_text ∷ [] }
 
 stops : Runs start stopping_trigger start
@@ -46,7 +47,8 @@ returns-clause-missed c =
     let over = c.trigger_tickets_are_cancelled.ensures.missed true 1 (unlink 2 1) 3 (unlink 2 1) (record { seqnum = 2; status = success }) [] [] triggered gone in
     (c.runs_join.ensures.together triggering missing_trigger start triggered triggered c.a_trigger_is_counted.ensures misses, over.1, over.2)
   where
-    taken : {A B : Type 0} → ((success ≡ success) × A × LateTrigger true 1 (unlink 2 1) 3 (up.Unlink (unlink 2 1) ∷ []) [] triggered) ⊎ ((success ≡ stalled) × B) → LateTrigger true 1 (unlink 2 1) 3 (up.Unlink (unlink 2 1) ∷ []) [] triggered
+    taken : ((success ≡ success) × (12 ≡ trigger_job.head.length) × LateTrigger true 1 (unlink 2 1) 3 (up.Unlink (unlink 2 1) ∷ []) [] triggered)
+        ⊎ ((success ≡ stalled) × (triggered.halted.bulk_out ≡ true) × LateTrigger false 1 (unlink 2 1) 3 (up.Unlink (unlink 2 1) ∷ []) [] triggered) → LateTrigger true 1 (unlink 2 1) 3 (up.Unlink (unlink 2 1) ∷ []) [] triggered
     taken (inl h) = h.2
     taken (inr h) = let e : success ≡ stalled = h.0 in absurd (cc)
 
@@ -57,5 +59,4 @@ returns-clause-unplugged c =
 
 pub returns-clause-mistaken : goal.returns-clause-mistaken
 returns-clause-mistaken c next ups downs s late =
-    let over = (c.trigger_tickets_are_cancelled.ensures.missed true 1 (unlink 2 1) next (unlink 2 1) (record { seqnum = 2; status = unlinked }) ups downs s late).0 in
-    let e : unlinked ≡ success = cc in absurd (cc)
+    let e : unlinked ≡ success = ap (λ (r : RetUnlinkHead). r.status) (c.trigger_tickets_are_cancelled.ensures.missed true 1 (unlink 2 1) next (unlink 2 1) (record { seqnum = 2; status = unlinked }) ups downs s late).0 in absurd (cc)
