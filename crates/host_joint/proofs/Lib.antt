@@ -63,3 +63,4 @@ mod ActRacing
 mod TriggerRacing
 mod Ticketed
 mod Telling
+mod Lettered

@@ -79,7 +79,7 @@ check_is seqnum = record { number = refl; way = refl; setup = row ends CheckIn; 
 pub clear_is : (seqnum : ℕ) → IsClass (clear_submit seqnum) Clear
 clear_is seqnum = record { number = refl; way = refl; setup = row ends Clear; asks = clear_asks seqnum; row = record { fits = tt; is = refl }; room = lit≤ tt }
 
-check_clear_is : (seqnum : ℕ) → IsClass (check_clear_submit seqnum) CheckClear
+pub check_clear_is : (seqnum : ℕ) → IsClass (check_clear_submit seqnum) CheckClear
 check_clear_is seqnum = record { number = refl; way = refl; setup = row ends CheckClear; asks = check_clear_asks seqnum; row = record { fits = tt; is = refl }; room = lit≤ tt }
 
 pub in_is : (seqnum : ℕ) → IsClearHalt (usable_in seqnum) BulkIn

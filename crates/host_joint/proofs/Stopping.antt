@@ -33,7 +33,7 @@ abbrev pub with_control : SubmitHead → State → State
 with_control head s = record s { control = arrived head [] ∷ [] }
 
 -- a class request, as the row of its table says it
-class_answers : (s : State) (head : SubmitHead) (request : ClassRequest) (served : Served) → s.presence ≡ Plugged → s.control ≡ arrived head [] ∷ []
+pub class_answers : (s : State) (head : SubmitHead) (request : ClassRequest) (served : Served) → s.presence ≡ Plugged → s.control ≡ arrived head [] ∷ []
     → Asks (arrived head []) (row ends request) → TagFits request → Serves request (arrived head []) (record s { control = [] }) served
     → Steps s Answer (control_answer (arrived head []) (row ends request) served.layout ∷ served.behind) served.state
 class_answers s head request served plugged first asks fits serves = record {

@@ -10,7 +10,7 @@ use Rattle.tmc_wire.specs.Transfer.{alignment_of}
 use Rattle.tmc_law.specs.Endpoint.{BulkOut, BulkIn, number_of}
 use Rattle.tmc_law.specs.State.{State, Pending}
 use Rattle.tmc_law.specs.Put.{Put, Submitted, success, stalled}
-use Rattle.host_joint.specs.Lines.{Sent, Event, Gives, Drops, events_of}
+use Rattle.host_joint.specs.Lines.{Sent, sent_to, Event, Gives, Drops, events_of}
 use Rattle.host_joint.specs.Reads.{Answered, answer, answers, Flow, InFront, NoneOf, Front, Whole, IsHalted, gives, InLine, Unread, Between, Inside, Behind, Lost, Closed}
 use Rattle.host_joint.specs.Asking.{Ask, Asking, AllTaken}
 use Rattle.host_joint.specs.Hosted.{OutAnswered, InAnswered, TookFull, TookEnd, TookHalt}
@@ -81,8 +81,8 @@ pub in_halted : (ask : Ask) (ups : List up.Message) (head : SubmitHead) (a : Ret
     → Asking ask ups (Submitted head a transferred ∷ downs) s → InAnswered ask ups (Gives head a transferred) downs s → Asking ask ups downs s × IsHalted (gives (events_of BulkIn downs))
 in_halted ask ups head a transferred downs s own is h took = (
   by took,
-  ins_halted s.halted.bulk_in ask.gone h.flow ask.read head a transferred (gives (events_of BulkIn downs)) _ s.bulk_in is
-      (subst (λ (l : List Event). InLine s.halted.bulk_in ask.gone h.flow ask.read (gives l) _ s.bulk_in) (own_event BulkIn head a transferred downs own) h.ins),
+  ins_halted s.halted.bulk_in ask.gone h.flow ask.read head a transferred (gives (events_of BulkIn downs)) (sent_to BulkIn ups) s.bulk_in is
+      (subst (λ (l : List Event). InLine s.halted.bulk_in ask.gone h.flow ask.read (gives l) (sent_to BulkIn ups) s.bulk_in) (own_event BulkIn head a transferred downs own) h.ins),
 )
   where
     good : {B : Type 0} (x : Answered) → Gives head a transferred ≡ answer x → B

@@ -33,8 +33,8 @@ pub mod Races
 pub mod WorkedAsks
 pub mod WorkedTies
 pub mod WorkedLines
-pub mod WorkedAhead
 pub mod WorkedPieces
+pub mod WorkedAhead
 pub mod WorkedRecoveries
 pub mod WorkedUnplugging
 pub mod WorkedTriggers
