@@ -1,16 +1,16 @@
 -- a request of a recovery that is written, taken in and answered, in two steps
-use Rattle.std.proofs.Common.{◌≡◌, ◌∙◌, ℕ, List, [], ◌∷◌, ◌++◌, refl, ap, sym, subst}
+use Rattle.std.proofs.Common.{◌≡◌, List, [], ◌∷◌, ◌++◌, refl, sym, subst}
 use Rattle.std.proofs.lemmas.Bool.{eq-eqb}
 use Rattle.usbip_wire.specs.declared.submit.SubmitHead.{SubmitHead}
 use Rattle.usbip_wire.specs.Up as up
 use Rattle.tmc_wire.specs.declared.class_request.ClassRequest.{ClassRequest}
-use Rattle.tmc_law.specs.Endpoint.{Endpoint, Control, BulkOut, BulkIn}
+use Rattle.tmc_law.specs.Endpoint.{Endpoint, Control}
 use Rattle.tmc_law.specs.State.{State, start}
 use Rattle.tmc_law.specs.Put.{Put}
 use Rattle.tmc_law.specs.Step.{Comes, Answer}
 use Rattle.tmc_law.specs.Run.{Entry, Runs}
 use Rattle.tmc_law.specs.WorkedSession.{submits, step}
-use Rattle.host_joint.specs.Lines.{Sent, sent_to, events_of, Fitting}
+use Rattle.host_joint.specs.Lines.{sent_to, events_of, Fitting}
 use Rattle.host_joint.specs.Positions.{Position, IsAt}
 use Rattle.host_joint.specs.Requests as recovery
 use Rattle.host_joint.specs.Requests.{Choice, RequestAt, RequestStays, ClearHaltStays, IsClass, IsClearHalt, NoBulk}

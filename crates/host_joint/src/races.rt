@@ -1,7 +1,7 @@
 //! A remote or a trigger ticket that is cancelled: the answer to its one submit and the unlink of that race. Each function does nothing, and its
 //! contract is the law.
 
-ghost use Rattle.std.specs.Prelude.{◌≡◌, ◌⊎◌, ℕ, ◌+◌, Bool, true, false, Some, None, List, [], ◌∷◌, ◌++◌};
+ghost use Rattle.std.specs.Prelude.{◌≡◌, ◌⊎◌, ℕ, ◌+◌, Bool, true, false, None, List, [], ◌∷◌, ◌++◌};
 ghost use Rattle.tmc_base.specs.declared.field.Field.{Field};
 ghost use Rattle.tmc_base.specs.declared.run_step.RunStep.{RunStep};
 ghost use Rattle.tmc_base.specs.Told.{in_bytes, out_bytes, IsFront};

@@ -18,7 +18,7 @@ ghost use Rattle.host_joint.specs.Joint.{Joint};
 ghost use Rattle.host_joint.specs.Reasons.{both, HaltedSince, HaveReasons, BoundUsable, JoinedUsable, IsNextUsable};
 ghost use Rattle.host_joint.specs.WorkedPieces.{requested_second};
 ghost use Rattle.host_joint.specs.WorkedReasons.{out_only};
-ghost use Rattle.host_joint.specs.WorkedRecoveries.{reading_rest, usable_in, halting_second, halted_inside, freeing, usable_again, clearing_halted, clearing_all};
+ghost use Rattle.host_joint.specs.WorkedRecoveries.{reading_rest, usable_in, halting_second, halted_inside, usable_again, clearing_halted, clearing_all};
 
 use crate::{
     bonds_stay, cancels_begin, endpoints_stay_usable, halts_have_reasons, joints_begin,

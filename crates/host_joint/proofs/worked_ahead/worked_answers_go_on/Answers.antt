@@ -1,4 +1,4 @@
-use Rattle.std.proofs.Common.{◌≡◌, ◌≢◌, ◌≤◌, true, false, List, [], ◌∷◌, ◌++◌, refl, arith}
+use Rattle.std.proofs.Common.{◌≢◌, [], ◌∷◌, ◌++◌, refl, arith}
 use Rattle.usbip_wire.specs.Up as up
 use Rattle.tmc_law.specs.Endpoint.{Control, BulkOut, BulkIn}
 use Rattle.tmc_law.specs.State.{State, start, arrived}

@@ -1,5 +1,4 @@
-use Rattle.std.proofs.Common.{◌≡◌, ℕ, List, [], ◌∷◌, ◌++◌, refl, lit<, lit≤}
-use Rattle.usbip_wire.specs.Up as up
+use Rattle.std.proofs.Common.{List, [], ◌∷◌, ◌++◌, refl, lit<, lit≤}
 use Rattle.tmc_wire.specs.declared.class_request.ClassRequest.TheVariants.{AbortOut, CheckClear}
 use Rattle.tmc_wire.specs.ControlTable.{row}
 use Rattle.tmc_law.specs.Endpoint.{Control, BulkIn, ends}
