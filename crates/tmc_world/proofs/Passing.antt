@@ -99,22 +99,22 @@ no_room old new same none = subst NoPollRoom (sym same) none
 
 -- a poll that has no room wants memory only where the send did
 poll_wants_not : (old : Looped) (bytes : List ℕ) (new : Looped) → Polls old 8192 poll.Memory bytes new → old.wants ≡ false → NoPollRoom old.pace → ⊥
-poll_wants_not old bytes new (inl p) none shut = let wanted = p.wanted in cc
-poll_wants_not old bytes new (inr p) none shut = p.room shut
+poll_wants_not old bytes new (inl p) none closed = let wanted = p.wanted in cc
+poll_wants_not old bytes new (inr p) none closed = p.room closed
 
 sent_before : (piece : List ℕ) (sent : Option SendStep) (bytes : List ℕ) (old between new : Looped) → SendsOnce Sends piece sent old between
     → PollsOnce Polls sent (Some poll.Memory) bytes between new → old.wants ≡ false → NoPollRoom old.pace → sent ≡ Some send.Memory
-sent_before [] None bytes old between new s p none shut =
-    absurd (poll_wants_not between bytes new p (ap (λ (l : Looped). l.wants) s ∙ none) (no_room old between (ap (λ (l : Looped). l.pace) s) shut))
-sent_before [] (Some step) bytes old between new s p none shut = absurd s
-sent_before (b ∷ bs) None bytes old between new s p none shut = absurd s
-sent_before (b ∷ bs) (Some (send.Took n)) bytes old between new s p none shut =
+sent_before [] None bytes old between new s p none closed =
+    absurd (poll_wants_not between bytes new p (ap (λ (l : Looped). l.wants) s ∙ none) (no_room old between (ap (λ (l : Looped). l.pace) s) closed))
+sent_before [] (Some step) bytes old between new s p none closed = absurd s
+sent_before (b ∷ bs) None bytes old between new s p none closed = absurd s
+sent_before (b ∷ bs) (Some (send.Took n)) bytes old between new s p none closed =
     absurd (poll_wants_not between bytes new p (ap (λ (l : Looped). l.wants) s.is ∙ none)
-    (subst NoPollRoom (sym (ap (λ (l : Looped). l.pace) s.is)) (shut_still old.pace shut)))
-sent_before (b ∷ bs) (Some send.Idle) bytes old between new s p none shut =
-    absurd (poll_wants_not between bytes new p (ap (λ (l : Looped). l.wants) s.is ∙ none) (no_room old between (ap (λ (l : Looped). l.pace) s.is) shut))
-sent_before (b ∷ bs) (Some send.Failed) bytes old between new s p none shut = absurd p
-sent_before (b ∷ bs) (Some send.Memory) bytes old between new s p none shut = refl
+    (subst NoPollRoom (sym (ap (λ (l : Looped). l.pace) s.is)) (shut_still old.pace closed)))
+sent_before (b ∷ bs) (Some send.Idle) bytes old between new s p none closed =
+    absurd (poll_wants_not between bytes new p (ap (λ (l : Looped). l.wants) s.is ∙ none) (no_room old between (ap (λ (l : Looped). l.pace) s.is) closed))
+sent_before (b ∷ bs) (Some send.Failed) bytes old between new s p none closed = absurd p
+sent_before (b ∷ bs) (Some send.Memory) bytes old between new s p none closed = refl
 
 same_world : (old new : Worldly) → new.past ≡ old.past → new.link ≡ old.link → new ≡ old
 same_world old new past link =

@@ -33,7 +33,7 @@ impl World {
             Event::Dev(does) => self.dev_spelled(*does),
             Event::FailSend => self.fail_send(),
             Event::FailPoll => self.fail_poll(),
-            Event::Rest => Applied::Memory,
+            Event::Rest => self.rest_applied(),
         }
     }
 

@@ -14,6 +14,7 @@ ghost use Rattle.tmc_world.specs.WorldEvents.{LeadsTo};
 
 use crate::resting::numbers_fit;
 use crate::{Applied, DevEvent, World};
+use event_text::EventAnswer;
 use tmc_base::Memory;
 use usbip_export::calm_moves_end;
 
@@ -44,6 +45,16 @@ impl World {
                 Ok(false) => return Ok(()),
                 Err(Memory) => return Err(Memory),
             }
+        }
+    }
+
+    /// The same, as an event.
+    pub(crate) fn rest_applied(&mut self) -> Applied
+        ensures { (first depth : ℕ) (old : Worldly) → IsBehind first depth old self.old.hub → LeadsTo first depth event.Rest old result self.new.hub }
+    {
+        match self.rest() {
+            Ok(()) => Applied::Answer(EventAnswer::Done),
+            Err(Memory) => Applied::Memory,
         }
     }
 

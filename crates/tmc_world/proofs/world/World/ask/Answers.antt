@@ -5,11 +5,18 @@ use Rattle.tmc_world.specs.World.{begun, setting_of, tells}
 use Rattle.tmc_world.specs.WorldEvents.{LeadsTo}
 use Rattle.tmc_world.specs.WorldSteps.{asking_of_ask}
 use Rattle.tmc_world.proofs.Leading.{asks_lead}
+use Rattle.tmc_world.proofs.RestStands.{stands_on}
 use Rattle.tmc_world.proofs.world.World.ask.Goals as goal
 
 pub returns : goal.returns
-returns c = λ first depth old b.
+returns c = rw (← c.self.view_is) (λ first depth old b.
     subst (λ (x : Applied). LeadsTo first depth (event.Ask c.args.session c.args.limit c.args.message.now) old x c.ask.new.self) (sym c.asked.ensures)
     (asks_lead first depth (asking_of_ask c.args.session c.args.limit c.args.message.now) (event.Ask c.args.session c.args.limit c.args.message.now) old
-    c.args.self.now.hub c.ask.new.self c.ask.result (λ said next a. a) (λ next w. w) b c.ask.ensures.link
-    (c.ask.ensures.asks (tells begun.link) (setting_of first depth) old.past old.link.sent old.link.taken b.behind))
+    c.self.inside.hub c.ask.new.self c.ask.result (λ said next a. a) (λ next w. w) b c.ask.ensures.link
+    (c.ask.ensures.asks (tells begun.link) (setting_of first depth) old.past old.link.sent old.link.taken b.behind)))
+
+pub invariant_of-self : goal.invariant_of-self
+invariant_of-self c =
+    let h = c.self.invariant in
+    stands_on c.self.inside.hub c.ask.new.self h _ _ (asks_lead h.first h.depth (asking_of_ask c.args.session c.args.limit c.args.message.now) (event.Ask c.args.session c.args.limit c.args.message.now) h.world c.self.inside.hub c.ask.new.self c.ask.result (λ said next a. a) (λ next w. w) h.behind c.ask.ensures.link
+    (c.ask.ensures.asks (tells begun.link) (setting_of h.first h.depth) h.world.past h.world.link.sent h.world.link.taken h.behind.behind))
