@@ -24,7 +24,7 @@ use Rattle.tmc_world.specs.declared.loop_act.LoopAct.TheVariants as act
 use Rattle.tmc_world.specs.LoopLink.{Looped, CatchesUp, ActEnds, Tends}
 use Rattle.tmc_world.specs.World.{Worldly, IsBehind, begun, counted, setting_of, tells}
 use Rattle.tmc_world.specs.WorldSteps.{Asks, GivesUp, Steps}
-use Rattle.tmc_world.specs.WorldEvents.{LeadsTo, Wants, applied_ask}
+use Rattle.tmc_world.specs.WorldEvents.{LeadsTo, Wants, applied_ask, applied_step}
 
 -- ---- want of memory is no cause to refuse
 
@@ -158,13 +158,8 @@ behind_stays first depth old link new same st b went =
           (sym (st.taken ∙ ap (λ (l : Looped). l.taken) same)) went);
     }
 
-abbrev pub went : TendStep → Applied
-went tend.Did = applied.Answer answer.Done
-went tend.NotNow = applied.NotEnabled
-went tend.Memory = applied.Memory
-
 acts_goes : (first depth : ℕ) (does : DevEvent) (old : Worldly) (step : TendStep) (new : HubParts Looped) → Tends old.link (act.Dev does) step new.link
-    → IsBehind first depth (record { past = old.past; link = new.link }) new → LeadsTo first depth (event.Dev does) old (went step) new
+    → IsBehind first depth (record { past = old.past; link = new.link }) new → LeadsTo first depth (event.Dev does) old (applied_step step) new
 acts_goes first depth does old tend.Did new t b = record { new = record { past = old.past; link = new.link }; goes = (refl, t); behind = b }
 acts_goes first depth does old tend.NotNow new t b = record { new = record { past = old.past; link = new.link }; goes = (refl, t); behind = b }
 acts_goes first depth does old tend.Memory new t b = record { new = record { past = old.past; link = new.link }; goes = inl (refl, t); behind = b }
@@ -172,7 +167,7 @@ acts_goes first depth does old tend.Memory new t b = record { new = record { pas
 pub acts_lead : (first depth : ℕ) (does : DevEvent) (old : Worldly) (hub new : HubParts Looped) (step : TendStep) → Tends hub.link (act.Dev does) step new.link
     → new.core ≡ hub.core
     → ((start : _) (s : Setting) (past : Past) (sent received : List ℕ) → Behind tells counted start s past sent received hub → Behind tells counted start s past sent received new)
-    → IsBehind first depth old hub → LeadsTo first depth (event.Dev does) old (went step) new
+    → IsBehind first depth old hub → LeadsTo first depth (event.Dev does) old (applied_step step) new
 acts_lead first depth does old hub new step t core on b =
     acts_goes first depth does old step new (subst (λ (l : Looped). Tends l (act.Dev does) step new.link) b.link t)
     (behind_stays first depth old hub.link new b.link (tend_stays does hub.link step new.link t)

@@ -127,7 +127,7 @@ down_less fits first depth most old new small unlate empty goes =
 
 -- ---- a step of the instrument
 
-are_calm : AreCalmMoves calm_moves
+pub are_calm : AreCalmMoves calm_moves
 are_calm = (tt, (tt, (tt, (tt, (tt, (tt, tt))))))
 
 abbrev step_in : Event → DevEvent
@@ -147,7 +147,7 @@ step_less lessens s does old new calm (past, acts) =
 
 -- ---- each move
 
-no_box : (s : Setting) (world : Worldly) → ended world.past ≡ None → (MayGoUp s all world → ⊥) → outbox s world ≡ []
+pub no_box : (s : Setting) (world : Worldly) → ended world.past ≡ None → (MayGoUp s all world → ⊥) → outbox s world ≡ []
 no_box s world runs none = by (outbox s world) (λ more. none (record { number = omega arith; runs = runs; some = more })) where
   by : (box : List ℕ) → (box ≢ [] → ⊥) → box ≡ []
   by [] f = refl

@@ -5,6 +5,7 @@ use Rattle.tmc_base.specs.declared.memory.Memory.{Memory}
 use Rattle.host_hub.specs.Behind.{HubParts}
 use Rattle.host_hub.specs.Hand.{ended}
 use Rattle.host_hub.specs.Order.{Setting}
+use Rattle.host_hub.specs.Record.{Past}
 use Rattle.tmc_law.specs.declared.dev_event.DevEvent.{DevEvent}
 use Rattle.tmc_law.specs.State.{State}
 use Rattle.usbip_export.specs.Seen.{standing}
@@ -23,10 +24,10 @@ use Rattle.tmc_world.proofs.RestTries.{StepMade, late_in, same_sends, same_write
 
 -- ---- some moves, and one more
 
-pub made_none : (first depth : ℕ) (old : Worldly) (hub : HubParts Looped) → IsBehind first depth old hub → HasMade first depth old hub
+abbrev pub made_none : (first depth : ℕ) (old : Worldly) (hub : HubParts Looped) → IsBehind first depth old hub → HasMade first depth old hub
 made_none first depth old hub b = record { new = old; made = []; moved = refl; behind = b }
 
-made_on : (first depth : ℕ) (old : Worldly) (a b : HubParts Looped) (m : HasMade first depth old a) → HasMade first depth m.new b → HasMade first depth old b
+pub made_on : (first depth : ℕ) (old : Worldly) (a b : HubParts Looped) (m : HasMade first depth old a) → HasMade first depth m.new b → HasMade first depth old b
 made_on first depth old a b m n = record {
   new = n.new;
   made = m.made ++ n.made;
@@ -109,7 +110,7 @@ calmed_sends old new h c =
     sends_is h.first h.depth c.made.new new c.made.behind ∙ same ∙ sym (sends_is h.first h.depth h.world old h.behind) where
   s : Setting
   s = setting_of h.first h.depth
-  sends : (past : _) (sent : List ℕ) → ℕ
+  sends : (past : Past) (sent : List ℕ) → ℕ
   sends past sent = writes_of s past * 4097 + length (outbox s (record { past = past; link = record h.world.link { sent = sent } }))
   same : writes_of s c.made.new.past * 4097 + length (outbox s c.made.new) ≡ writes_of s h.world.past * 4097 + length (outbox s h.world)
   same = ap (λ p. sends p c.made.new.link.sent) c.past ∙ ap (λ l. sends h.world.past l) c.sent
@@ -226,12 +227,10 @@ pub rounds_up_less : (old a b : HubParts Looped) (h : HasWorld old) (k : HasCalm
 rounds_up_less old a b h k less = let e = calmed_sends old a h k in omega (arith, less, e)
 
 pub drains_more : (first depth : ℕ) (old : Worldly) (r : Bool) (hub : HubParts Looped) → r ≡ true → Drains first depth old (Ok r) hub → HasMade first depth old hub
-drains_more first depth old true hub is d = d
-drains_more first depth old false hub is d = cc
+drains_more first depth old r hub is d = subst (λ (x : Bool). Drains first depth old (Ok x) hub) is d
 
 pub drains_none : (first depth : ℕ) (old : Worldly) (r : Bool) (hub : HubParts Looped) → r ≡ false → Drains first depth old (Ok r) hub → HasRested first depth old hub
-drains_none first depth old true hub is d = cc
-drains_none first depth old false hub is d = d
+drains_none first depth old r hub is d = subst (λ (x : Bool). Drains first depth old (Ok x) hub) is d
 
 pub no_bytes : (bytes : List ℕ) → length bytes ≤ 0 → bytes ≡ []
 no_bytes [] none = refl

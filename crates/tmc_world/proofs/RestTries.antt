@@ -304,10 +304,8 @@ next_lighter events otherwise result old mid new h unlate l less = by result (le
 
 pub made_if : (first depth : ℕ) (events : List Event) (old : Worldly) (r : Bool) (hub : HubParts Looped) → r ≡ true → Tries first depth events old (Ok r) hub
     → MakesOne first depth events old hub
-made_if first depth events old true hub is t = t
-made_if first depth events old false hub is t = cc
+made_if first depth events old r hub is t = subst (λ (x : Bool). Tries first depth events old (Ok x) hub) is t
 
 pub none_if : (first depth : ℕ) (events : List Event) (old : Worldly) (r : Bool) (hub : HubParts Looped) → r ≡ false → Tries first depth events old (Ok r) hub
     → MakesNone first depth events old hub
-none_if first depth events old true hub is t = cc
-none_if first depth events old false hub is t = t
+none_if first depth events old r hub is t = subst (λ (x : Bool). Tries first depth events old (Ok x) hub) is t

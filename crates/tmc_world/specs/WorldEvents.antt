@@ -2,6 +2,7 @@
 use Rattle.std.specs.Prelude.{◌≡◌, ◌≢◌, ◌⊎◌, ℕ, Bool, true, List, [], Option, None, Result, Ok, Err}
 use Rattle.tmc_base.specs.declared.link.PollStep.{PollStep}
 use Rattle.tmc_base.specs.declared.link.SendStep.{SendStep}
+use Rattle.tmc_base.specs.declared.link.TendStep.{TendStep}
 use Rattle.tmc_base.specs.declared.link.TendStep.TheVariants as tend
 use Rattle.host_hub.specs.declared.answers.Turn.{Turn}
 use Rattle.host_hub.specs.declared.answers.Turn.TheVariants as turn
@@ -31,6 +32,12 @@ abbrev pub applied_ask : Result ℕ AskFault → Applied
 applied_ask (Ok ticket) = applied.Answer (answer.Ticket ticket)
 applied_ask (Err fault.Memory) = applied.Memory
 applied_ask (Err why) = applied.Answer (answer.Refused why)
+
+-- what a step of the instrument answers
+abbrev pub applied_step : TendStep → Applied
+applied_step tend.Did = applied.Answer answer.Done
+applied_step tend.NotNow = applied.NotEnabled
+applied_step tend.Memory = applied.Memory
 
 -- what a turn answers that an event makes
 abbrev pub applied_turn : Turn → Applied

@@ -64,7 +64,10 @@ impl World {
         ensures less { IfOk result (λ more. more ≡ true → to_send self.new.hub < to_send self.old.hub) }
     {
         self.stands();
-        self.calm()?;
+        match self.calm() {
+            Ok(()) => (),
+            Err(Memory) => return Err(Memory),
+        }
         match self.send_all() {
             Ok(true) => Ok(true),
             Ok(false) => self.drain(),

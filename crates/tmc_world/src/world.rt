@@ -8,7 +8,7 @@ ghost use Rattle.event_text.specs.declared.event.Event.TheVariants as event;
 ghost use Rattle.tmc_world.specs.declared.pace.Pace.TheVariants as pace;
 ghost use Rattle.tmc_world.specs.LoopLink.{IsTold};
 ghost use Rattle.tmc_world.specs.World.{Worldly, HasWorld, IsBehind, begun, setting_of};
-ghost use Rattle.tmc_world.specs.WorldEvents.{LeadsTo, TurnsTo, applied_ask};
+ghost use Rattle.tmc_world.specs.WorldEvents.{LeadsTo, TurnsTo, applied_ask, applied_step};
 ghost use Rattle.tmc_world.specs.WorldFacts.{WorldFacts};
 
 use crate::{Applied, LoopAct, LoopLink};
@@ -123,11 +123,7 @@ impl World {
     pub(crate) fn dev(&mut self, does: DevEvent) -> Applied
         ensures { (first depth : ℕ) (old : Worldly) → IsBehind first depth old self.old.hub → LeadsTo first depth (event.Dev does) old result self.new.hub }
     {
-        match self.hub.tend(LoopAct::Dev(does)) {
-            TendStep::Did => Applied::Answer(EventAnswer::Done),
-            TendStep::NotNow => Applied::NotEnabled,
-            TendStep::Memory => Applied::Memory,
-        }
+        stepped(self.hub.tend(LoopAct::Dev(does)))
     }
 
     /// The next send fails.
@@ -168,5 +164,16 @@ fn asked(answer: Result<u32, AskFault>) -> Applied
         Ok(ticket) => Applied::Answer(EventAnswer::Ticket(ticket)),
         Err(AskFault::Memory) => Applied::Memory,
         Err(fault) => Applied::Answer(EventAnswer::Refused(fault)),
+    }
+}
+
+/// What became of a step of the instrument.
+fn stepped(step: TendStep) -> Applied
+    ensures { result ≡ applied_step step }
+{
+    match step {
+        TendStep::Did => Applied::Answer(EventAnswer::Done),
+        TendStep::NotNow => Applied::NotEnabled,
+        TendStep::Memory => Applied::Memory,
     }
 }
