@@ -27,7 +27,7 @@ use Rattle.tmc_world.proofs.RestTries.{StepMade, late_in, same_sends, same_write
 abbrev pub made_none : (first depth : ℕ) (old : Worldly) (hub : HubParts Looped) → IsBehind first depth old hub → HasMade first depth old hub
 made_none first depth old hub b = record { new = old; made = []; moved = refl; behind = b }
 
-pub made_on : (first depth : ℕ) (old : Worldly) (a b : HubParts Looped) (m : HasMade first depth old a) → HasMade first depth m.new b → HasMade first depth old b
+abbrev pub made_on : (first depth : ℕ) (old : Worldly) (a b : HubParts Looped) (m : HasMade first depth old a) → HasMade first depth m.new b → HasMade first depth old b
 made_on first depth old a b m n = record {
   new = n.new;
   made = m.made ++ n.made;
@@ -35,7 +35,7 @@ made_on first depth old a b m n = record {
   behind = n.behind;
 }
 
-one_made : (first depth : ℕ) (events : List Event) (old : Worldly) (hub : HubParts Looped) → old.link.late ≡ false
+abbrev one_made : (first depth : ℕ) (events : List Event) (old : Worldly) (hub : HubParts Looped) → old.link.late ≡ false
     → ((move : Event) → IsFirstOpen (setting_of first depth) move events old → IsFirstOpen (setting_of first depth) move moves old)
     → MakesOne first depth events old hub → HasMade first depth old hub
 one_made first depth events old hub unlate opens m = record {

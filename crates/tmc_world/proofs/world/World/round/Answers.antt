@@ -40,7 +40,7 @@ returns-in-Ok-false-clause-less c =
     rounds_less c.args.self.now.hub c.calm.new.self.hub c.send_all.new.self.hub c.drain.new.self.hub h k c.drain.result n (λ d. c.drain.ensures.less)
     (rounds_down h.first h.depth h.world c.calm.new.self.hub c.send_all.new.self.hub c.drain.new.self.hub k c.drain.result n (c.drain.ensures.drains h.first h.depth k.made.new))
 
-pub returns-in-Err-2-clause-rounds : goal.returns-in-Err-2-clause-rounds
-returns-in-Err-2-clause-rounds c = λ first depth old b.
+pub returns-in-Err-send_all-clause-rounds : goal.returns-in-Err-send_all-clause-rounds
+returns-in-Err-send_all-clause-rounds c = λ first depth old b.
     let k = c.in-Ok.ensures.calms first depth old b in
-    rounds_up_stops first depth old c.calm.new.self.hub c.send_all.new.self.hub k (c.in-Err-2.ensures.tries first depth k.made.new k.made.behind)
+    rounds_up_stops first depth old c.calm.new.self.hub c.send_all.new.self.hub k (c.in-Err-send_all.ensures.tries first depth k.made.new k.made.behind)
