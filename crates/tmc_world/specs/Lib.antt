@@ -6,5 +6,6 @@ pub mod LoopLink
 pub mod Resting
 pub mod World
 pub mod WorldSteps
+pub mod Rests
 pub mod WorldEvents
 pub mod WorldFacts

@@ -22,8 +22,15 @@ use Rattle.event_text.specs.declared.event.Event.{Event}
 use Rattle.event_text.specs.declared.event.Event.TheVariants as event
 use Rattle.tmc_world.specs.declared.pace.Pace.{Pace}
 use Rattle.tmc_world.specs.declared.pace.Pace.TheVariants.{Paced}
+use Rattle.tmc_law.specs.declared.dev_event.DevEvent.{DevEvent}
 use Rattle.tmc_law.specs.declared.dev_event.DevEvent.TheVariants as device
-use Rattle.usbip_export.specs.Events.{IsDue, all}
+use Rattle.tmc_law.specs.Put.{Put}
+use Rattle.tmc_law.specs.State.{State}
+use Rattle.tmc_law.specs.Step.{Move}
+use Rattle.tmc_law.specs.Step.{Steps as LawSteps}
+use Rattle.tmc_device.specs.Events.{Allows}
+use Rattle.usbip_export.specs.Events.{all}
+use Rattle.usbip_export.specs.Seen.{standing}
 use Rattle.tmc_world.specs.Crossing.{IsShut}
 use Rattle.tmc_world.specs.LoopLink.{Looped, ActGoes, Acts, Polls, Sends}
 use Rattle.tmc_world.specs.World.{Worldly, outbox, shut}
@@ -111,11 +118,19 @@ moves =
     event.Dev device.Answer ∷ event.Dev device.Exec ∷ event.Dev (device.Take all) ∷ event.Dev (device.Begin all) ∷ event.Dev (device.Fill all)
     ∷ event.Dev device.Notify ∷ event.Up all ∷ event.Down all ∷ []
 
+-- the law allows such a step of the instrument
+pub record IsLawfulNow (does : DevEvent) (state : State) : Type 0 where
+  pub move : Move
+  pub puts : List Put
+  pub next : State
+  pub allowed : Allows does move
+  pub steps : LawSteps state move puts next
+
 -- a move is enabled
 abbrev pub IsOpenTo : Setting → Event → Worldly → Type 0
 IsOpenTo s (event.Up most) world = MayGoUp s most world
 IsOpenTo s (event.Down most) world = MayGoDown most world
-IsOpenTo s (event.Dev does) world = IsDue does world.link.node
+IsOpenTo s (event.Dev does) world = IsLawfulNow does (standing world.link.node)
 IsOpenTo s _ world = ⊥
 
 -- it does what it does

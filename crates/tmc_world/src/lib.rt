@@ -24,7 +24,7 @@ mod world_tests;
 pub use applied::Applied;
 pub use loop_act::LoopAct;
 pub use loop_link::LoopLink;
-pub use resting::instruments_come_to_rest;
+pub use resting::{instruments_come_to_rest, worlds_come_to_rest};
 pub use runs::world_runs_keep_the_laws;
 pub use usbip_export::{DevEvent, Log, LogEntry};
 pub use world::World;
