@@ -76,6 +76,7 @@ MoveWants s _ old new = ⊥
 abbrev pub Wants : Setting → Event → (old new : Worldly) → Type 0
 Wants s (event.Ask session limit message) old new = (ask_fault s old.past (asking_of_ask session limit message) ≡ None) × (new ≡ old)
 Wants s (event.Tell session message) old new = (ask_fault s old.past (asking_of_tell session message) ≡ None) × (new ≡ old)
+Wants s event.Rest old new = new ≡ old
 Wants s move old new = MoveWants s move old new
 
 abbrev pub Applies : Setting → Event → (old : Worldly) → Applied → (new : Worldly) → Type 0
