@@ -41,3 +41,4 @@ pub mod WorkedTriggers
 pub mod WorkedRemotes
 pub mod WorkedReasons
 pub mod WorkedRaces
+pub mod WorkedNotices

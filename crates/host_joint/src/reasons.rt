@@ -9,9 +9,9 @@ ghost use Rattle.usbip_wire.specs.declared.ret_submit.RetSubmitHead.{RetSubmitHe
 ghost use Rattle.usbip_wire.specs.Up as up;
 ghost use Rattle.usbip_wire.specs.Down as down;
 ghost use Rattle.usbip_wire.specs.Down.{SpellsAnswer};
-ghost use Rattle.tmc_law.specs.Endpoint.{Endpoint};
+ghost use Rattle.tmc_law.specs.Endpoint.{Endpoint, BulkOut, BulkIn, number_of};
 ghost use Rattle.tmc_law.specs.State.{State, start, is_halted};
-ghost use Rattle.tmc_law.specs.Put.{Put, Submitted};
+ghost use Rattle.tmc_law.specs.Put.{Put, Submitted, success};
 ghost use Rattle.tmc_law.specs.Step.{Move, Steps};
 ghost use Rattle.tmc_law.specs.Run.{Entry, Runs, taken, inputs, outputs};
 ghost use Rattle.host_joint.specs.Lines.{Fitting};
@@ -19,13 +19,13 @@ ghost use Rattle.host_joint.specs.Unlinking.{IsBulk};
 ghost use Rattle.host_joint.specs.Asking.{StaysPlugged};
 ghost use Rattle.host_joint.specs.Hand.{Free};
 ghost use Rattle.host_joint.specs.Tie.{Tie};
-ghost use Rattle.host_joint.specs.Bond.{Situation, Letter, IsOf, finds, Stands, Resting, BehindClear, Requests, Bound};
+ghost use Rattle.host_joint.specs.Bond.{Situation, Reading, Saying, taken_of, Letter, IsOf, finds, Stands, Resting, BehindClear, Requests, Bound};
 ghost use Rattle.host_joint.specs.Joint.{TellsBy, Joint, entries_of, IsApart};
 ghost use Rattle.host_joint.specs.Reasons.{both, HaveReasons, Hosts, Spares, MayHalt, IsFreeing, BoundUsable, JoinedUsable, IsNextUsable};
 
 use crate::{
-    asks_halt_nothing, bonds_stay, no_submit_is_refused, recoveries_end, recoveries_go_on,
-    remote_tickets_are_tied,
+    asks_halt_nothing, bonds_stay, cancelled_answers_are_taken, messages_are_cancelled,
+    no_submit_is_refused, recoveries_end, recoveries_go_on, remote_tickets_are_tied,
 };
 use tmc_law::laws::{
     halts_have_causes, messages_are_refused_by_what_is_pending, pending_submits_are_sound,
@@ -84,6 +84,22 @@ pub fn endpoints_stay_usable()
     headers_are_read_again();
     pending_submits_are_sound();
     setups_have_one_meaning();
+}
+
+/// While a host knows that its endpoints are not halted, the answer to each transfer of a message says that it was taken whole, and that to a request or a
+/// read has status 0: so where no trouble came, each message that is told is taken.
+pub fn usable_submits_are_taken()
+    ensures part { (which : Endpoint → Bool) (tag : ℕ) (first ended : Bool) (head : SubmitHead) (unlinks : List UnlinkHead) (next : ℕ) (asked : SubmitHead) (answer : RetSubmitHead) (transferred : List ℕ) (ups : List up.Message) (downs : List Put) (s : State)
+        → which BulkOut ≡ true → head.ep ≡ number_of BulkOut
+        → BoundUsable which (Saying tag first ended false) (Some head) unlinks next ups (Submitted asked answer transferred ∷ downs) s
+        → (answer.status ≡ success) × (answer.actual ≡ head.length) × Bound (Saying tag first ended true) None unlinks next ups downs s }
+    ensures read { (last : ℕ) (message : List ℕ) (tag size : ℕ) (sofar read : List ℕ) (head : SubmitHead) (unlinks : List UnlinkHead) (next : ℕ) (asked : SubmitHead) (answer : RetSubmitHead) (transferred : List ℕ) (ups : List up.Message) (downs : List Put) (s : State)
+        → (head.ep ≡ number_of BulkOut) ⊎ (head.ep ≡ number_of BulkIn)
+        → BoundUsable both (Reading last message tag size sofar read (taken_of head)) (Some head) unlinks next ups (Submitted asked answer transferred ∷ downs) s
+        → answer.status ≡ success }
+{
+    messages_are_cancelled();
+    cancelled_answers_are_taken();
 }
 
 /// The same over a link that tells its bytes and the steps of its peer: from where the host has nothing in hand, while the device goes on, where the

@@ -1,30 +1,33 @@
 //! Why an endpoint is halted in the examples, and how their host comes to know that none is. Each function does nothing.
 
-ghost use Rattle.std.specs.Prelude.{◌≡◌, ℕ, Some, None, List, [], ◌∷◌, ◌++◌, Option};
+ghost use Rattle.std.specs.Prelude.{◌≡◌, ℕ, Some, None, List, [], ◌∷◌, ◌++◌, Option, take, true, false};
 ghost use Rattle.usbip_wire.specs.declared.submit.SubmitHead.{SubmitHead};
 ghost use Rattle.usbip_wire.specs.declared.unlink.UnlinkHead.{UnlinkHead};
 ghost use Rattle.usbip_wire.specs.Up as up;
 ghost use Rattle.usbip_wire.specs.Down as down;
 ghost use Rattle.tmc_law.specs.Endpoint.{BulkOut, BulkIn};
-ghost use Rattle.tmc_law.specs.State.{start};
+ghost use Rattle.tmc_law.specs.State.{State, start};
 ghost use Rattle.tmc_law.specs.Put.{Put, success, stalled};
 ghost use Rattle.tmc_law.specs.Run.{Entry, Runs, SpellsPut};
-ghost use Rattle.tmc_law.specs.WorkedSession.{devid, in_submit, answered};
+ghost use Rattle.tmc_law.specs.WorkedSession.{devid, out_submit, in_submit, answered};
+ghost use Rattle.tmc_law.specs.WorkedParts.{sending_parts};
 ghost use Rattle.tmc_law.specs.WorkedTold.{takes_in, puts_out};
 ghost use Rattle.host_joint.specs.Hand.{Free};
 ghost use Rattle.host_joint.specs.Tie.{Tie};
-ghost use Rattle.host_joint.specs.Bond.{Place, Stands, Resting, Requests, Frees};
+ghost use Rattle.host_joint.specs.Bond.{Place, Saying, Bound, Stands, Resting, Requests, Frees};
 ghost use Rattle.host_joint.specs.Joint.{Joint};
 ghost use Rattle.host_joint.specs.Reasons.{both, HaltedSince, HaveReasons, BoundUsable, JoinedUsable, IsNextUsable};
-ghost use Rattle.host_joint.specs.WorkedPieces.{requested_second};
+ghost use Rattle.host_joint.specs.WorkedPieces.{requested_second, second_piece, behind_second};
 ghost use Rattle.host_joint.specs.WorkedReasons.{out_only};
 ghost use Rattle.host_joint.specs.WorkedRecoveries.{reading_rest, usable_in, halting_second, halted_inside, usable_again, clearing_halted, clearing_all};
 
 use crate::{
     bonds_stay, cancels_begin, endpoints_stay_usable, halts_have_reasons, joints_begin,
-    recoveries_go_on, remote_tickets_are_tied, usable_joints_go_on, worked_halts_are_recovered,
+    messages_are_cancelled, recoveries_go_on, remote_tickets_are_tied, ties_begin,
+    usable_joints_go_on, usable_submits_are_taken, worked_halts_are_recovered,
 };
 use tmc_law::laws::runs_join;
+use tmc_law::worked::a_message_comes_in_parts;
 
 /// Behind the halt of the second piece Bulk-IN is halted, and behind the clear of that halt Bulk-OUT is too: each for a reason in the run that led
 /// there. Bulk-OUT has none before, in no run.
@@ -76,4 +79,23 @@ pub fn worked_usable_joints_go_on()
     remote_tickets_are_tied();
     worked_halts_are_recovered();
     worked_endpoints_stay_usable();
+}
+
+/// A host that writes the first transfer of a message at power-on, and one that reads the second piece of a response, know both endpoints: the transfer was
+/// taken, and the answer to the read is on its way. No host that knows both is told of a halt.
+pub fn worked_usable_submits_are_taken()
+    ensures part { (s : State) × Runs start (take 3 sending_parts) s × Bound (Saying 1 true false true) None [] 2 [] [] s }
+    ensures read { BoundUsable both reading_rest (Some (in_submit 6 4096)) [] 7 [] (answered (in_submit 6 4096) success 24 second_piece ∷ []) behind_second }
+    ensures mistaken { (unlinks : List UnlinkHead) (next : ℕ) (ups : List up.Message) (downs : List Put) (s : State)
+        → BoundUsable both (Saying 1 true false false) (Some (out_submit 1 112)) unlinks next ups (answered (out_submit 1 112) stalled 0 [] ∷ downs) s → ⊥ }
+    ensures mistaken_read { (unlinks : List UnlinkHead) (next : ℕ) (ups : List up.Message) (downs : List Put) (s : State)
+        → BoundUsable both reading_rest (Some (in_submit 6 4096)) unlinks next ups (answered (in_submit 6 4096) stalled 0 [] ∷ downs) s → ⊥ }
+{
+    a_message_comes_in_parts();
+    runs_join();
+    ties_begin();
+    messages_are_cancelled();
+    endpoints_stay_usable();
+    usable_submits_are_taken();
+    worked_halts_are_recovered();
 }
