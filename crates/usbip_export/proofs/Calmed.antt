@@ -1,5 +1,5 @@
 -- a node whose instrument has nothing to do
-use Rattle.std.proofs.Common.{◌≡◌, ◌∙◌, List, [], ◌∷◌, refl, sym, ap, subst}
+use Rattle.std.proofs.Common.{◌≡◌, ◌∙◌, List, [], ◌∷◌, None, refl, sym, ap, subst, append-nil}
 use Rattle.tmc_law.specs.declared.dev_event.DevEvent.{DevEvent}
 use Rattle.tmc_law.specs.State.{State, Plugged}
 use Rattle.tmc_device.specs.Events.{NoneLawful}
@@ -7,7 +7,8 @@ use Rattle.usbip_export.specs.declared.body.Body.{Body}
 use Rattle.usbip_export.specs.Seen.{Seen, standing, closed_by}
 use Rattle.usbip_export.specs.Events.{AreDeclined, IsCalm, calm_moves}
 use Rattle.usbip_export.specs.Body.{seen_of, IsOpen, IsBodySpelled}
-use Rattle.usbip_export.proofs.More.{standing_same}
+use Rattle.usbip_export.specs.Steps.{steps_of, AreArrivals, AreCalmSteps, AreCalming, MovesBy}
+use Rattle.usbip_export.proofs.More.{standing_same, more_by}
 use Rattle.usbip_export.proofs.Driven.{plugged_unrefused}
 
 pub declined_same : (events : List DevEvent) (a b : Seen) → b.imported ≡ a.imported → standing b ≡ standing a → AreDeclined events a → AreDeclined events b
@@ -35,3 +36,14 @@ calm_closed body shut (ev ∷ events) = (
   λ was move puts t allowed steps. shut (open_of body steps.plugged),
   calm_closed body shut events,
 )
+
+-- ---- the steps of a calm call: what waits arrives, and then calm moves are made
+
+pub arrivals_calming : (old new : Seen) → MovesBy AreArrivals old new → MovesBy AreCalming old new
+arrivals_calming old new made = record {
+  moves = made.moves;
+  only = (steps_of made.moves.taken, [], sym (append-nil (steps_of made.moves.taken)), made.only, tt);
+}
+
+pub calms_behind : (old mid new : Seen) → mid.refused ≡ None → MovesBy AreArrivals old mid → MovesBy AreCalmSteps mid new → MovesBy AreCalming old new
+calms_behind = more_by AreArrivals AreCalmSteps AreCalming (λ arrivals moves first second. (arrivals, moves, refl, first, second))

@@ -3,19 +3,23 @@ use Rattle.std.proofs.Common.{◌≡◌, ◌∙◌, ℕ, Bool, true, false, List
 use Rattle.tmc_base.specs.Told.{Told, WentOut, CameIn, Exchanged, IsFront}
 use Rattle.tmc_device.specs.Seen.{is_closed}
 use Rattle.usbip_export.specs.Seen.{Seen, standing}
-use Rattle.usbip_export.specs.Serving.{Works, Crosses}
-use Rattle.usbip_export.proofs.Worked.{sent_works, no_works, works_more, stays_closed}
+use Rattle.usbip_export.specs.Steps.{IsServing, AreArrivals, AreServing}
+use Rattle.usbip_export.specs.Serving.{WorksBy, Crosses}
+use Rattle.usbip_export.proofs.Worked.{sent_by, nothing_by, both_by, stays_closed}
+use Rattle.usbip_export.proofs.More.{all_more}
+use Rattle.usbip_export.proofs.Served.{arrivals_serve}
 use Rattle.usbip_export.proofs.Exchanged.{exchanged_none, exchanged_out, exchanged_in, exchanged_more}
 
 -- the node's own work
-pub crosses_alone : {A : Type 0} (tells : A → Told) (ample : Type 0) (node later : Seen) (link : A) → Works [] [] node later
+pub crosses_alone : {A : Type 0} (tells : A → Told) (ample : Type 0) (node later : Seen) (link : A) → WorksBy AreServing [] [] node later
     → Crosses tells ample node link later link
 crosses_alone tells ample node later link works = record {
   bytes = [];
   sent = [];
   came = [];
   told = exchanged_none (tells link);
-  works = works;
+  works = works.works;
+  only = works.only;
   front = ([], refl);
   shut = λ _. refl;
   all = λ _ _. refl;
@@ -24,16 +28,19 @@ crosses_alone tells ample node later link works = record {
 pub crosses_sent : {A : Type 0} (tells : A → Told) (ample : Type 0) (node later : Seen) (link after : A) (count : ℕ)
     → WentOut (take count node.out) (tells link) (tells after) → later ≡ record node { out = drop count node.out }
     → Crosses tells ample node link later after
-crosses_sent tells ample node later link after count went is = record {
-  bytes = [];
-  sent = take count node.out;
-  came = [];
-  told = exchanged_out [] [] (take count node.out) _ _ _ (exchanged_none (tells link)) went;
-  works = subst (λ (s : Seen). Works [] (take count node.out) node s) (sym is) (sent_works node count);
-  front = ([], refl);
-  shut = λ _. refl;
-  all = λ _ _. refl;
-}
+crosses_sent tells ample node later link after count went is =
+    let made = subst (λ (s : Seen). WorksBy AreServing [] (take count node.out) node s) (sym is) (sent_by AreServing tt node count) in
+    record {
+      bytes = [];
+      sent = take count node.out;
+      came = [];
+      told = exchanged_out [] [] (take count node.out) _ _ _ (exchanged_none (tells link)) went;
+      works = made.works;
+      only = made.only;
+      front = ([], refl);
+      shut = λ _. refl;
+      all = λ _ _. refl;
+    }
 
 -- no byte moved
 pub crosses_unsent : {A : Type 0} (tells : A → Told) (ample : Type 0) (node : Seen) (link after : A) → WentOut [] (tells link) (tells after)
@@ -43,7 +50,8 @@ crosses_unsent tells ample node link after went = record {
   sent = [];
   came = [];
   told = exchanged_out [] [] [] _ _ _ (exchanged_none (tells link)) went;
-  works = no_works node;
+  works = (nothing_by AreServing tt node).works;
+  only = (nothing_by AreServing tt node).only;
   front = ([], refl);
   shut = λ _. refl;
   all = λ _ _. refl;
@@ -56,7 +64,8 @@ crosses_quiet tells ample node link after came = record {
   sent = [];
   came = [];
   told = exchanged_in [] [] [] _ _ _ (exchanged_none (tells link)) came;
-  works = no_works node;
+  works = (nothing_by AreServing tt node).works;
+  only = (nothing_by AreServing tt node).only;
   front = ([], refl);
   shut = λ _. refl;
   all = λ _ _. refl;
@@ -64,7 +73,7 @@ crosses_quiet tells ample node link after came = record {
 
 -- bytes came, and the node was fed them
 pub crosses_fed : {A : Type 0} (tells : A → Told) (ample : Type 0) (node later : Seen) (link after : A) (bytes : List ℕ)
-    → CameIn bytes (tells link) (tells after) → (is_closed (standing node).presence ≡ false → Works bytes [] node later)
+    → CameIn bytes (tells link) (tells after) → (is_closed (standing node).presence ≡ false → WorksBy AreArrivals bytes [] node later)
     → (is_closed (standing node).presence ≡ true → later ≡ node) → Crosses tells ample node link later after
 crosses_fed {A} tells ample node later link after bytes came works same = by (is_closed (standing node).presence) refl where
   told : Exchanged [] bytes (tells link) (tells after)
@@ -74,22 +83,26 @@ crosses_fed {A} tells ample node later link after bytes came works same = by (is
   clash e = cc
 
   by : (shut : Bool) → is_closed (standing node).presence ≡ shut → Crosses tells ample node link later after
-  by true is = record {
-    bytes = [];
-    sent = [];
-    came = bytes;
-    told = told;
-    works = subst (λ (s : Seen). Works [] [] node s) (sym (same is)) (no_works node);
-    front = (bytes, refl);
-    shut = λ _. refl;
-    all = λ _ unshut. absurd (clash (sym is ∙ (sym (ap (λ (s : Seen). is_closed (standing s).presence) (same is)) ∙ unshut)));
-  }
+  by true is =
+      let made = subst (λ (s : Seen). WorksBy AreServing [] [] node s) (sym (same is)) (nothing_by AreServing tt node) in
+      record {
+        bytes = [];
+        sent = [];
+        came = bytes;
+        told = told;
+        works = made.works;
+        only = made.only;
+        front = (bytes, refl);
+        shut = λ _. refl;
+        all = λ _ unshut. absurd (clash (sym is ∙ (sym (ap (λ (s : Seen). is_closed (standing s).presence) (same is)) ∙ unshut)));
+      }
   by false is = record {
     bytes = bytes;
     sent = [];
     came = bytes;
     told = told;
-    works = works is;
+    works = (works is).works;
+    only = arrivals_serve _ (works is).only;
     front = ([], sym (append-nil bytes));
     shut = λ shut. absurd (clash (sym shut ∙ is));
     all = λ _ _. refl;
@@ -98,16 +111,19 @@ crosses_fed {A} tells ample node later link after bytes came works same = by (is
 -- bytes came, and memory was wanting to feed them
 pub crosses_lost : {A : Type 0} (tells : A → Told) (ample : Type 0) (node later : Seen) (link after : A) (bytes : List ℕ)
     → CameIn bytes (tells link) (tells after) → later ≡ node → (ample → ⊥) → Crosses tells ample node link later after
-crosses_lost tells ample node later link after bytes came same wanting = record {
-  bytes = [];
-  sent = [];
-  came = bytes;
-  told = exchanged_in [] [] bytes _ _ _ (exchanged_none (tells link)) came;
-  works = subst (λ (s : Seen). Works [] [] node s) (sym same) (no_works node);
-  front = (bytes, refl);
-  shut = λ _. refl;
-  all = λ ample _. absurd (wanting ample);
-}
+crosses_lost tells ample node later link after bytes came same wanting =
+    let made = subst (λ (s : Seen). WorksBy AreServing [] [] node s) (sym same) (nothing_by AreServing tt node) in
+    record {
+      bytes = [];
+      sent = [];
+      came = bytes;
+      told = exchanged_in [] [] bytes _ _ _ (exchanged_none (tells link)) came;
+      works = made.works;
+      only = made.only;
+      front = (bytes, refl);
+      shut = λ _. refl;
+      all = λ ample _. absurd (wanting ample);
+    }
 
 -- a front of bytes that all were fed, and a front of those behind them
 front_more : (a b c d : List ℕ) → a ≡ c → IsFront b d → IsFront (a ++ b) (c ++ d)
@@ -127,7 +143,8 @@ crosses_more {A} tells ample node mid later link between after unshut first seco
   sent = first.sent ++ second.sent;
   came = first.came ++ second.came;
   told = exchanged_more first.sent first.came second.sent second.came _ _ _ first.told second.told;
-  works = works_more first.bytes second.bytes first.sent second.sent node mid later unshut first.works second.works;
+  works = both.works;
+  only = both.only;
   front = front (is_closed (standing mid).presence) refl;
   shut = λ was.
       let still = stays_closed first.works.took first.works.answered node mid was first.works.taken in
@@ -138,6 +155,11 @@ crosses_more {A} tells ample node mid later link between after unshut first seco
 } where
   clash : true ≡ false → ⊥
   clash e = cc
+
+  both : WorksBy AreServing (first.bytes ++ second.bytes) (first.sent ++ second.sent) node later
+  both =
+      both_by AreServing AreServing AreServing (all_more IsServing) first.bytes second.bytes first.sent second.sent node mid later unshut
+      (record { works = first.works; only = first.only }) (record { works = second.works; only = second.only })
 
   front : (shut : Bool) → is_closed (standing mid).presence ≡ shut → IsFront (first.bytes ++ second.bytes) (first.came ++ second.came)
   front true is = front_none first.bytes second.bytes first.came second.came first.front (second.shut is)
@@ -150,7 +172,7 @@ crosses_more {A} tells ample node mid later link between after unshut first seco
 
 -- behind the node's own work
 pub crosses_settled : {A : Type 0} (tells : A → Told) (ample : Type 0) (node mid later : Seen) (link after : A) → mid.refused ≡ None
-    → Crosses tells (Unit {0}) node link mid after → Works [] [] mid later → Crosses tells ample node link later after
+    → Crosses tells (Unit {0}) node link mid after → WorksBy AreServing [] [] mid later → Crosses tells ample node link later after
 crosses_settled tells ample node mid later link after unshut first works =
     crosses_more tells ample node mid later link after after unshut first (crosses_alone tells ample mid later after works)
 
@@ -163,6 +185,7 @@ crosses_for tells ample enough node later link after weaker crosses = record {
   came = crosses.came;
   told = crosses.told;
   works = crosses.works;
+  only = crosses.only;
   front = crosses.front;
   shut = crosses.shut;
   all = λ e. crosses.all (weaker e);

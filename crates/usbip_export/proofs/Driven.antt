@@ -18,6 +18,7 @@ use Rattle.usbip_export.specs.declared.body.Body.{Body}
 use Rattle.usbip_export.specs.Identity.{devid}
 use Rattle.usbip_export.specs.Seen.{Seen, standing, closed_by}
 use Rattle.usbip_export.specs.TakenIn.{IsSpelled, Served, Moves}
+use Rattle.usbip_export.specs.Steps.{AreCalmSteps, MovesBy}
 use Rattle.usbip_export.specs.Events.{Drives, IsCalmMove, AreCalmMoves, AreDeclined, IsDeclined}
 use Rattle.usbip_export.specs.Work.{weight}
 use Rattle.usbip_export.specs.Body.{seen_of, IsBodySpelled}
@@ -98,6 +99,10 @@ drives_moves ev old new was drives = record {
   });
   out = drives.out;
 }
+
+pub drives_by : (ev : DevEvent) (old new : Seen) → old.imported ≡ true → IsCalmMove ev → Drives ev old new → MovesBy AreCalmSteps old new
+unfolding drives_moves
+drives_by ev old new was calm drives = record { moves = drives_moves ev old new was drives; only = ((ev, calm, drives.allowed), tt) }
 
 -- a node whose instrument is plugged refused nothing
 pub plugged_unrefused : (seen : Seen) → (standing seen).presence ≡ Plugged → seen.refused ≡ None

@@ -8,8 +8,10 @@ pub mod Spelled
 pub mod Driven
 pub mod Calmed
 pub mod Worked
+pub mod Served
 pub mod Ended
 pub mod Exchanged
 pub mod Crossed
 pub mod Failed
+pub mod Each
 pub mod Chained

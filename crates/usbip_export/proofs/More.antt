@@ -1,12 +1,14 @@
 -- what a node took in, and then more
-use Rattle.std.proofs.Common.{◌≡◌, ◌∙◌, ℕ, Bool, true, false, List, [], ◌++◌, None, refl, sym, ap, subst, append_assoc, append-nil}
+use Rattle.std.proofs.Common.{◌≡◌, ◌∙◌, ℕ, Bool, true, false, List, [], ◌∷◌, ◌++◌, None, refl, sym, ap, subst, append_assoc, append-nil}
 use Rattle.tmc_law.specs.State.{State}
 use Rattle.tmc_law.specs.Put.{Put}
-use Rattle.tmc_law.specs.Run.{Runs, outputs}
+use Rattle.tmc_law.specs.Step.{Move}
+use Rattle.tmc_law.specs.Run.{Entry, Runs, outputs}
 use Rattle.usbip_export.specs.Identity.{devid}
 use Rattle.usbip_export.specs.Operations.{import_done, replies}
 use Rattle.usbip_export.specs.Seen.{Seen, standing, closed_by}
 use Rattle.usbip_export.specs.TakenIn.{IsSpelled, Serves, IsUntouched, TakenIn, Asked, Failed, Imported, Served, Moves}
+use Rattle.usbip_export.specs.Steps.{steps_of, AllSteps, IsArrival, AreArrivals, MovesBy}
 use Rattle.usbip_export.proofs.Joined.{spells_more, runs_more, takes_more, outputs_more, spelled_more, import_none, replies_more}
 
 pub standing_same : (a b : Seen) → b.state ≡ a.state → b.refused ≡ a.refused → standing b ≡ standing a
@@ -25,7 +27,7 @@ serves_more a b x y old mid new first second = record {
 }
 
 -- the same from a state before which nothing happened to the instrument
-pub serves_from : (b y : List ℕ) (old mid new : Seen) → IsUntouched old mid → mid.refused ≡ old.refused → Serves b y mid new → Serves b y old new
+unfoldable pub serves_from : (b y : List ℕ) (old mid new : Seen) → IsUntouched old mid → mid.refused ≡ old.refused → Serves b y mid new → Serves b y old new
 serves_from b y old mid new same unshut serves = record {
   run = serves.run;
   goes = subst (λ (s : State). Runs s serves.run (standing new)) (standing_same old mid same.state unshut) serves.goes;
@@ -86,7 +88,7 @@ moves_more old mid new unshut first second = record {
   out = second.out ∙ (ap (λ (l : List ℕ). l ++ second.answered) first.out ∙ append_assoc old.out first.answered second.answered);
 }
 
-pub nothing_served : (s : Seen) → Serves [] [] s s
+unfoldable pub nothing_served : (s : Seen) → Serves [] [] s s
 nothing_served s = record {
   run = [];
   goes = refl;
@@ -101,3 +103,50 @@ nothing_taken s false is = Asked [] is is refl refl tt refl (record { state = re
 -- nothing happened
 pub moves_none : (s : Seen) → Moves s s
 moves_none s = record { took = []; answered = []; kept = refl; taken = nothing_taken s s.imported refl; out = sym (append-nil s.out) }
+
+-- ---- the steps that were made
+
+pub steps_more : (a b x y : List ℕ) (old mid new : Seen) (unshut : mid.refused ≡ None) (first : TakenIn a x old mid) (second : TakenIn b y mid new)
+    → steps_of (taken_more a b x y old mid new unshut first second) ≡ steps_of first ++ steps_of second
+unfolding taken_more serves_more serves_from
+steps_more a b x y old mid new unshut (Asked rs was is kept row none says same) (Asked qs was' is' kept' row' none' says' same') = refl
+steps_more a b x y old mid new unshut (Asked rs was is kept row none says same) (Failed qs front' rest' f was' is' good bad cut' row' none' field says' same') = refl
+steps_more a b x y old mid new unshut (Asked rs was is kept row none says same) (Imported qs front' request' rest' behind' was' is' cut' row' none' asks' begins' says' serves') = refl
+steps_more a b x y old mid new unshut (Asked rs was is kept row none says same) (Served was' is' more) = cc
+steps_more a b x y old mid new unshut (Failed rs front rest f was is good bad cut row none field says same) second = cc
+steps_more a b x y old mid new unshut (Imported rs front request rest behind was is cut row none asks begins says serves) (Served was' is' more) = refl
+steps_more a b x y old mid new unshut (Imported rs front request rest behind was is cut row none asks begins says serves) (Asked qs was' is' kept' row' none' says' same') = cc
+steps_more a b x y old mid new unshut (Imported rs front request rest behind was is cut row none asks begins says serves) (Failed qs front' rest' f was' is' good bad cut' row' none' field says' same') = cc
+steps_more a b x y old mid new unshut (Imported rs front request rest behind was is cut row none asks begins says serves) (Imported qs front' request' rest' behind' was' is' cut' row' none' asks' begins' says' serves') = cc
+steps_more a b x y old mid new unshut (Served was is serves) (Served was' is' more) = refl
+steps_more a b x y old mid new unshut (Served was is serves) (Asked qs was' is' kept' row' none' says' same') = cc
+steps_more a b x y old mid new unshut (Served was is serves) (Failed qs front' rest' f was' is' good bad cut' row' none' field says' same') = cc
+steps_more a b x y old mid new unshut (Served was is serves) (Imported qs front' request' rest' behind' was' is' cut' row' none' asks' begins' says' serves') = cc
+
+-- the steps of two calls, one behind the other
+pub more_by : (First Second Both : List Entry → Type 0) → ((a b : List Entry) → First a → Second b → Both (a ++ b)) → (old mid new : Seen)
+    → mid.refused ≡ None → MovesBy First old mid → MovesBy Second mid new → MovesBy Both old new
+unfolding moves_more
+more_by First Second Both both old mid new unshut first second = record {
+  moves = moves_more old mid new unshut first.moves second.moves;
+  only =
+      subst Both
+      (sym (steps_more first.moves.took second.moves.took first.moves.answered second.moves.answered old mid new unshut first.moves.taken second.moves.taken))
+      (both (steps_of first.moves.taken) (steps_of second.moves.taken) first.only second.only);
+}
+
+nothing_steps : (s : Seen) (imported : Bool) (is : s.imported ≡ imported) → steps_of (nothing_taken s imported is) ≡ []
+unfolding nothing_taken nothing_served
+nothing_steps s true is = refl
+nothing_steps s false is = refl
+
+pub none_by : (Only : List Entry → Type 0) → Only [] → (s : Seen) → MovesBy Only s s
+unfolding moves_none
+none_by Only none s = record { moves = moves_none s; only = subst Only (sym (nothing_steps s s.imported refl)) none }
+
+pub all_more : (Is : Move → Type 0) (a b : List Entry) → AllSteps Is a → AllSteps Is b → AllSteps Is (a ++ b)
+all_more Is [] b first second = second
+all_more Is (entry ∷ a) b first second = (first.0, all_more Is a b first.1 second)
+
+pub arrivals_more : (old mid new : Seen) → mid.refused ≡ None → MovesBy AreArrivals old mid → MovesBy AreArrivals mid new → MovesBy AreArrivals old new
+arrivals_more = more_by AreArrivals AreArrivals AreArrivals (all_more IsArrival)

@@ -9,7 +9,7 @@ use Rattle.usbip_wire.specs.UpFed.{Held, Fed, Answers, BadAt, kept}
 use Rattle.tmc_law.specs.Step.{ByField}
 use Rattle.usbip_export.specs.declared.body.Body.{Body}
 use Rattle.usbip_export.specs.Seen.{phase_of}
-use Rattle.usbip_export.specs.TakenIn.{Moves}
+use Rattle.usbip_export.specs.Steps.{AreArrivals, MovesBy}
 use Rattle.usbip_export.specs.Body.{kept_of, seen_of, IsSound, IsOpen}
 use Rattle.usbip_export.specs.Taking.{Rests, Closes}
 use Rattle.usbip_export.proofs.Single.{closed_at, failed_at}
@@ -31,7 +31,7 @@ bad_closes old new f step reader piece sound opened idle late fed says is =
     let field : BadAt (phase_of old.imported) (seen_of old).kept f =
     subst (λ (p : UpPhase). BadAt p (seen_of old).kept f) sound.phase (subst (λ (l : List ℕ). BadAt old.reader.phase l f) (sym whole) bad) in
     Closes opened.unrefused
-    (subst (λ (b : Body). Moves (seen_of old) (seen_of b)) (sym is) (by old.imported refl field))
+    (subst (λ (b : Body). MovesBy AreArrivals (seen_of old) (seen_of b)) (sym is) (by old.imported refl field))
     (λ shut. clash (sym (ap (λ (b : Body). b.refused) is) ∙ shut.unrefused)) where
       clash : Some f ≡ None → ⊥
       clash e = cc
@@ -39,7 +39,7 @@ bad_closes old new f step reader piece sound opened idle late fed says is =
       closed : Body
       closed = record old { reader = reader; refused = Some f; waiting = None; late = new.late }
 
-      by : (b : Bool) → old.imported ≡ b → BadAt (phase_of old.imported) (seen_of old).kept f → Moves (seen_of old) (seen_of closed)
+      by : (b : Bool) → old.imported ≡ b → BadAt (phase_of old.imported) (seen_of old).kept f → MovesBy AreArrivals (seen_of old) (seen_of closed)
       by true was field =
           closed_at (seen_of old) (seen_of closed) f was was opened.unrefused refl refl opened.plugged
           (ByField (subst (λ b. BadAt (phase_of b) (seen_of old).kept f) was field)) (record { state = refl; puts = refl }) refl

@@ -10,13 +10,15 @@ use Rattle.usbip_wire.specs.UpFed.{BadAt}
 use Rattle.tmc_law.specs.State.{State, Plugged, Closed, start}
 use Rattle.tmc_law.specs.Put.{Put}
 use Rattle.tmc_law.specs.Step.{Comes, Refuses, Steps, IsRefused}
-use Rattle.tmc_law.specs.Run.{SpellAll, SpellsPut}
+use Rattle.tmc_law.specs.Run.{Entry, Runs, outputs, SpellAll, SpellsPut}
 use Rattle.tmc_device.specs.Seen.{Makes}
 use Rattle.usbip_export.specs.Identity.{busid, devid}
 use Rattle.usbip_export.specs.Operations.{device_list, import_done, import_failed, ImportNone, replies}
 use Rattle.usbip_export.specs.Seen.{Seen, standing, closed_by}
-use Rattle.usbip_export.specs.TakenIn.{IsSpelled, SpellsOff, Serves, IsUntouched, TakenIn, Asked, Failed, Imported, Served, Moves}
-use Rattle.usbip_export.proofs.More.{serves_from, serves_more, nothing_served}
+use Rattle.usbip_export.specs.TakenIn.{IsSpelled, SpellsOff, Serves, IsUntouched, TakenIn, Asked, Failed, Imported, Served}
+use Rattle.usbip_export.specs.Steps.{steps_of, AreArrivals, MovesBy}
+use Rattle.usbip_export.proofs.Joined.{spelled_more}
+use Rattle.usbip_export.proofs.More.{standing_same, serves_from, nothing_served}
 
 pub standing_open : (s : Seen) → s.refused ≡ None → standing s ≡ s.state
 standing_open s unshut = ap (λ r. closed_by r s.state) unshut
@@ -27,65 +29,75 @@ shorter bytes before after is some = omega (arith, some, ap length is, length-ap
 pub admitted : (old new : Seen) (message : up.Message) (bytes : List ℕ) → old.imported ≡ true → new.imported ≡ true → old.refused ≡ None
     → new.refused ≡ None → old.kept ≡ bytes ++ new.kept → up.Spells devid message bytes
     → Makes (Comes message) (record { state = old.state; puts = old.puts }) (record { state = new.state; puts = new.puts })
-    → new.out ≡ old.out → Moves old new
+    → new.out ≡ old.out → MovesBy AreArrivals old new
 admitted old new message bytes was is good still cut spells made out = record {
-  took = bytes;
-  answered = [];
-  kept = cut;
-  taken = Served was is (record {
-    run = record { move = Comes message; puts = made.puts } ∷ [];
-    goes = (
-      new.state,
-      subst (λ (s : State). Steps s (Comes message) made.puts new.state) (sym (standing_open old good)) made.steps,
-      standing_open new still,
-    );
-    takes = (bytes, [], sym (append-nil bytes), spells, refl);
-    spelled = record { puts = []; left = ap (λ (ps : List Put). old.puts ++ ps) (append-nil made.puts) ∙ sym made.joins; text = refl };
-  });
-  out = out ∙ sym (append-nil old.out);
+  moves = record {
+    took = bytes;
+    answered = [];
+    kept = cut;
+    taken = Served was is (record {
+      run = record { move = Comes message; puts = made.puts } ∷ [];
+      goes = (
+        new.state,
+        subst (λ (s : State). Steps s (Comes message) made.puts new.state) (sym (standing_open old good)) made.steps,
+        standing_open new still,
+      );
+      takes = (bytes, [], sym (append-nil bytes), spells, refl);
+      spelled = record { puts = []; left = ap (λ (ps : List Put). old.puts ++ ps) (append-nil made.puts) ∙ sym made.joins; text = refl };
+    });
+    out = out ∙ sym (append-nil old.out);
+  };
+  only = (tt, tt);
 }
 
 pub asked : (old new : Seen) (request : OpRequest) (bytes : List ℕ) → old.imported ≡ false → new.imported ≡ false
     → new.refused ≡ old.refused → old.kept ≡ bytes ++ new.kept → SpellsRequest request bytes → ImportNone (request ∷ [])
-    → IsUntouched old new → new.out ≡ old.out ++ replies (request ∷ []) → Moves old new
+    → IsUntouched old new → new.out ≡ old.out ++ replies (request ∷ []) → MovesBy AreArrivals old new
 asked old new request bytes was is same cut spells none untouched out = record {
-  took = bytes;
-  answered = replies (request ∷ []);
-  kept = cut;
-  taken = Asked (request ∷ []) was is same (bytes, [], sym (append-nil bytes), spells, refl) none refl untouched;
-  out = out;
+  moves = record {
+    took = bytes;
+    answered = replies (request ∷ []);
+    kept = cut;
+    taken = Asked (request ∷ []) was is same (bytes, [], sym (append-nil bytes), spells, refl) none refl untouched;
+    out = out;
+  };
+  only = tt;
 }
 
 pub asked_list : (old new : Seen) (bytes : List ℕ) → old.imported ≡ false → new.imported ≡ false
     → new.refused ≡ old.refused → old.kept ≡ bytes ++ new.kept → SpellsRequest DevList bytes
-    → IsUntouched old new → new.out ≡ old.out ++ device_list → Moves old new
+    → IsUntouched old new → new.out ≡ old.out ++ device_list → MovesBy AreArrivals old new
 asked_list old new bytes was is same cut spells untouched out =
     asked old new DevList bytes was is same cut spells tt untouched (out ∙ ap (λ (l : List ℕ). old.out ++ l) (sym (append-nil device_list)))
 
 pub asked_other : (old new : Seen) (id bytes : List ℕ) → old.imported ≡ false → new.imported ≡ false
     → new.refused ≡ old.refused → old.kept ≡ bytes ++ new.kept → SpellsRequest (Import id) bytes → id ≢ busid
-    → IsUntouched old new → new.out ≡ old.out ++ import_failed → Moves old new
+    → IsUntouched old new → new.out ≡ old.out ++ import_failed → MovesBy AreArrivals old new
 asked_other old new id bytes was is same cut spells other untouched out =
     asked old new (Import id) bytes was is same cut spells (other, tt) untouched
     (out ∙ ap (λ (l : List ℕ). old.out ++ l) (sym (append-nil import_failed)))
 
 pub imported_now : (old new : Seen) (id bytes : List ℕ) → old.imported ≡ false → new.imported ≡ true → new.refused ≡ old.refused
     → old.kept ≡ bytes ++ new.kept → SpellsRequest (Import id) bytes → id ≡ busid → standing old ≡ start
-    → IsUntouched old new → new.out ≡ old.out ++ import_done → Moves old new
+    → IsUntouched old new → new.out ≡ old.out ++ import_done → MovesBy AreArrivals old new
+unfolding serves_from nothing_served
 imported_now old new id bytes was is same cut spells own begins untouched out = record {
-  took = bytes;
-  answered = import_done ++ [];
-  kept = cut;
-  taken =
-      Imported [] [] bytes [] [] was is (sym (append-nil bytes)) refl tt (subst (λ (i : List ℕ). SpellsRequest (Import i) bytes) own spells) begins refl
-      (serves_from [] [] old new new untouched same (nothing_served new));
-  out = out ∙ ap (λ (l : List ℕ). old.out ++ l) (sym (append-nil import_done));
+  moves = record {
+    took = bytes;
+    answered = import_done ++ [];
+    kept = cut;
+    taken =
+        Imported [] [] bytes [] [] was is (sym (append-nil bytes)) refl tt (subst (λ (i : List ℕ). SpellsRequest (Import i) bytes) own spells) begins refl
+        (serves_from [] [] old new new untouched same (nothing_served new));
+    out = out ∙ ap (λ (l : List ℕ). old.out ++ l) (sym (append-nil import_done));
+  };
+  only = tt;
 }
 
 -- a field of what was fed, or what is pending, closes the node
 pub closed_at : (old new : Seen) (f : Field) → old.imported ≡ true → new.imported ≡ true → old.refused ≡ None → new.refused ≡ Some f
     → new.kept ≡ [] → old.state.presence ≡ Plugged → IsRefused devid old.state old.kept f → IsUntouched old new → new.out ≡ old.out
-    → Moves old new
+    → MovesBy AreArrivals old new
 closed_at old new f was is good bad none plugged refuses same out =
     let before : standing old ≡ old.state = standing_open old good in
     let after : standing new ≡ record old.state { presence = Closed f } =
@@ -93,31 +105,37 @@ closed_at old new f was is good bad none plugged refuses same out =
     let step : Steps old.state (Refuses devid old.kept f) [] (record old.state { presence = Closed f }) =
     record { plugged = plugged; leads = (refuses, refl, refl) } in
     record {
-      took = old.kept;
-      answered = [];
-      kept = sym (append-nil old.kept) ∙ ap (λ (l : List ℕ). old.kept ++ l) (sym none);
-      taken = Served was is (record {
-        run = record { move = Refuses devid old.kept f; puts = [] } ∷ [];
-        goes = (
-          record old.state { presence = Closed f },
-          subst (λ (s : State). Steps s (Refuses devid old.kept f) [] (record old.state { presence = Closed f })) (sym before) step,
-          after,
-        );
-        takes = (old.kept, [], sym (append-nil old.kept), (refl, refl), refl);
-        spelled = record { puts = []; left = append-nil old.puts ∙ sym same.puts; text = refl };
-      });
-      out = out ∙ sym (append-nil old.out);
+      moves = record {
+        took = old.kept;
+        answered = [];
+        kept = sym (append-nil old.kept) ∙ ap (λ (l : List ℕ). old.kept ++ l) (sym none);
+        taken = Served was is (record {
+          run = record { move = Refuses devid old.kept f; puts = [] } ∷ [];
+          goes = (
+            record old.state { presence = Closed f },
+            subst (λ (s : State). Steps s (Refuses devid old.kept f) [] (record old.state { presence = Closed f })) (sym before) step,
+            after,
+          );
+          takes = (old.kept, [], sym (append-nil old.kept), (refl, refl), refl);
+          spelled = record { puts = []; left = append-nil old.puts ∙ sym same.puts; text = refl };
+        });
+        out = out ∙ sym (append-nil old.out);
+      };
+      only = (tt, tt);
     }
 
 -- a field of an operation does
 pub failed_at : (old new : Seen) (f : Field) → old.imported ≡ false → new.imported ≡ false → old.refused ≡ None → new.refused ≡ Some f
-    → new.kept ≡ [] → BadAt Ops old.kept f → IsUntouched old new → new.out ≡ old.out → Moves old new
+    → new.kept ≡ [] → BadAt Ops old.kept f → IsUntouched old new → new.out ≡ old.out → MovesBy AreArrivals old new
 failed_at old new f was is good bad none field same out = record {
-  took = old.kept;
-  answered = [];
-  kept = sym (append-nil old.kept) ∙ ap (λ (l : List ℕ). old.kept ++ l) (sym none);
-  taken = Failed [] [] old.kept f was is good bad refl refl tt field refl same;
-  out = out ∙ sym (append-nil old.out);
+  moves = record {
+    took = old.kept;
+    answered = [];
+    kept = sym (append-nil old.kept) ∙ ap (λ (l : List ℕ). old.kept ++ l) (sym none);
+    taken = Failed [] [] old.kept f was is good bad refl refl tt field refl same;
+    out = out ∙ sym (append-nil old.out);
+  };
+  only = tt;
 }
 
 pub no_puts : (puts after : List Put) → [] ≡ puts ++ after → (puts ≡ []) × (after ≡ [])
@@ -148,43 +166,63 @@ silent mid new spelling was =
       puts = nothing.1 ∙ sym (spelling.fresh was);
     }
 
-spelling_serves : (mid new : Seen) (spelling : IsSpelling mid new) → Serves [] spelling.off.answered mid new
-spelling_serves mid new spelling = record {
-  run = [];
-  goes = ap (closed_by new.refused) spelling.state ∙ ap (λ r. closed_by r mid.state) spelling.refused;
-  takes = refl;
-  spelled = subst (λ (ps : List Put). IsSpelled ps spelling.off.answered new.puts) (sym (append-nil mid.puts)) spelling.off.spelled;
+-- a run whose answers were spelled further
+serves_spelled : (a x : List ℕ) (old mid new : Seen) (spelling : IsSpelling mid new) → Serves a x old mid
+    → Serves a (x ++ spelling.off.answered) old new
+serves_spelled a x old mid new spelling serves = record {
+  run = serves.run;
+  goes = subst (λ (t : State). Runs (standing old) serves.run t) (sym (standing_same mid new spelling.state spelling.refused)) serves.goes;
+  takes = serves.takes;
+  spelled =
+      subst (λ (ps : List Put). IsSpelled ps (x ++ spelling.off.answered) new.puts) (append-nil (old.puts ++ outputs serves.run))
+      (spelled_more (old.puts ++ outputs serves.run) [] mid.puts new.puts x spelling.off.answered serves.spelled
+      (subst (λ (ps : List Put). IsSpelled ps spelling.off.answered new.puts) (sym (append-nil mid.puts)) spelling.off.spelled));
 }
 
-taken_spelled : (a x : List ℕ) (old mid new : Seen) (spelling : IsSpelling mid new) → TakenIn a x old mid
-    → TakenIn a (x ++ spelling.off.answered) old new
+-- the same steps were made
+taken_spelled : (a x : List ℕ) (old mid new : Seen) (spelling : IsSpelling mid new) (taken : TakenIn a x old mid)
+    → (after : TakenIn a (x ++ spelling.off.answered) old new) × (steps_of after ≡ steps_of taken)
+unfolding serves_spelled
 taken_spelled a x old mid new spelling (Asked rs was is same row none says untouched) =
-    let none-said = silent mid new spelling is in
-    Asked rs was (spelling.imported ∙ is) (spelling.refused ∙ same) row none
-    (ap (λ (l : List ℕ). x ++ l) none-said.quiet ∙ (append-nil x ∙ says))
-    (record { state = spelling.state ∙ untouched.state; puts = none-said.puts ∙ untouched.puts })
+    let none-said = silent mid new spelling is in (
+      Asked rs was (spelling.imported ∙ is) (spelling.refused ∙ same) row none
+          (ap (λ (l : List ℕ). x ++ l) none-said.quiet ∙ (append-nil x ∙ says))
+          (record { state = spelling.state ∙ untouched.state; puts = none-said.puts ∙ untouched.puts }),
+      refl,
+    )
 taken_spelled a x old mid new spelling (Failed rs front rest f was is good bad cut row none field says untouched) =
-    let none-said = silent mid new spelling is in
-    Failed rs front rest f was (spelling.imported ∙ is) good (spelling.refused ∙ bad) cut row none field
-    (ap (λ (l : List ℕ). x ++ l) none-said.quiet ∙ (append-nil x ∙ says))
-    (record { state = spelling.state ∙ untouched.state; puts = none-said.puts ∙ untouched.puts })
-taken_spelled a x old mid new spelling (Imported rs front request rest behind was is cut row none asks begins says serves) =
-    Imported rs front request rest (behind ++ spelling.off.answered) was (spelling.imported ∙ is) cut row none asks begins
-    (ap (λ (l : List ℕ). l ++ spelling.off.answered) says
-    ∙ (append_assoc (replies rs) (import_done ++ behind) spelling.off.answered
-    ∙ ap (λ (l : List ℕ). replies rs ++ l) (append_assoc import_done behind spelling.off.answered)))
-    (subst (λ (l : List ℕ). Serves l (behind ++ spelling.off.answered) old new) (append-nil rest)
-    (serves_more rest [] behind spelling.off.answered old mid new serves (spelling_serves mid new spelling)))
-taken_spelled a x old mid new spelling (Served was is serves) =
-    Served was (spelling.imported ∙ is)
-    (subst (λ (l : List ℕ). Serves l (x ++ spelling.off.answered) old new) (append-nil a)
-    (serves_more a [] x spelling.off.answered old mid new serves (spelling_serves mid new spelling)))
+    let none-said = silent mid new spelling is in (
+      Failed rs front rest f was (spelling.imported ∙ is) good (spelling.refused ∙ bad) cut row none field
+          (ap (λ (l : List ℕ). x ++ l) none-said.quiet ∙ (append-nil x ∙ says))
+          (record { state = spelling.state ∙ untouched.state; puts = none-said.puts ∙ untouched.puts }),
+      refl,
+    )
+taken_spelled a x old mid new spelling (Imported rs front request rest behind was is cut row none asks begins says serves) = (
+  Imported rs front request rest (behind ++ spelling.off.answered) was (spelling.imported ∙ is) cut row none asks begins
+      (ap (λ (l : List ℕ). l ++ spelling.off.answered) says
+      ∙ (append_assoc (replies rs) (import_done ++ behind) spelling.off.answered
+      ∙ ap (λ (l : List ℕ). replies rs ++ l) (append_assoc import_done behind spelling.off.answered)))
+      (serves_spelled rest behind old mid new spelling serves),
+  refl,
+)
+taken_spelled a x old mid new spelling (Served was is serves) = (
+  Served was (spelling.imported ∙ is) (serves_spelled a x old mid new spelling serves),
+  refl,
+)
 
-pub moves_spelled : (old mid new : Seen) → Moves old mid → IsSpelling mid new → Moves old new
-moves_spelled old mid new moves spelling = record {
-  took = moves.took;
-  answered = moves.answered ++ spelling.off.answered;
-  kept = moves.kept ∙ ap (λ (l : List ℕ). moves.took ++ l) (sym spelling.kept);
-  taken = taken_spelled moves.took moves.answered old mid new spelling moves.taken;
-  out = spelling.off.out ∙ (ap (λ (l : List ℕ). l ++ spelling.off.answered) moves.out ∙ append_assoc old.out moves.answered spelling.off.answered);
-}
+pub spelled_by : (Only : List Entry → Type 0) (old mid new : Seen) → MovesBy Only old mid → IsSpelling mid new → MovesBy Only old new
+spelled_by Only old mid new made spelling =
+    let moves = made.moves in
+    let after = taken_spelled moves.took moves.answered old mid new spelling moves.taken in
+    record {
+      moves = record {
+        took = moves.took;
+        answered = moves.answered ++ spelling.off.answered;
+        kept = moves.kept ∙ ap (λ (l : List ℕ). moves.took ++ l) (sym spelling.kept);
+        taken = after.0;
+        out =
+            spelling.off.out
+            ∙ (ap (λ (l : List ℕ). l ++ spelling.off.answered) moves.out ∙ append_assoc old.out moves.answered spelling.off.answered);
+      };
+      only = subst Only (sym after.1) made.only;
+    }

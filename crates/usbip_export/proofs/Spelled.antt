@@ -3,10 +3,11 @@ use Rattle.std.proofs.Common.{◌≡◌, ◌∙◌, ℕ, List, [], refl, sym, su
 use Rattle.tmc_law.specs.Put.{Put}
 use Rattle.usbip_export.specs.declared.body.Body.{Body}
 use Rattle.usbip_export.specs.Seen.{Seen}
-use Rattle.usbip_export.specs.TakenIn.{SpellsOff, Moves}
+use Rattle.usbip_export.specs.TakenIn.{SpellsOff}
+use Rattle.usbip_export.specs.Steps.{AreArrivals, MovesBy}
 use Rattle.usbip_export.specs.Body.{seen_of, IsSound, IsBodySpelled}
 use Rattle.usbip_export.specs.Taking.{Rests, Shut, NothingWhole, Closes}
-use Rattle.usbip_export.proofs.More.{moves_more}
+use Rattle.usbip_export.proofs.More.{arrivals_more}
 use Rattle.usbip_export.proofs.Single.{IsSpelling, no_puts}
 
 none_left : (puts after : List Put) (old new : List ℕ) → puts ≡ [] → SpellsOff puts after old new → after ≡ []
@@ -31,7 +32,7 @@ body_spelling old new sound spelled = subst (λ (b : Body). IsSpelling (seen_of 
 })
 
 -- what a call did before it looked for a message and found none
-pub rested : (first : Seen) (old new : Body) → Rests old new → Moves first (seen_of old) → Moves first (seen_of new)
-rested first old new (Shut shut is) moves = subst (λ (b : Body). Moves first (seen_of b)) (sym is) moves
-rested first old new (NothingWhole none good is) moves = subst (λ (s : Seen). Moves first s) (sym is) moves
-rested first old new (Closes unshut more shut) moves = moves_more first (seen_of old) (seen_of new) unshut moves more
+pub rested : (first : Seen) (old new : Body) → Rests old new → MovesBy AreArrivals first (seen_of old) → MovesBy AreArrivals first (seen_of new)
+rested first old new (Shut shut is) moves = subst (λ (b : Body). MovesBy AreArrivals first (seen_of b)) (sym is) moves
+rested first old new (NothingWhole none good is) moves = subst (λ (s : Seen). MovesBy AreArrivals first s) (sym is) moves
+rested first old new (Closes unshut more shut) moves = arrivals_more first (seen_of old) (seen_of new) unshut moves more

@@ -22,13 +22,13 @@ use Rattle.usbip_export.specs.declared.body.Body.{Body}
 use Rattle.usbip_export.specs.Identity.{busid, devid}
 use Rattle.usbip_export.specs.Operations.{device_list, import_done, import_failed}
 use Rattle.usbip_export.specs.Seen.{Seen, phase_of}
-use Rattle.usbip_export.specs.TakenIn.{Moves}
+use Rattle.usbip_export.specs.Steps.{AreArrivals, MovesBy}
 use Rattle.usbip_export.specs.Body.{held_back, kept_of, seen_of, Waits, IsSound, IsOpen}
 use Rattle.usbip_export.proofs.Single.{shorter, admitted, closed_at, asked_list, asked_other, imported_now, standing_open}
 
 -- a call took some bytes in
 abbrev pub Takes : Seen → Seen → Type 0
-Takes old new = Moves old new × (length new.kept < length old.kept)
+Takes old new = MovesBy AreArrivals old new × (length new.kept < length old.kept)
 
 kept_before : (refused : Option Field) (waiting : Option Up) (said : Up) (reader : Held) (late : List ℕ) → refused ≡ None → waiting ≡ Some said
     → kept_of refused waiting reader late ≡ reader.rest ++ late

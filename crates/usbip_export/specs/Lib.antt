@@ -3,6 +3,7 @@ pub mod Operations
 pub mod Seen
 pub mod TakenIn
 pub mod Events
+pub mod Steps
 pub mod Work
 pub mod Body
 pub mod Taking

@@ -5,7 +5,7 @@ use Rattle.usbip_wire.specs.UpFed.{BadAt, NoneWhole}
 use Rattle.usbip_export.specs.declared.body.Body.{Body}
 use Rattle.usbip_export.specs.Body.{seen_of, IsOpen}
 use Rattle.usbip_export.specs.Seen.{phase_of}
-use Rattle.usbip_export.specs.TakenIn.{Moves}
+use Rattle.usbip_export.specs.Steps.{AreArrivals, MovesBy}
 
 -- there is none
 pub data Rests (old new : Body) : Type 0 where
@@ -15,7 +15,7 @@ pub data Rests (old new : Body) : Type 0 where
   NothingWhole : NoneWhole (phase_of old.imported) (seen_of new).kept
       → ((f : Field) → BadAt (phase_of old.imported) (seen_of new).kept f → ⊥) → seen_of new ≡ seen_of old → Rests old new
   -- a field is refused
-  Closes : old.refused ≡ None → Moves (seen_of old) (seen_of new) → (IsOpen new → ⊥) → Rests old new
+  Closes : old.refused ≡ None → MovesBy AreArrivals (seen_of old) (seen_of new) → (IsOpen new → ⊥) → Rests old new
 
 abbrev pub Reads : (waits : Bool) → Body → Body → Type 0
 Reads true old new = IsOpen old × IsOpen new × (seen_of new ≡ seen_of old)

@@ -3,7 +3,7 @@
 ghost use Rattle.std.specs.Prelude.{◌≡◌, ◌≢◌, ◌<◌, [], true, false, None, IfOk, OnOk, OnErr};
 ghost use Rattle.usbip_export.specs.Events.{AreCalmMoves, AreDeclined, IsCalm};
 ghost use Rattle.usbip_export.specs.Seen.{standing};
-ghost use Rattle.usbip_export.specs.TakenIn.{Moves};
+ghost use Rattle.usbip_export.specs.Steps.{AreCalmSteps, AreCalming, MovesBy};
 ghost use Rattle.usbip_export.specs.Work.{weight};
 
 use crate::body::Body;
@@ -29,7 +29,7 @@ impl Body {
     pub(crate) fn calm(&mut self) -> Result<(), Memory>
         requires sound { IsSound self.old }
         ensures sound { IsSound self.new }
-        ensures moves { Moves (seen_of self.old) (seen_of self.new) }
+        ensures moves { MovesBy AreCalming (seen_of self.old) (seen_of self.new) }
         ensures calm { OnOk result (IsCalm (seen_of self.new)) }
         ensures spelled { OnOk result ((seen_of self.new).puts ≡ []) }
     {
@@ -45,7 +45,7 @@ impl Body {
     pub(crate) fn calm_down(&mut self) -> Result<(), Memory>
         requires sound { IsSound self.old }
         ensures sound { IsSound self.new }
-        ensures moves { Moves (seen_of self.old) (seen_of self.new) }
+        ensures moves { MovesBy AreCalming (seen_of self.old) (seen_of self.new) }
         ensures calm { OnOk result (IsCalm (seen_of self.new)) }
         ensures spelled { OnOk result ((seen_of self.new).puts ≡ []) }
     {
@@ -65,7 +65,7 @@ impl Body {
     fn move_on(&mut self) -> Result<(), Memory>
         requires sound { IsSound self.old }
         ensures sound { IsSound self.new }
-        ensures moves { Moves (seen_of self.old) (seen_of self.new) }
+        ensures moves { MovesBy AreCalmSteps (seen_of self.old) (seen_of self.new) }
         ensures calm { OnOk result (IsCalm (seen_of self.new)) }
     {
         'moves: loop {
@@ -82,7 +82,7 @@ impl Body {
         requires sound { IsSound self.old }
         requires calm { AreCalmMoves events.now }
         ensures sound { IsSound self.new }
-        ensures moves { Moves (seen_of self.old) (seen_of self.new) }
+        ensures moves { MovesBy AreCalmSteps (seen_of self.old) (seen_of self.new) }
         ensures unrefused { IfOk result (λ moved. moved ≡ true → (seen_of self.old).refused ≡ None) }
         ensures less { IfOk result (λ moved. moved ≡ true → weight (standing (seen_of self.new)) < weight (standing (seen_of self.old))) }
         ensures none { IfOk result (λ moved. moved ≡ false → (self.new ≡ self.old) × AreDeclined events.now (seen_of self.old)) }

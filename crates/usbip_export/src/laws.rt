@@ -1,15 +1,19 @@
 //! What holds of the calls of a node. The functions do nothing, and their contracts are the laws.
 
-ghost use Rattle.std.specs.Prelude.{◌≡◌, ◌<◌, ℕ, List, [], take, drop, true};
+ghost use Rattle.std.specs.Prelude.{◌≡◌, ◌<◌, ◌++◌, ℕ, List, [], None, take, drop, true, false};
 ghost use Rattle.tmc_law.specs.declared.dev_event.DevEvent.{DevEvent};
+ghost use Rattle.tmc_device.specs.Seen.{is_closed};
 ghost use Rattle.usbip_export.specs.Events.{Drives, IsCalmMove};
 ghost use Rattle.usbip_export.specs.Seen.{Seen, begun, standing};
 ghost use Rattle.usbip_export.specs.TakenIn.{Moves};
-ghost use Rattle.usbip_export.specs.Serving.{Works};
+ghost use Rattle.usbip_export.specs.Steps.{AreArrivals, TakesEach};
+ghost use Rattle.usbip_export.specs.Serving.{Works, WorksBy};
 ghost use Rattle.usbip_export.specs.Laws.{Call, Chain, AnswersLawfully, all_bytes, all_sent};
 ghost use Rattle.usbip_export.specs.Work.{weight};
 
-use tmc_law::laws::packets_are_of_transfers;
+use tmc_law::laws::{
+    a_closed_run_ends_with_refused_bytes, packets_are_of_transfers, runs_take_in_messages,
+};
 
 /// Driving, calm moves and sending are work of a node, as feeding is, and the work of a list of calls is one: what was fed
 /// in all of them was taken in or is kept, and what was answered was sent or is pending. Of a node that began imported at
@@ -22,6 +26,19 @@ pub fn calls_join()
     ensures joins { (calls : List Call) (old new : Seen) → Chain old calls new → Works (all_bytes calls) (all_sent calls) old new }
     ensures lawful { (bytes sent : List ℕ) (node : Seen) → Works bytes sent (begun true) node → AnswersLawfully bytes sent node }
 {}
+
+/// Where arrivals were the only steps of an instrument, the bytes were messages in a row and a rest: each message was taken
+/// in by one step, and where behind them bytes were refused, that was the last step. Pieces that were fed one behind the
+/// other are one piece: what had to wait for memory is taken in later, by one step a message.
+pub fn each_message_is_one_step()
+    ensures each { (bytes : List ℕ) (old new : Seen) → old.imported ≡ true → is_closed (standing old).presence ≡ false
+        → WorksBy AreArrivals bytes [] old new → TakesEach bytes old new }
+    ensures joins { (a b : List ℕ) (old mid new : Seen) → mid.refused ≡ None → WorksBy AreArrivals a [] old mid
+        → WorksBy AreArrivals b [] mid new → WorksBy AreArrivals (a ++ b) [] old new }
+{
+    runs_take_in_messages();
+    a_closed_run_ends_with_refused_bytes();
+}
 
 /// Each calm move makes less what the instrument has left to do.
 pub fn calm_moves_end()

@@ -20,7 +20,7 @@ mod taking;
 mod tests;
 
 pub use fed::Fed;
-pub use laws::{calls_join, calm_moves_end};
+pub use laws::{calls_join, calm_moves_end, each_message_is_one_step};
 pub use node::Node;
 pub use serving::{ServeEnd, serve_link};
 pub use tmc_device::{DevEvent, Drove, Log, LogEntry};

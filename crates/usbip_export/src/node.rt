@@ -7,7 +7,8 @@ ghost use Rattle.usbip_export.specs.Events.{Drives, IsDeclined, IsDue, IsCalm};
 ghost use Rattle.usbip_export.specs.Seen.{begun, standing, IsCaughtUp};
 ghost use Rattle.usbip_export.specs.TakenIn.{Moves};
 ghost use Rattle.usbip_export.specs.Failing.{FailsAt};
-ghost use Rattle.usbip_export.specs.Serving.{Works};
+ghost use Rattle.usbip_export.specs.Serving.{Works, WorksBy};
+ghost use Rattle.usbip_export.specs.Steps.{AreArrivals, AreCalming, MovesBy};
 
 use crate::Fed;
 use crate::body::Body;
@@ -60,13 +61,15 @@ impl Node {
 
     /// Takes in what the client sent next, in a piece of any length.
     ///
-    /// Each message that is whole is taken in, and what it puts out is spelled behind what is pending. Where memory is
-    /// wanting for that, the piece is kept and the rest of it waits, until the next `feed` or [`calm`](Node::calm). A field
-    /// that has no accepted value is refused, a submit while 256 are pending at `Urb Pending 4`, and one whose number is
-    /// pending at `Urb Seqnum 4`. A refused node is closed: it keeps what it answered, and gives the same answer for good.
-    /// A node whose instrument is unplugged takes nothing more in, and answers `Ok`.
+    /// Each message that is whole is taken in by one step, and what it puts out is spelled behind what is pending; the
+    /// instrument makes no other step. Where memory is wanting for that, the piece is kept and the rest of it waits, until
+    /// the next `feed` or [`calm`](Node::calm). A field that has no accepted value is refused, a submit while 256 are
+    /// pending at `Urb Pending 4`, and one whose number is pending at `Urb Seqnum 4`. A refused node is closed: it keeps
+    /// what it answered, and gives the same answer for good. A node whose instrument is unplugged takes nothing more in,
+    /// and answers `Ok`.
     pub fn feed(&mut self, piece: &[u8]) -> Fed
         ensures works { result ≢ Fed.Memory → is_closed (standing self.old).presence ≡ false → Works piece.now [] self.old self.new }
+        ensures only { result ≢ Fed.Memory → is_closed (standing self.old).presence ≡ false → WorksBy AreArrivals piece.now [] self.old self.new }
         ensures shut { is_closed (standing self.old).presence ≡ true → self.new ≡ self.old }
         ensures refused { (f : field.Field) → result ≡ Fed.Refused f ↔ self.new.refused ≡ Some f }
         ensures cause { (f : field.Field) → result ≡ Fed.Refused f → self.old.refused ≡ None
@@ -80,7 +83,7 @@ impl Node {
 
     /// Takes in a piece, and tells what became of it.
     fn take_piece(&mut self, piece: &[u8]) -> Fed
-        ensures works { result ≢ Fed.Memory → is_closed (standing self.old).presence ≡ false → Works piece.now [] self.old self.new }
+        ensures works { result ≢ Fed.Memory → is_closed (standing self.old).presence ≡ false → WorksBy AreArrivals piece.now [] self.old self.new }
         ensures shut { is_closed (standing self.old).presence ≡ true → self.new ≡ self.old }
         ensures refused { (f : field.Field) → result ≡ Fed.Refused f ↔ self.new.refused ≡ Some f }
         ensures caught_up { result ≡ Fed.Ok → self.new.wanting ≡ false → is_closed (standing self.new).presence ≡ false → IsCaughtUp self.new }
@@ -121,6 +124,7 @@ impl Node {
     /// notifications. It ends on every state. Where memory is wanting it stops between two moves.
     pub fn calm(&mut self) -> Result<(), Memory>
         ensures moves { Moves self.old self.new }
+        ensures only { MovesBy AreCalming self.old self.new }
         ensures calm { OnOk result (IsCalm self.new) }
         ensures spelled { OnOk result (self.new.puts ≡ []) }
     {

@@ -4,7 +4,8 @@ ghost use Rattle.std.specs.Prelude.{◌≡◌, ◌≢◌, ◌↔◌, ◌⊎◌, 
 ghost use Rattle.tmc_base.specs.declared.field.Field as field;
 ghost use Rattle.tmc_base.specs.Faults.{Rose};
 ghost use Rattle.usbip_export.specs.Events.{IsCalm};
-ghost use Rattle.usbip_export.specs.Serving.{Works, Crosses, IsUnplugged, IsSentOff};
+ghost use Rattle.usbip_export.specs.Steps.{AreServing};
+ghost use Rattle.usbip_export.specs.Serving.{WorksBy, Crosses, IsUnplugged, IsSentOff};
 ghost use Rattle.usbip_export.specs.Ending.{Calls, IsGoing, Stops, Ends, Called};
 
 use crate::{Fed, Node};
@@ -30,7 +31,7 @@ const PIECE: usize = 4_096;
 
 /// Serves a client over a link, in at most `turns` calls on it.
 ///
-/// Before each call the node makes its calm moves. All answered bytes are sent before the link is polled. It ends at once
+/// Before each call the node makes its calm moves, and its instrument makes no others. All answered bytes are sent before the link is polled. It ends at once
 /// where the node refuses a field, where the link closes or fails, and where the instrument is unplugged and all was sent.
 pub fn serve_link<L: Link>(node: &mut Node, link: &mut L, turns: u64) -> ServeEnd
     ensures crosses { Crosses L.told (result ≢ ServeEnd.Memory) node.old link.old node.new link.new }
@@ -74,7 +75,7 @@ fn serve<L: Link>(node: &mut Node, link: &mut L, turns: u64) -> ServeEnd
 
 /// Lets the node make its calm moves, and tells what ends the serving before a further call.
 fn settle(node: &mut Node) -> Option<ServeEnd>
-    ensures works { Works [] [] node.old node.new }
+    ensures works { WorksBy AreServing [] [] node.old node.new }
     ensures settled { MatchOption result (IsGoing node.new) (λ ended. Stops ended node.new) }
     ensures unspent { result ≢ Some ServeEnd.Spent }
 {

@@ -5,7 +5,7 @@ ghost use Rattle.std.specs.Option.{is_some};
 ghost use Rattle.usbip_wire.specs.declared.up.Up.TheVariants as up;
 ghost use Rattle.usbip_wire.specs.declared.op_request.OpRequest.TheVariants.{DevList, Import};
 ghost use Rattle.usbip_export.specs.Identity.{busid};
-ghost use Rattle.usbip_export.specs.TakenIn.{Moves};
+ghost use Rattle.usbip_export.specs.Steps.{AreArrivals, MovesBy};
 ghost use Rattle.usbip_export.specs.Seen.{IsCaughtUp, standing};
 
 use crate::body::Body;
@@ -39,7 +39,7 @@ impl Body {
     pub(crate) fn take_in(&mut self) -> Result<(), Memory>
         requires sound { IsSound self.old }
         ensures sound { IsSound self.new }
-        ensures moves { Moves (seen_of self.old) (seen_of self.new) }
+        ensures moves { MovesBy AreArrivals (seen_of self.old) (seen_of self.new) }
         ensures caught_up { OnOk result (IsOpen self.new → IsCaughtUp (seen_of self.new)) }
         ensures spelled { OnOk result ((seen_of self.new).puts ≡ []) }
     {
@@ -53,7 +53,7 @@ impl Body {
     pub(crate) fn take_on(&mut self)
         requires sound { IsSound self.old }
         ensures sound { IsSound self.new }
-        ensures moves { Moves (seen_of self.old) (seen_of self.new) }
+        ensures moves { MovesBy AreArrivals (seen_of self.old) (seen_of self.new) }
         ensures caught_up { (seen_of self.new).wanting ≡ false → IsOpen self.new → IsCaughtUp (seen_of self.new) }
     {
         match self.take_in() {
@@ -127,7 +127,7 @@ impl Body {
         requires opened { IsOpen self.old }
         requires waits { is_some self.old.waiting ≡ true }
         ensures sound { IsSound self.new }
-        ensures moves { OnOk result (Moves (seen_of self.old) (seen_of self.new)) }
+        ensures moves { OnOk result (MovesBy AreArrivals (seen_of self.old) (seen_of self.new)) }
         ensures shorter { OnOk result (length (seen_of self.new).kept < length (seen_of self.old).kept) }
         ensures err { OnErr result (seen_of self.new ≡ seen_of self.old) }
     {
@@ -145,7 +145,7 @@ impl Body {
         requires opened { IsOpen self.old }
         requires waits { self.old.waiting ≡ Some (up.Op request) }
         ensures sound { IsSound self.new }
-        ensures moves { OnOk result (Moves (seen_of self.old) (seen_of self.new)) }
+        ensures moves { OnOk result (MovesBy AreArrivals (seen_of self.old) (seen_of self.new)) }
         ensures shorter { OnOk result (length (seen_of self.new).kept < length (seen_of self.old).kept) }
         ensures err { OnErr result (seen_of self.new ≡ seen_of self.old) }
     {
@@ -162,7 +162,7 @@ impl Body {
         requires opened { IsOpen self.old }
         requires waits { self.old.waiting ≡ Some (up.Op DevList) }
         ensures sound { IsSound self.new }
-        ensures moves { OnOk result (Moves (seen_of self.old) (seen_of self.new)) }
+        ensures moves { OnOk result (MovesBy AreArrivals (seen_of self.old) (seen_of self.new)) }
         ensures shorter { OnOk result (length (seen_of self.new).kept < length (seen_of self.old).kept) }
         ensures err { OnErr result (seen_of self.new ≡ seen_of self.old) }
     {
@@ -178,7 +178,7 @@ impl Body {
         requires opened { IsOpen self.old }
         requires waits { self.old.waiting ≡ Some (up.Op (Import busid)) }
         ensures sound { IsSound self.new }
-        ensures moves { OnOk result (Moves (seen_of self.old) (seen_of self.new)) }
+        ensures moves { OnOk result (MovesBy AreArrivals (seen_of self.old) (seen_of self.new)) }
         ensures shorter { OnOk result (length (seen_of self.new).kept < length (seen_of self.old).kept) }
         ensures err { OnErr result (seen_of self.new ≡ seen_of self.old) }
     {
@@ -199,7 +199,7 @@ impl Body {
         requires opened { IsOpen self.old }
         requires waits { self.old.waiting ≡ Some (up.Op (Import id)) }
         ensures sound { IsSound self.new }
-        ensures moves { OnOk result (Moves (seen_of self.old) (seen_of self.new)) }
+        ensures moves { OnOk result (MovesBy AreArrivals (seen_of self.old) (seen_of self.new)) }
         ensures shorter { OnOk result (length (seen_of self.new).kept < length (seen_of self.old).kept) }
         ensures err { OnErr result (seen_of self.new ≡ seen_of self.old) }
     {
@@ -214,7 +214,7 @@ impl Body {
         requires opened { IsOpen self.old }
         requires waits { self.old.waiting ≡ Some (up.Submit head) }
         ensures sound { IsSound self.new }
-        ensures moves { OnOk result (Moves (seen_of self.old) (seen_of self.new)) }
+        ensures moves { OnOk result (MovesBy AreArrivals (seen_of self.old) (seen_of self.new)) }
         ensures shorter { OnOk result (length (seen_of self.new).kept < length (seen_of self.old).kept) }
         ensures err { OnErr result (seen_of self.new ≡ seen_of self.old) }
     {
@@ -233,7 +233,7 @@ impl Body {
         requires opened { IsOpen self.old }
         requires waits { self.old.waiting ≡ Some (up.Unlink head) }
         ensures sound { IsSound self.new }
-        ensures moves { OnOk result (Moves (seen_of self.old) (seen_of self.new)) }
+        ensures moves { OnOk result (MovesBy AreArrivals (seen_of self.old) (seen_of self.new)) }
         ensures shorter { OnOk result (length (seen_of self.new).kept < length (seen_of self.old).kept) }
         ensures err { OnErr result (seen_of self.new ≡ seen_of self.old) }
     {

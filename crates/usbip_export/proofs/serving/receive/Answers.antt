@@ -7,7 +7,7 @@ use Rattle.usbip_export.proofs.serving.receive.Goals as goal
 pub returns-in-Ok-clause-called : goal.returns-in-Ok-clause-called
 returns-in-Ok-clause-called g c = record {
   crosses =
-      crosses_fed g.L.Link.told _ c.args.node.now c.feed.new.self _ _ _ c.in-Got.ensures.told (c.in-Ok.ensures.works (λ e. cc)) c.in-Ok.ensures.shut;
+      crosses_fed g.L.Link.told _ c.args.node.now c.feed.new.self _ _ _ c.in-Got.ensures.told (c.in-Ok.ensures.only (λ e. cc)) c.in-Ok.ensures.shut;
   came = (
     Got _ c.in-Got.n _ c.in-Got.ensures.within.0 c.in-Got.ensures.goes (same_counts _ _ c.in-Got.ensures.counts),
     fed_unrefused c.feed.new.self.refused c.in-Ok.ensures.refused,
@@ -17,7 +17,7 @@ returns-in-Ok-clause-called g c = record {
 pub returns-in-Refused-clause-called : goal.returns-in-Refused-clause-called
 returns-in-Refused-clause-called g c = record {
   crosses =
-      crosses_fed g.L.Link.told _ c.args.node.now c.feed.new.self _ _ _ c.in-Got.ensures.told (c.in-Refused.ensures.works (λ e. cc))
+      crosses_fed g.L.Link.told _ c.args.node.now c.feed.new.self _ _ _ c.in-Got.ensures.told (c.in-Refused.ensures.only (λ e. cc))
       c.in-Refused.ensures.shut;
   came = (
     Got _ c.in-Got.n _ c.in-Got.ensures.within.0 c.in-Got.ensures.goes (same_counts _ _ c.in-Got.ensures.counts),

@@ -1,14 +1,15 @@
 use Rattle.std.proofs.Common.{refl, sym, ap, ◌∙◌, Some, arith}
 use Rattle.usbip_export.specs.declared.serving.ServeEnd.TheVariants as end
+use Rattle.usbip_export.specs.Steps.{AreServing}
 use Rattle.usbip_export.specs.Ending.{none, more}
-use Rattle.usbip_export.proofs.Worked.{no_works}
+use Rattle.usbip_export.proofs.Worked.{nothing_by}
 use Rattle.usbip_export.proofs.Crossed.{crosses_alone, crosses_more, crosses_settled, crosses_for}
 use Rattle.usbip_export.proofs.Ended.{unlike_some, ends_at_once, ends_settled, ends_spent, ends_called}
 use Rattle.usbip_export.proofs.serving.serve.Goals as goal
 
 pub returns-in-Some-clause-crosses : goal.returns-in-Some-clause-crosses
 returns-in-Some-clause-crosses g c =
-    crosses_alone g.L.Link.told _ c.args.node.now c.args.node.now c.args.link.now (no_works c.args.node.now)
+    crosses_alone g.L.Link.told _ c.args.node.now c.args.node.now c.args.link.now (nothing_by AreServing tt c.args.node.now)
 
 pub returns-in-Some-clause-ends : goal.returns-in-Some-clause-ends
 returns-in-Some-clause-ends g c =
@@ -16,7 +17,7 @@ returns-in-Some-clause-ends g c =
 
 pub turns-init : goal.turns-init
 turns-init g c = record {
-  crosses = crosses_alone g.L.Link.told _ c.args.node.now c.args.node.now c.args.link.now (no_works c.args.node.now);
+  crosses = crosses_alone g.L.Link.told _ c.args.node.now c.args.node.now c.args.link.now (nothing_by AreServing tt c.args.node.now);
   calls = none;
   unrefused = sym c.in_default.ensures;
   piece = refl;

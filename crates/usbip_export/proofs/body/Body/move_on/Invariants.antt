@@ -1,5 +1,5 @@
 use Rattle.usbip_export.specs.Seen.{standing}
-use Rattle.usbip_export.specs.TakenIn.{Moves}
+use Rattle.usbip_export.specs.Steps.{AreCalmSteps, MovesBy}
 use Rattle.usbip_export.specs.Work.{weight}
 use Rattle.usbip_export.specs.Body.{seen_of, IsSound}
 use Rattle.usbip_export.proofs.body.Body.move_on.Given as goal
@@ -7,7 +7,7 @@ use Rattle.usbip_export.proofs.body.Body.move_on.Given as goal
 abbrev pub invariant-moves : goal.invariant-moves
 invariant-moves l = record {
   sound : IsSound l.self;
-  moves : Moves (seen_of l.fn.self) (seen_of l.self);
+  moves : MovesBy AreCalmSteps (seen_of l.fn.self) (seen_of l.self);
 }
 
 abbrev pub decreases-moves : goal.decreases-moves

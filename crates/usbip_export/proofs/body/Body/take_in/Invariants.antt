@@ -1,12 +1,12 @@
 use Rattle.std.proofs.Common.{length}
-use Rattle.usbip_export.specs.TakenIn.{Moves}
+use Rattle.usbip_export.specs.Steps.{AreArrivals, MovesBy}
 use Rattle.usbip_export.specs.Body.{seen_of, IsSound}
 use Rattle.usbip_export.proofs.body.Body.take_in.Given as goal
 
 abbrev pub invariant-messages : goal.invariant-messages
 invariant-messages l = record {
   sound : IsSound l.self;
-  moves : Moves (seen_of l.fn.self) (seen_of l.self);
+  moves : MovesBy AreArrivals (seen_of l.fn.self) (seen_of l.self);
 }
 
 abbrev pub decreases-messages : goal.decreases-messages
