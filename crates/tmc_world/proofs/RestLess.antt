@@ -52,6 +52,7 @@ goes_less s old new more is runs fits = by (ended new) refl where
       let b = runs_writes s new still in
       let c : next s.first new ≡ next s.first (more ++ old) = ap (next s.first) is in
       inl (omega (arith, a, b, c, less, fits))
+
   by : (over : Option End) → ended new ≡ over → GoesLess s old new
   by None still = on still (grows s more old)
   by (Some e) over =
@@ -81,15 +82,18 @@ pub up_less : Fits → (first depth most : ℕ) (old new : Worldly) → first < 
 up_less fits first depth most old new small goes =
     by (goes_less (setting_of first depth) old.past new.past goes.1.turns.more goes.1.turns.past goes.0.runs
     (fits (setting_of first depth) new.past small goes.1.turns.kept.lawful)) (up_goes (setting_of first depth) most old new goes) where
-  by : GoesLess (setting_of first depth) old.past new.past → Up (setting_of first depth) old new → UpLess (setting_of first depth) old new
-  by (inl less) went = inl less
-  by (inr (same, wrote, runs)) (Over (e, over)) = absurd (none (sym runs ∙ over)) where
-    none : {e : End} → None ≡ Some e → ⊥
-    none is = cc
-  by (inr (same, wrote, runs)) (Sent w) =
-      inr (same, shorter w.count (spelled (written (setting_of first depth) old.past)) old.link.sent (outbox (setting_of first depth) old)
-      (outbox (setting_of first depth) new) w.some refl goes.0.some
-      (ap₂ (λ (bytes : List ℕ) (all : List ℕ). drop (length bytes) all) w.sent (ap spelled wrote)))
+      by : GoesLess (setting_of first depth) old.past new.past → Up (setting_of first depth) old new → UpLess (setting_of first depth) old new
+      by (inl less) went = inl less
+      by (inr (same, wrote, runs)) (Over (e, over)) = absurd (none (sym runs ∙ over)) where
+        none : {e : End} → None ≡ Some e → ⊥
+        none is = cc
+      by (inr (same, wrote, runs)) (Sent w) =
+          inr (
+            same,
+            shorter w.count (spelled (written (setting_of first depth) old.past)) old.link.sent (outbox (setting_of first depth) old)
+                (outbox (setting_of first depth) new) w.some refl goes.0.some
+                (ap₂ (λ (bytes : List ℕ) (all : List ℕ). drop (length bytes) all) w.sent (ap spelled wrote)),
+          )
 
 -- ---- a move of bytes down
 
@@ -108,22 +112,24 @@ pub down_less : Fits → (first depth most : ℕ) (old new : Worldly) → first 
 down_less fits first depth most old new small unlate empty goes =
     by (goes_less (setting_of first depth) old.past new.past goes.1.turns.more goes.1.turns.past goes.0.runs
     (fits (setting_of first depth) new.past small goes.1.turns.kept.lawful)) where
-  went : WentDown old.link new.link (IsOver new.past)
-  went = down_goes (setting_of first depth) most old new empty unlate goes
-  fewer : ended new.past ≡ None → IsOver new.past ⊎ (length new.link.node.out < length old.link.node.out) → length new.link.node.out < length old.link.node.out
-  fewer runs (inl (e, over)) = absurd (none (sym runs ∙ over)) where
-    none : {e : End} → None ≡ Some e → ⊥
-    none is = cc
-  fewer runs (inr less) = less
-  by : GoesLess (setting_of first depth) old.past new.past → Down (setting_of first depth) old new
-  by (inl less) = record { less = inl less; went = went; writes = λ more. less }
-  by (inr (same, wrote, runs)) =
-      let box = same_box (setting_of first depth) old new went.sent wrote in
-      record {
-        less = inr (same, inr (ap length box, inr (ap weight went.stands, fewer runs went.less)));
-        went = went;
-        writes = λ more. absurd (more (box ∙ empty));
-      }
+      went : WentDown old.link new.link (IsOver new.past)
+      went = down_goes (setting_of first depth) most old new empty unlate goes
+
+      fewer : ended new.past ≡ None → IsOver new.past ⊎ (length new.link.node.out < length old.link.node.out) → length new.link.node.out < length old.link.node.out
+      fewer runs (inl (e, over)) = absurd (none (sym runs ∙ over)) where
+        none : {e : End} → None ≡ Some e → ⊥
+        none is = cc
+      fewer runs (inr less) = less
+
+      by : GoesLess (setting_of first depth) old.past new.past → Down (setting_of first depth) old new
+      by (inl less) = record { less = inl less; went = went; writes = λ more. less }
+      by (inr (same, wrote, runs)) =
+          let box = same_box (setting_of first depth) old new went.sent wrote in
+          record {
+            less = inr (same, inr (ap length box, inr (ap weight went.stands, fewer runs went.less)));
+            went = went;
+            writes = λ more. absurd (more (box ∙ empty));
+          }
 
 -- ---- a step of the instrument
 
@@ -159,6 +165,7 @@ pub moves_less : Lessens → Fits → (first depth : ℕ) (move : Event) (old ne
 moves_less lessens fits first depth move old new small unlate opened goes = by (which s move calm_moves crossings old opened) where
   s : Setting
   s = setting_of first depth
+
   behind : IsFirstOpen s move crossings old → IsLess (left_of s new) (left_of s old)
   behind (inl (is, may)) = as_less (up_less fits first depth all old new small (subst (λ (m : Event). Moves s m old new) is goes)) where
     as_less : UpLess s old new → IsLess (left_of s new) (left_of s old)
@@ -167,6 +174,7 @@ moves_less lessens fits first depth move old new small unlate opened goes = by (
   behind (inr (none, inl (is, may))) =
       (down_less fits first depth all old new small unlate (no_box s old may.runs none) (subst (λ (m : Event). Moves s m old new) is goes)).less
   behind (inr (none, inr (shut, never))) = absurd never
+
   by : Which s move calm_moves crossings old → IsLess (left_of s new) (left_of s old)
   by (Step does is it) =
       step_less lessens s does old new (calm_step s does calm_moves old are_calm (subst (λ (m : Event). IsFirstOpen s m (steps_of calm_moves) old) is it))
@@ -189,28 +197,28 @@ no_descent left less = strongly (λ n. ⊥) (λ n. (left n).writes) at where
   at : (n : ℕ) → ((m : ℕ) → (left m).writes < (left n).writes → ⊥) → ⊥
   at n fewer_writes =
       strongly (λ i. (left i).writes ≡ (left n).writes → ⊥) (λ i. (left i).unsent) unsent n refl where
-    unsent : (i : ℕ) → ((j : ℕ) → (left j).unsent < (left i).unsent → (left j).writes ≡ (left n).writes → ⊥) → (left i).writes ≡ (left n).writes → ⊥
-    unsent i fewer_unsent =
-        strongly (λ j. (left j).unsent ≡ (left i).unsent → (left j).writes ≡ (left n).writes → ⊥) (λ j. (left j).work) work i refl where
-      work : (j : ℕ) → ((k : ℕ) → (left k).work < (left j).work → (left k).unsent ≡ (left i).unsent → (left k).writes ≡ (left n).writes → ⊥)
-          → (left j).unsent ≡ (left i).unsent → (left j).writes ≡ (left n).writes → ⊥
-      work j less_work =
-          strongly (λ k. (left k).work ≡ (left j).work → (left k).unsent ≡ (left i).unsent → (left k).writes ≡ (left n).writes → ⊥)
-          (λ k. (left k).untaken) untaken j refl where
-        untaken : (k : ℕ) → ((l : ℕ) → (left l).untaken < (left k).untaken → (left l).work ≡ (left j).work → (left l).unsent ≡ (left i).unsent
-            → (left l).writes ≡ (left n).writes → ⊥)
-            → (left k).work ≡ (left j).work → (left k).unsent ≡ (left i).unsent → (left k).writes ≡ (left n).writes → ⊥
-        untaken k fewer_untaken a b c = next (less k) where
-          next : IsLess (left (suc k)) (left k) → ⊥
-          next (inl w) = fewer_writes (suc k) (subst (λ x. (left (suc k)).writes < x) c w)
-          next (inr (d, inl u)) = fewer_unsent (suc k) (subst (λ x. (left (suc k)).unsent < x) b u) (d ∙ c)
-          next (inr (d, inr (e, inl w))) = less_work (suc k) (subst (λ x. (left (suc k)).work < x) a w) (e ∙ b) (d ∙ c)
-          next (inr (d, inr (e, inr (f, t)))) = fewer_untaken (suc k) t (f ∙ a) (e ∙ b) (d ∙ c)
+        unsent : (i : ℕ) → ((j : ℕ) → (left j).unsent < (left i).unsent → (left j).writes ≡ (left n).writes → ⊥) → (left i).writes ≡ (left n).writes → ⊥
+        unsent i fewer_unsent =
+            strongly (λ j. (left j).unsent ≡ (left i).unsent → (left j).writes ≡ (left n).writes → ⊥) (λ j. (left j).work) work i refl where
+              work : (j : ℕ) → ((k : ℕ) → (left k).work < (left j).work → (left k).unsent ≡ (left i).unsent → (left k).writes ≡ (left n).writes → ⊥)
+                  → (left j).unsent ≡ (left i).unsent → (left j).writes ≡ (left n).writes → ⊥
+              work j less_work =
+                  strongly (λ k. (left k).work ≡ (left j).work → (left k).unsent ≡ (left i).unsent → (left k).writes ≡ (left n).writes → ⊥)
+                  (λ k. (left k).untaken) untaken j refl where
+                    untaken : (k : ℕ) → ((l : ℕ) → (left l).untaken < (left k).untaken → (left l).work ≡ (left j).work → (left l).unsent ≡ (left i).unsent
+                        → (left l).writes ≡ (left n).writes → ⊥)
+                        → (left k).work ≡ (left j).work → (left k).unsent ≡ (left i).unsent → (left k).writes ≡ (left n).writes → ⊥
+                    untaken k fewer_untaken a b c = next (less k) where
+                      next : IsLess (left (suc k)) (left k) → ⊥
+                      next (inl w) = fewer_writes (suc k) (subst (λ x. (left (suc k)).writes < x) c w)
+                      next (inr (d, inl u)) = fewer_unsent (suc k) (subst (λ x. (left (suc k)).unsent < x) b u) (d ∙ c)
+                      next (inr (d, inr (e, inl w))) = less_work (suc k) (subst (λ x. (left (suc k)).work < x) a w) (e ∙ b) (d ∙ c)
+                      next (inr (d, inr (e, inr (f, t)))) = fewer_untaken (suc k) t (f ∙ a) (e ∙ b) (d ∙ c)
 
 pub none_goes_on : Lessens → Fits → (first depth : ℕ) (worlds : ℕ → Worldly) → first < 2 ^ 32 → GoesOn (setting_of first depth) worlds → ⊥
 none_goes_on lessens fits first depth worlds small on =
     no_descent (λ n. left_of (setting_of first depth) (worlds n)) (λ n. by n (on n)) 0 where
-  by : (n : ℕ) → ((worlds n).link.late ≡ false) × (move : Event) × IsFirstOpen (setting_of first depth) move moves (worlds n)
-      × Moves (setting_of first depth) move (worlds n) (worlds (suc n))
-      → IsLess (left_of (setting_of first depth) (worlds (suc n))) (left_of (setting_of first depth) (worlds n))
-  by n (unlate, move, opened, goes) = moves_less lessens fits first depth move (worlds n) (worlds (suc n)) small unlate opened goes
+      by : (n : ℕ) → ((worlds n).link.late ≡ false) × (move : Event) × IsFirstOpen (setting_of first depth) move moves (worlds n)
+          × Moves (setting_of first depth) move (worlds n) (worlds (suc n))
+          → IsLess (left_of (setting_of first depth) (worlds (suc n))) (left_of (setting_of first depth) (worlds n))
+      by n (unlate, move, opened, goes) = moves_less lessens fits first depth move (worlds n) (worlds (suc n)) small unlate opened goes

@@ -102,18 +102,22 @@ pub calming_stops : (first depth : ℕ) (old : Worldly) (a b : HubParts Looped) 
     → WantsOne first depth (steps_of calm_moves) c.made.new b → HasStopped first depth old b
 calming_stops first depth old a b c unlate w =
     stopped first depth old a b c.made w.new
-    (inr (late_in first depth c.made.new a false c.made.behind unlate,
-    wants_in_front (MoveWants (setting_of first depth)) (setting_of first depth) (steps_of calm_moves) (up_moves ++ down_moves) c.made.new w.new w.wants)) w.behind
+    (inr (
+      late_in first depth c.made.new a false c.made.behind unlate,
+      wants_in_front (MoveWants (setting_of first depth)) (setting_of first depth) (steps_of calm_moves) (up_moves ++ down_moves) c.made.new w.new w.wants,
+    )) w.behind
 
 pub calmed_sends : (old new : HubParts Looped) (h : HasWorld old) → HasCalmed h.first h.depth h.world new → to_send new ≡ to_send old
 calmed_sends old new h c =
     sends_is h.first h.depth c.made.new new c.made.behind ∙ same ∙ sym (sends_is h.first h.depth h.world old h.behind) where
-  s : Setting
-  s = setting_of h.first h.depth
-  sends : (past : Past) (sent : List ℕ) → ℕ
-  sends past sent = writes_of s past * 4097 + length (outbox s (record { past = past; link = record h.world.link { sent = sent } }))
-  same : writes_of s c.made.new.past * 4097 + length (outbox s c.made.new) ≡ writes_of s h.world.past * 4097 + length (outbox s h.world)
-  same = ap (λ p. sends p c.made.new.link.sent) c.past ∙ ap (λ l. sends h.world.past l) c.sent
+      s : Setting
+      s = setting_of h.first h.depth
+
+      sends : (past : Past) (sent : List ℕ) → ℕ
+      sends past sent = writes_of s past * 4097 + length (outbox s (record { past = past; link = record h.world.link { sent = sent } }))
+
+      same : writes_of s c.made.new.past * 4097 + length (outbox s c.made.new) ≡ writes_of s h.world.past * 4097 + length (outbox s h.world)
+      same = ap (λ p. sends p c.made.new.link.sent) c.past ∙ ap (λ l. sends h.world.past l) c.sent
 
 -- ---- which moves are not enabled, by a world and by its hub
 
@@ -153,8 +157,11 @@ pub drained : (first depth : ℕ) (old : Worldly) (a b : HubParts Looped) (m : H
     → HasRested first depth old b
 drained first depth old a b m spent d = record {
   new = m.new;
-  goes = (m.made, comes_to_rest (setting_of first depth) m.made old m.new m.moved (late_in first depth m.new a false m.behind spent.unlate)
-      (none_of_both (setting_of first depth) (steps_of calm_moves ++ up_moves) down_moves m.new (none_but_down first depth m.new a m.behind spent) d.none));
+  goes = (
+    m.made,
+    comes_to_rest (setting_of first depth) m.made old m.new m.moved (late_in first depth m.new a false m.behind spent.unlate)
+        (none_of_both (setting_of first depth) (steps_of calm_moves ++ up_moves) down_moves m.new (none_but_down first depth m.new a m.behind spent) d.none),
+  );
   behind = d.behind;
 }
 
@@ -162,9 +169,11 @@ pub draining_stops : (first depth : ℕ) (old : Worldly) (a b : HubParts Looped)
     → HasStopped first depth old b
 draining_stops first depth old a b m spent w =
     stopped first depth old a b m w.new
-    (inr (late_in first depth m.new a false m.behind spent.unlate,
-    wants_behind (MoveWants (setting_of first depth)) (setting_of first depth) (steps_of calm_moves ++ up_moves) down_moves m.new w.new
-    (none_but_down first depth m.new a m.behind spent) w.wants)) w.behind
+    (inr (
+      late_in first depth m.new a false m.behind spent.unlate,
+      wants_behind (MoveWants (setting_of first depth)) (setting_of first depth) (steps_of calm_moves ++ up_moves) down_moves m.new w.new
+          (none_but_down first depth m.new a m.behind spent) w.wants,
+    )) w.behind
 
 -- behind bytes that were taken the hub is still spent, where nothing is to be sent
 pub still_spent : (old new : HubParts Looped) → IsSpent old → HasTaken old new → new.core.urbs.outbox ≡ [] → IsSpent new
@@ -186,8 +195,11 @@ pub rounds_up_stops : (first depth : ℕ) (old : Worldly) (a b : HubParts Looped
     → WantsOne first depth up_moves k.made.new b → HasStopped first depth old b
 rounds_up_stops first depth old a b k w =
     stopped first depth old a b k.made w.new
-    (inr (k.unlate, wants_behind (MoveWants (setting_of first depth)) (setting_of first depth) (steps_of calm_moves) (up_moves ++ down_moves) k.made.new w.new k.none
-    (wants_in_front (MoveWants (setting_of first depth)) (setting_of first depth) up_moves down_moves k.made.new w.new w.wants))) w.behind
+    (inr (
+      k.unlate,
+      wants_behind (MoveWants (setting_of first depth)) (setting_of first depth) (steps_of calm_moves) (up_moves ++ down_moves) k.made.new w.new k.none
+          (wants_in_front (MoveWants (setting_of first depth)) (setting_of first depth) up_moves down_moves k.made.new w.new w.wants),
+    )) w.behind
 
 pub rounds_rest : (first depth : ℕ) (old : Worldly) (a b : HubParts Looped) (m : HasMade first depth old a) → HasRested first depth m.new b
     → HasRested first depth old b
@@ -203,6 +215,7 @@ pub rounds_down : (first depth : ℕ) (old : Worldly) (a b c : HubParts Looped) 
 rounds_down first depth old a b c k result n drains = by result (drains n.behind) where
   m : HasMade first depth old b
   m = record { new = k.made.new; made = k.made.made; moved = k.made.moved; behind = n.behind }
+
   by : (r : Result Bool Memory) → Drains first depth k.made.new r c → Drains first depth old r c
   by (Ok true) d = made_on first depth old b c m d
   by (Ok false) d = rounds_rest first depth old b c m d
@@ -217,6 +230,7 @@ pub rounds_less : (old a b c : HubParts Looped) (h : HasWorld old) (k : HasCalme
 rounds_less old a b c h k result n less drains = by result drains (less drains) where
   calm : to_send b ≡ to_send old
   calm = same_sends h.first h.depth k.made.new b a n.behind k.made.behind ∙ calmed_sends old a h k
+
   by : (r : Result Bool Memory) → Drains h.first h.depth h.world r c → IfOk r (λ more. more ≡ true → to_write c < to_write b)
       → IfOk r (λ more. more ≡ true → to_send c < to_send old)
   by (Ok true) d f = λ is. let l = f refl in let s : length c.core.urbs.outbox ≤ 4096 = d.behind.behind.short in omega (arith, l, s, calm)

@@ -186,12 +186,16 @@ pub up_lighter : Fits → (old new : HubParts Looped) (h : HasWorld old) → Mak
 up_lighter fits old new h m = by (up_less fits h.first h.depth all h.world m.new h.numbered (went_up (setting_of h.first h.depth) m.move h.world m.new m.opened m.goes)) where
   s : Setting
   s = setting_of h.first h.depth
+
   a : to_send old ≡ writes_of s h.world.past * 4097 + length (outbox s h.world)
   a = sends_is h.first h.depth h.world old h.behind
+
   b : to_send new ≡ writes_of s m.new.past * 4097 + length (outbox s m.new)
   b = sends_is h.first h.depth m.new new m.behind
+
   c : length (outbox s m.new) ≤ 4096
   c = subst (λ (bytes : List ℕ). length bytes ≤ 4096) (outbox_is h.first h.depth m.new new m.behind) (few h.first h.depth m.new new m.behind)
+
   by : UpLess s h.world m.new → to_send new < to_send old
   by (inl less) = omega (arith, a, b, c, less)
   by (inr (same, less)) = omega (arith, a, b, same, less)
@@ -245,17 +249,23 @@ down_taken fits old new h spent m = record {
 } where
   s : Setting
   s = setting_of h.first h.depth
+
   goes : GoesDown s all h.world m.new
   goes = went_down s m.move h.world m.new m.opened m.goes
+
   runs : old.core.end ≡ None
   runs = h.behind.behind.rests.knows.over ∙ goes.0.runs
+
   d : Down s h.world m.new
   d = down_less fits h.first h.depth all h.world m.new h.numbered (ap (λ (l : Looped). l.late) (sym h.behind.link) ∙ spent.unlate)
       (sym (outbox_is h.first h.depth h.world old h.behind) ∙ spent.sent runs) goes
+
   was : to_write old ≡ writes_of s h.world.past
   was = writes_is h.first h.depth h.world old h.behind
+
   is : to_write new ≡ writes_of s m.new.past
   is = writes_is h.first h.depth m.new new m.behind
+
   over : IsOver m.new.past ⊎ (length m.new.link.node.out < length h.world.link.node.out)
       → ((e : End) × (new.core.end ≡ Some e)) ⊎ (length m.new.link.node.out < length h.world.link.node.out)
   over (inl (e, it)) = inl (e, m.behind.behind.rests.knows.over ∙ it)
@@ -293,8 +303,10 @@ pub next_lighter : (events : List DevEvent) (otherwise : DevEvent) (result : Res
 next_lighter events otherwise result old mid new h unlate l less = by result (less (ap (λ (x : Looped). x.late) same ∙ unlate)) where
   d : IsBehind h.first h.depth h.world mid
   d = (declined_behind h.first h.depth (slice_index_or events 0 otherwise) h.world mid (late_in h.first h.depth h.world old false h.behind unlate) l).1
+
   same : mid.link ≡ old.link
   same = d.link ∙ sym h.behind.link
+
   by : (r : Result Bool Memory) → IfOk r (λ moved. moved ≡ true → weight (standing new.link.node) < weight (standing mid.link.node))
       → IfOk r (λ moved. moved ≡ true → weight (standing new.link.node) < weight (standing old.link.node))
   by (Ok moved) f = λ is. subst (λ (x : Looped). weight (standing new.link.node) < weight (standing x.node)) same (f is)

@@ -122,9 +122,9 @@ up_goes s most old new (may, t) =
     made (goes_up s most old new (outbox s old) t.sent t.came t.turns.bytes t.turns.between t.turns.later may.number may.some t.sent_well t.came_well
     t.turns.sends t.turns.polls t.turns.link
     (λ failed. subst IsOver (sym t.turns.past) (over_by t.turns.more old.past end.LinkFault (t.turns.adds.failed.1 failed)))) where
-  made : IsOver new.past ⊎ ((count : ℕ) × (0 < count) × (new.link.sent ≡ old.link.sent ++ take count (outbox s old))) → Up s old new
-  made (inl over) = Over over
-  made (inr (n, some, is)) = Sent (record { count = n; some = some; sent = is })
+      made : IsOver new.past ⊎ ((count : ℕ) × (0 < count) × (new.link.sent ≡ old.link.sent ++ take count (outbox s old))) → Up s old new
+      made (inl over) = Over over
+      made (inr (n, some, is)) = Sent (record { count = n; some = some; sent = is })
 
 -- ---- a turn down
 
@@ -182,13 +182,13 @@ polled_down most poll.Idle bytes old later Ended number unlate some well fails c
   nothing is = omega (arith, number, is)
 polled_down most poll.Idle bytes old later Ended number unlate some well fails closes (inr p) =
     absurd (none (ready_is most old.late _ p.ready unlate p.begins.readies) some) where
-  none : p.ready ≡ record old { pace = Paced (record { send = 0; poll = most }) } → ((old.node.out ≢ []) ⊎ IsShut old.node) → ⊥
-  none is (inl more) = more (sym (ap (λ (x : Looped). x.node.out) is) ∙ p.ends.none)
-  none is (inr closed) = opened_shut (subst (λ (x : Looped). IsOpen x.node) is p.ends.opened) closed where
-    opened_shut : IsOpen old.node → IsShut old.node → ⊥
-    opened_shut a b = absurd (true_is_false (sym b ∙ a)) where
-      true_is_false : true ≡ false → ⊥
-      true_is_false e = cc
+      none : p.ready ≡ record old { pace = Paced (record { send = 0; poll = most }) } → ((old.node.out ≢ []) ⊎ IsShut old.node) → ⊥
+      none is (inl more) = more (sym (ap (λ (x : Looped). x.node.out) is) ∙ p.ends.none)
+      none is (inr closed) = opened_shut (subst (λ (x : Looped). IsOpen x.node) is p.ends.opened) closed where
+        opened_shut : IsOpen old.node → IsShut old.node → ⊥
+        opened_shut a b = absurd (true_is_false (sym b ∙ a)) where
+          true_is_false : true ≡ false → ⊥
+          true_is_false e = cc
 polled_down most poll.Closed bytes old later Ended number unlate some well fails closes p =
     let is = ready_is most old.late _ p.ready unlate p.begins.readies in
     let l = p.ends.is in

@@ -21,8 +21,7 @@ invariant_of-self c =
     (λ e over. (c.turn-turn.ensures.ended e over).1)
     c.tend-3.ensures.tends c.tend-3.ensures.core c.tend-4.ensures.tends c.tend-4.ensures.core
     (λ runs.
-        let t =
-
+    let t =
     turning_leads h.first h.depth c.args.send c.args.poll h.world c.self.inside.hub c.tend.new.self c.tend-2.new.self c.turn-turn.new.self c.tend-3.new.self c.tend-4.new.self
     c.tend.result c.tend-2.result c.tend-3.result c.tend-4.result c.turn-turn.result
     c.tend.ensures.tends c.tend.ensures.core c.tend.ensures.behind
@@ -30,4 +29,4 @@ invariant_of-self c =
     c.turn-turn.ensures.turns
     c.tend-3.ensures.tends c.tend-3.ensures.behind
     c.tend-4.ensures.tends c.tend-4.ensures.behind c.tend-2.ensures.holds c.turn-turn.ensures.holds h.behind runs in
-        record { first = h.first; numbered = h.numbered; depth = h.depth; world = t.new; behind = t.behind })
+    record { first = h.first; numbered = h.numbered; depth = h.depth; world = t.new; behind = t.behind })
