@@ -18,7 +18,3 @@ pub mod Passing
 pub mod Late
 pub mod Facts
 pub mod Keeping
-pub mod RestMoves
-pub mod RestTurns
-pub mod RestNumbers
-pub mod RestLess

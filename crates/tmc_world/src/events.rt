@@ -16,8 +16,8 @@ impl World {
     ///
     /// Where memory is wanting for an event other than a rest, nothing has changed, but that what waits for memory in the node may be
     /// taken in and spelled, and that a `down` may have counted that nothing was sent. An `up`, and a step of the instrument, want
-    /// memory also where they were made and their answers wait. A rest is to come: until then it wants memory.
-    pub(crate) fn apply(&mut self, event: &Event) -> Applied
+    /// memory also where they were made and their answers wait.
+    pub fn apply(&mut self, event: &Event) -> Applied
         ensures { (first depth : ℕ) (old : Worldly) → IsBehind first depth old self.old.hub → LeadsTo first depth event.now old result self.new.hub }
     {
         match event {
