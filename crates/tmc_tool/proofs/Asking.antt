@@ -1,6 +1,9 @@
 -- an ask of a fresh world
-use Rattle.std.proofs.Common.{◌≡◌, ℕ, ◌<◌, ◌≤◌, Bool, true, false, ltb, eqb, cond, List, [], ◌∷◌, length, Option, Some, None, refl, sym, ◌∙◌, subst, arith}
+use Rattle.std.proofs.Common.{◌≡◌, ℕ, zero, suc, ◌+◌, ◌<◌, ◌||◌, ◌≤◌, Bool, true, false, ltb, eqb, cond, List, [], ◌∷◌, length, Option, Some, None, refl, sym, ◌∙◌, subst, arith}
+use Rattle.std.proofs.Math.Dec.{eqb-suc-zero}
+use Rattle.std.proofs.lemmas.Bool.{le-ltb}
 use Rattle.host_hub.specs.declared.refusals.AskFault.{AskFault}
+use Rattle.host_hub.specs.declared.refusals.AskFault.TheVariants as fault
 use Rattle.host_hub.specs.Behind.{HubParts}
 use Rattle.host_hub.specs.Refusals.{ask_fault}
 use Rattle.event_text.specs.declared.answer.EventAnswer.{EventAnswer}
@@ -19,20 +22,18 @@ use Rattle.tmc_tool.specs.Going.{applied_as}
 use Rattle.tmc_tool.proofs.Going.{goes_as}
 
 not_zero : (n : ℕ) → 0 < n → eqb n 0 ≡ false
-not_zero n some = grind (arith, some)
+not_zero zero some = absurd (omega (arith, some))
+not_zero (suc n) some = eqb-suc-zero n
 
-not_below : (m n : ℕ) → n ≤ m → ltb m n ≡ false
-not_below m n few = grind (arith, few)
+none_of : (a b c d e : Bool) → a ≡ false → b ≡ false → c ≡ false → d ≡ false → e ≡ false
+    → cond a (Some fault.EmptyMessage) (cond b (Some fault.LongMessage) (cond (c || d) (Some fault.BadLimit) (cond e (Some fault.Full) None))) ≡ None
+none_of a b c d e p q r s t = rw (p, q, r, s, t) refl
 
 -- nothing is wrong with it
 no_fault : (limit : ℕ) (message : List ℕ) → IsLimit limit → IsAsked message → ask_fault (setting_of 1 1) [] (asking_of_ask 0 limit message) ≡ None
 no_fault limit message within asked =
-    let some : eqb (length message) 0 ≡ false = not_zero (length message) asked.some in
-    let short : ltb 4096 (length message) ≡ false = not_below 4096 (length message) asked.short in
-    let named : eqb limit 0 ≡ false = not_zero limit (omega (arith, within.0)) in
-    let most : ltb 65535 limit ≡ false = not_below 65535 limit within.1 in
-    let sum : ltb 268435456 (0 + limit) ≡ false = not_below 268435456 (0 + limit) (omega (arith, within.1)) in
-    rw (some, short, named, most, sum) refl
+    none_of _ _ _ _ _ (not_zero (length message) asked.some) (le-ltb 4096 (length message) asked.short) (not_zero limit (omega (arith, within.0)))
+    (le-ltb 65535 limit within.1) (le-ltb 268435456 (0 + limit) (omega (arith, within.1)))
 
 -- so it is the first ticket
 first_ticket : (limit : ℕ) (message : List ℕ) (said : Option EventAnswer) (new : Worldly) → IsLimit limit → IsAsked message

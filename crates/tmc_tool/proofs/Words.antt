@@ -1,5 +1,5 @@
 -- the words of a command name it alone
-use Rattle.std.proofs.Common.{◌≡◌, ◌⊎◌, inl, inr, ⊎_elim, ℕ, ◌<◌, ◌≤◌, List, [], ◌∷◌, length, Bool, true, false, map, get_or, Option, Some, None, refl, sym, ap, ◌∙◌, subst, arith, codes}
+use Rattle.std.proofs.Common.{◌≡◌, ⊎_elim, ℕ, ◌<◌, ◌≤◌, List, [], ◌∷◌, length, Bool, true, map, get_or, Some, refl, sym, ap, ◌∙◌, subst, arith}
 use Rattle.std.proofs.lemmas.Fmt.{decimal_injective}
 use Rattle.std.proofs.lemmas.Slice.Eq.{bytes_eq-Decides}
 use Rattle.std.specs.Str.{bytes_eq}
@@ -68,11 +68,6 @@ same_command words (Show way) (Show other) first then = ap Show (same_way way ot
 pub is_text : (word read text : List ℕ) (result : Bool) → read ≡ word → result ≡ bytes_eq read text → result ≡ true → word ≡ text
 is_text word read text result same test holds = sym same ∙ (bytes_eq-Decides read text).0 (sym test ∙ holds)
 
--- and it is not the text that it was found different from
-pub no_text : (word text : List ℕ) (result : Bool) → result ≡ bytes_eq word text → result ≡ false → word ≡ text → ⊥
-no_text word text result test differs same =
-    let holds : bytes_eq word text ≡ true = (bytes_eq-Decides word text).1 same in cc
-
 some_same : {x y : Command} → Some x ≡ Some y → x ≡ y
 some_same e = cc
 
@@ -81,11 +76,6 @@ pub named_alone : (words : List (List ℕ)) (named command : Command) → Names 
     → (Some named ≡ Some command → Names words command) × (Names words command → Some named ≡ Some command)
 named_alone words named command names =
     (λ some. subst (λ c. Names words c) (some_same some) names, λ other. ap Some (same_command words named command names other))
-
--- words that name no command
-pub named_none : (words : List (List ℕ)) (command : Command) → (Names words command → ⊥)
-    → ((None {A = Command}) ≡ Some command → Names words command) × (Names words command → None {A = Command} ≡ Some command)
-named_none words command none = (λ some. absurd (cc), λ names. absurd (none names))
 
 -- a limit that words name is one
 pub has_limit : (words : List (List ℕ)) (limit : ℕ) → Names words (Ask limit) → IsLimit limit

@@ -1,6 +1,6 @@
 //! What the words behind the program's name call for.
 
-ghost use Rattle.std.specs.Prelude.{◌≡◌, ◌↔◌, ◌∷◌, [], Some, MatchOption, map, string_bytes};
+ghost use Rattle.std.specs.Prelude.{◌≡◌, ◌↔◌, ◌∷◌, [], ℕ, Some, map, string_bytes};
 ghost use Rattle.std.specs.Fmt.{decimal};
 ghost use Rattle.usbip_wire.specs.declared.urb.Dir.{Dir};
 ghost use Rattle.tmc_tool.specs.declared.command.Command.{Command};

@@ -1,11 +1,10 @@
-use Rattle.std.proofs.Common.{◌+◌, ◌++◌, ◌∷◌, [], take, subst, sym, ap, ◌∙◌, add-one, arith}
+use Rattle.std.proofs.Common.{◌+◌, [], take, subst, sym, ap, ◌∙◌, add-one, arith}
 use Rattle.std.proofs.Math.Seq.{take-suc}
-use Rattle.std.proofs.lemmas.List.{take_all}
 use Rattle.tmc_tool.proofs.Going.{AllWent, all_none, all_on}
 use Rattle.tmc_tool.proofs.replay.apply_all.Goals as goal
 
 pub events-init : goal.events-init
-events-init c = subst (λ xs. AllWent [] xs c.args.world.now.hub c.args.world.now.hub) (sym c.in_ok-with_capacity-answers.ensures.items) (all_none c.args.world.now.hub)
+events-init c = subst (λ xs. AllWent [] xs c.args.world.now.hub c.args.world.now.hub) (sym c.in_ok-answers.ensures.items) (all_none c.args.world.now.hub)
 
 pub events-preserved : goal.events-preserved
 events-preserved c =

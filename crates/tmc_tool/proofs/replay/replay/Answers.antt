@@ -1,5 +1,12 @@
+use Rattle.std.proofs.lemmas.Result.{IfOk-weaker}
+use Rattle.tmc_world.specs.World.{begun}
 use Rattle.tmc_tool.proofs.Replaying.{replayed_so}
 use Rattle.tmc_tool.proofs.replay.replay.Goals as goal
 
 pub returns : goal.returns
-returns c = replayed_so c.args.script.now _ _ _ (c.in_ok-apply_all-answers.ensures _ _ _ c.in_ok-new-world.ensures.begun) (λ now behind. c.in_ok-report.ensures _ _ now c.requires behind)
+returns c =
+    let went = c.in_ok-answers.ensures c.args.script.now.first c.args.script.now.depth begun c.in_ok-world.ensures in
+    IfOk-weaker c.report.result _ _
+    (λ text tells. replayed_so c.args.script.now c.in_ok-answers.answers.items _ text (rw c.as_slice.ensures at went)
+    (λ now behind. rw c.deref.ensures.value at (tells c.args.script.now.first c.args.script.now.depth now c.requires behind)))
+    c.report.ensures
