@@ -43,7 +43,7 @@ stream_of ways.Down Urb = Answers
 
 -- the device that URB messages go to: bus 1, device 2
 abbrev pub devid : ℕ
-devid = 65538
+devid = 0x00010002
 
 -- these bytes are this message of the stream, where these are outstanding
 abbrev pub Spells : Stream → List Outstanding → Message → List ℕ → Type 0

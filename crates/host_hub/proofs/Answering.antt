@@ -34,7 +34,7 @@ use Rattle.host_hub.proofs.Entries.{Answers, answers_submit, as_submit, found_as
 use Rattle.host_hub.proofs.Heard.{all_gone, one_entry}
 use Rattle.host_hub.proofs.Lists.{and_false, first_has}
 use Rattle.host_hub.proofs.Numbers.{same_outstanding}
-use Rattle.host_hub.proofs.Plain.{Answered}
+use Rattle.host_hub.proofs.PlainAnswers.{Answered}
 use Rattle.host_hub.proofs.Taken.{none_left, one_found}
 
 -- ---- the one submit that is out is not early

@@ -308,6 +308,7 @@ pub enters_queued : (s : Setting) (past : Past) (sent : List ℕ) (a : Asking) (
 enters_queued s past sent a core r = record {
   more = Asked (tickets past + 1) a ∷ [];
   adds = record { own = []; by_itself = tt; is = refl };
+  plain = tt;
   rests = r;
 }
 
@@ -315,6 +316,7 @@ pub enters_begun : (s : Setting) (past : Past) (sent : List ℕ) (a : Asking) (c
 enters_begun s past sent a core g = record {
   more = g.more ++ Asked (tickets past + 1) a ∷ [];
   adds = record { own = g.more; by_itself = g.by_itself; is = refl };
+  plain = g.plain;
   rests = subst (λ (p : Past). Rests s p sent core) (sym (append_assoc g.more (Asked (tickets past + 1) a ∷ []) past)) g.rests;
 }
 

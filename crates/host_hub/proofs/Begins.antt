@@ -18,6 +18,7 @@ use Rattle.host_hub.specs.BookSeen.{BookSeen, Seen, ticket_of}
 use Rattle.host_hub.specs.Noted.{Noted, with_start}
 use Rattle.host_hub.specs.Order.{Order, Setting, message_of, size_of, is_unlink}
 use Rattle.host_hub.specs.Calls.{All, IsOwn}
+use Rattle.host_hub.specs.Joined.{IsPlain}
 use Rattle.host_hub.specs.Record.{Asking, Happening, Past, Wrote, Of, Settled, Stopped, next}
 use Rattle.host_hub.specs.Crossings.{crossings}
 use Rattle.host_hub.specs.Hand.{is_begun, is_of}
@@ -198,23 +199,25 @@ begins_rests s past sent core seen u b q n r few found puts ends size starts =
 pub record More (e : End) (ts : List ℕ) (past : Past) : Type 0 where
   pub more : Past
   pub own_all : All IsOwn more
+  pub plain_all : All IsPlain more
   pub same : settle_all e ts past ≡ more ++ past
 
-own_added : (past : Past) (x : Happening) → All IsOwn past → IsOwn x → All IsOwn (past ++ x ∷ [])
-own_added [] x h i = (i, tt)
-own_added (y ∷ ys) x h i = (h.0, own_added ys x h.1 i)
+pub one_added : (Is : Happening → Type 0) (past : Past) (x : Happening) → All Is past → Is x → All Is (past ++ x ∷ [])
+one_added Is [] x h i = (i, tt)
+one_added Is (y ∷ ys) x h i = (h.0, one_added Is ys x h.1 i)
 
 pub all_more : (e : End) (ts : List ℕ) (past : Past) → More e ts past
-all_more e [] past = record { more = []; own_all = tt; same = refl }
+all_more e [] past = record { more = []; own_all = tt; plain_all = tt; same = refl }
 all_more e (t ∷ ts) past =
     let a : More e ts (Settled t (named e) ∷ past) = all_more e ts (Settled t (named e) ∷ past) in
     record {
       more = a.more ++ Settled t (named e) ∷ [];
-      own_all = own_added a.more (Settled t (named e)) a.own_all tt;
+      own_all = one_added IsOwn a.more (Settled t (named e)) a.own_all tt;
+      plain_all = one_added IsPlain a.more (Settled t (named e)) a.plain_all tt;
       same = a.same ∙ sym (append_assoc a.more (Settled t (named e) ∷ []) past);
     }
 
-none_end : {P : Type 0} (e : End) → Some e ≡ None → P
+pub none_end : {P : Type 0} (e : End) → Some e ≡ None → P
 none_end e h = absurd (no h)
   where
     no : Some e ≡ None → ⊥
@@ -230,7 +233,8 @@ stopped_goes s past sent core e mine is k kept =
     let same : settle_all e (live past) (Stopped e ∷ past) ≡ (a.more ++ Stopped e ∷ []) ++ past = a.same ∙ sym (append_assoc a.more (Stopped e ∷ []) past) in
     record {
       more = a.more ++ Stopped e ∷ [];
-      by_itself = own_added a.more (Stopped e) a.own_all mine;
+      by_itself = one_added IsOwn a.more (Stopped e) a.own_all mine;
+      plain = one_added IsPlain a.more (Stopped e) a.plain_all tt;
       rests = subst (λ (p : Past). Rests s p sent core) same (ended_rests s (settle_all e (live past) (Stopped e ∷ past)) sent core e is k kept);
     }
 
@@ -310,6 +314,7 @@ begins_goes s past sent core new n r few puts ends size rest starts =
     record {
       more = Wrote (next s.first past) (Of core.active) (part_of (next_tag past) 0 at.0.message) ∷ [];
       by_itself = (tt, tt);
+      plain = (tt, tt);
       rests = subst (λ (h : HubCore). Rests s (wrote s past core.active (part_of (next_tag past) 0 at.0.message)) sent (record h { notes = n })) (sym rest)
           (rw tag (begins_rests s past sent core at.0 new.urbs new.book new.asked n r few at.1
           (subst (λ (k : ℕ). Puts s (part_of k 0 at.0.message) core.urbs new.urbs) tag (puts s r.knows.device r.knows.interface at.0 at.1))

@@ -14,7 +14,8 @@ use Rattle.host_hub.specs.declared.outcome.End.TheVariants as end
 use Rattle.host_hub.specs.declared.answers.Turn.{Turn}
 use Rattle.host_hub.specs.declared.answers.Turn.TheVariants as turn
 use Rattle.host_hub.specs.Behind.{Account}
-use Rattle.host_hub.specs.HubCalls.{EndsPoll, EndsSend, IsAnswer, IsIdleSend, KeepsPoll, KeepsSend, KeepsTurn, PollsOnce, SendsOn, SendsOnce, TurnsOn, WithinSend, came_count, said_by, said_of, sent_count}
+use Rattle.host_hub.specs.HubCalls.{EndsPoll, EndsSend, IsAnswer, IsIdleSend, KeepsTurn, PollsOnce, SendsOnce, TurnsOn, came_count, said_by, said_of, sent_count}
+use Rattle.host_hub.specs.LinkCalls.{KeepsPoll, KeepsSend, SendsOn, WithinSend}
 use Rattle.host_hub.specs.Order.{Setting}
 use Rattle.host_hub.specs.Record.{Past}
 use Rattle.host_hub.specs.Tied.{Failed}

@@ -43,7 +43,7 @@ pub stands_so : (s : Setting) (past : Past) (sent : List ℕ) (core : HubCore) �
 stands_so s past sent core k = k.follows.stands ∙ (all_spelled (urbs.written (crossings s past)) ∙ ap spelled (sym (written_same s past)))
 
 -- where the outbox is empty all of them were
-all_sent : (s : Setting) (past : Past) (sent : List ℕ) (count : ℕ) → AreSent s past sent count → length sent ≡ length (spelled (written s past)) → count ≡ length (written s past)
+pub all_sent : (s : Setting) (past : Past) (sent : List ℕ) (count : ℕ) → AreSent s past sent count → length sent ≡ length (spelled (written s past)) → count ≡ length (written s past)
 all_sent s past sent count a e = by (drop count (written s past)) refl
   where
     by : (left : List up.Message) → drop count (written s past) ≡ left → count ≡ length (written s past)

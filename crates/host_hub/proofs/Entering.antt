@@ -18,7 +18,8 @@ use Rattle.host_hub.specs.Order.{Setting}
 use Rattle.host_hub.specs.Record.{Asking, Past}
 use Rattle.host_hub.specs.Refusals.{has_message}
 use Rattle.host_hub.specs.Stands.{IsGivenUp, Rests}
-use Rattle.host_hub.proofs.Accounts.{account_entered, account_roomier, ask_limits, giving_limits, plain_ask, plain_giving, quiet_ask, quiet_giving}
+use Rattle.host_hub.proofs.AccountAdds.{ask_limits, giving_limits, plain_ask, plain_giving, quiet_ask, quiet_giving}
+use Rattle.host_hub.proofs.Accounts.{account_entered, account_roomier}
 use Rattle.host_hub.proofs.Asks.{unrefused}
 use Rattle.host_hub.proofs.Undisturbing.{Joins}
 
@@ -33,7 +34,7 @@ account_asked laws start now counts s past sent received asking (Ok ticket) core
       record {
         more = e.more;
         adds = e.adds;
-        account = account_entered laws start now counts s past e.more sent received core new a u.running (quiet_ask past asking e.more e.adds) (plain_ask past asking e.more u.proper e.adds) e.rests
+        account = account_entered laws start now counts s past e.more sent received core new a u.running (quiet_ask past asking e.more e.adds) (plain_ask past asking e.more u.proper e.adds e.plain) e.rests
             (subst (λ (n : ℕ). n ≤ LIMITS_MAX) (sym (ask_limits past asking e.more e.adds)) u.sum) same short;
       },
     )

@@ -19,14 +19,14 @@ use Rattle.host_hub.specs.Book.{KeepsBook, active, live, or_else}
 use Rattle.host_hub.specs.Pieces.{Piece, answered, answered_for, data_in, got, least, pieces, read_by, shut_at}
 use Rattle.host_hub.specs.Made.{made_at, served, stalled, standing}
 use Rattle.host_hub.specs.Ends.{end_due, ends_by, fault_end}
-use Rattle.host_hub.specs.Joined.{IsPlainOrder}
+use Rattle.host_hub.specs.Joined.{IsPlain, IsPlainOrder}
 use Rattle.host_hub.specs.Law.{Lawful}
 use Rattle.host_hub.specs.Steps.{Comes, settle_all, took}
 use Rattle.host_hub.specs.Knows.{HasActive, HasBook, Knows}
 use Rattle.host_hub.specs.Stands.{IsIdle, IsOut, Rests, Stands}
 use Rattle.host_hub.specs.Hears.{GoesByAnswer, Hears, HearsOut, IsBehind, endpoint_out, failed_as}
 use Rattle.host_hub.proofs.Answering.{HeardOut, answered_out, ends_failed, ends_gone, heard_out, hears_out, plain_submit}
-use Rattle.host_hub.proofs.Plain.{Answered}
+use Rattle.host_hub.proofs.PlainAnswers.{Answered}
 use Rattle.host_hub.proofs.Lawful.{lawful_book}
 use Rattle.host_hub.proofs.Begins.{ended_rests, none_entries}
 use Rattle.host_hub.proofs.Failing.{failed_kept}
@@ -245,6 +245,8 @@ module _ (core : HubCore) (head : RetSubmitHead) (failed : head.status ≢ pos 0
             more = (a.more ++ Stopped e ∷ []) ++ Settled core.active (failed_as core.ends core.phase head.status) ∷ [];
             behind = all_added IsBehind (a.more ++ Stopped e ∷ []) (Settled core.active (failed_as core.ends core.phase head.status))
                 (all_added IsBehind a.more (Stopped e) (settling_all IsBehind (λ t o. tt) a.more a.settling) tt) tt;
+            plain = all_added IsPlain (a.more ++ Stopped e ∷ []) (Settled core.active (failed_as core.ends core.phase head.status))
+                (all_added IsPlain a.more (Stopped e) (settling_all IsPlain (λ t o. tt) a.more a.settling) tt) tt;
             rests = subst (λ (p : Past). Rests s p all new)
                 (a.same ∙ (sym (append_assoc a.more (Stopped e ∷ []) settled_past)
                 ∙ sym (append_assoc (a.more ++ Stopped e ∷ []) (Settled core.active (failed_as core.ends core.phase head.status) ∷ []) (took past head bytes))))

@@ -22,9 +22,10 @@ use Rattle.host_hub.specs.Shown.{ShowsTicket}
 use Rattle.host_hub.specs.Steps.{settle_all}
 use Rattle.host_hub.specs.Knows.{Knows}
 use Rattle.host_hub.specs.Stands.{Rests}
+use Rattle.host_hub.specs.Joined.{IsPlain}
 use Rattle.host_hub.specs.Hears.{GoesByAnswer, IsBehind}
 use Rattle.host_hub.proofs.Endings.{fell_kept}
-use Rattle.host_hub.proofs.Begins.{ended_rests}
+use Rattle.host_hub.proofs.Begins.{ended_rests, none_end}
 use Rattle.host_hub.proofs.Taken.{taken_more}
 
 shown_fell : (past : Past) (m : down.Message) (e : End) (u : ℕ) (one : Seen) → ShowsTicket past u one → ShowsTicket (Fell m e ∷ past) u one
@@ -114,6 +115,20 @@ settling_stopped (Cancelled t ∷ more) past h = absurd h.0
 settling_stopped (Cleared w ∷ more) past h = absurd h.0
 settling_stopped (GaveUp ∷ more) past h = absurd h.0
 
+-- a hub that runs did not end
+pub not_stopped_yet : (past : Past) → ended past ≡ None → stopped past ≡ None
+not_stopped_yet [] e = refl
+not_stopped_yet (Stopped g ∷ past) e = none_end g e
+not_stopped_yet (Fell m g ∷ past) e = none_end g e
+not_stopped_yet (Wrote n o k ∷ past) e = not_stopped_yet past e
+not_stopped_yet (Took m ∷ past) e = not_stopped_yet past e
+not_stopped_yet (Recovers ∷ past) e = not_stopped_yet past e
+not_stopped_yet (Asked t a ∷ past) e = not_stopped_yet past e
+not_stopped_yet (Cancelled t ∷ past) e = not_stopped_yet past e
+not_stopped_yet (Cleared w ∷ past) e = not_stopped_yet past e
+not_stopped_yet (GaveUp ∷ past) e = not_stopped_yet past e
+not_stopped_yet (Settled t o ∷ past) e = not_stopped_yet past e
+
 pub fell_goes : (s : Setting) (past : Past) (all : List ℕ) (new : HubCore) (m : down.Message) (e : End) → Kept s past → ended past ≡ None → MayTake (crossings s past) m
     → ends_by s past m ≡ Some e → new.end ≡ Some e → Knows s (settle_all e (live past) (Fell m e ∷ past)) all new → GoesByAnswer s past all m new
 fell_goes s past all new m e kept running may ends is k =
@@ -123,6 +138,7 @@ fell_goes s past all new m e kept running may ends is k =
       takes = refl;
       more = a.more;
       behind = settling_all IsBehind (λ t o. tt) a.more a.settling;
+      plain = settling_all IsPlain (λ t o. tt) a.more a.settling;
       rests = subst (λ (p : Past). Rests s p all new) a.same
           (ended_rests s (settle_all e (live past) (Fell m e ∷ past)) all new e is k (fell_kept s past m e kept running may ends));
     }

@@ -40,13 +40,16 @@ use Rattle.host_hub.specs.Record.{Asked, Cancelled, Cleared, Fell, GaveUp, Happe
 use Rattle.host_hub.specs.Shown.{ShowsTicket}
 use Rattle.host_hub.specs.Tied.{AreSent, IsRefused, below, bytes_of, entries_sent, spelled, stopped}
 use Rattle.host_hub.specs.Undisturbed.{AllOwned, IsFaultless, IsJoinedTo, Undisturbed}
-use Rattle.host_hub.proofs.Accounts.{next_counts, stands_spelled}
+use Rattle.host_hub.proofs.Accounts.{next_counts}
+use Rattle.host_hub.proofs.Counts.{all_sent, stands_so}
 use Rattle.host_hub.proofs.InHand.{is_submit}
-use Rattle.host_hub.proofs.Joining.{entries_same, ran_running}
+use Rattle.host_hub.proofs.JoiningWrites.{ran_running}
+use Rattle.host_hub.proofs.JoiningAnswers.{entries_same}
 use Rattle.host_hub.proofs.Messages.{next_same}
 use Rattle.host_hub.proofs.Numbers.{Below, below_up, entry_number, outstanding_falls, same_outstanding}
 use Rattle.host_hub.proofs.Owns.{ran_as}
-use Rattle.host_hub.proofs.Plain.{NoneOut, OneOut, Out, stands}
+use Rattle.host_hub.proofs.Plain.{NoneOut, OneOut, Out}
+use Rattle.host_hub.proofs.PlainStands.{stands}
 use Rattle.host_hub.proofs.Sound.{book_ok, caused, recovered, traffic, unlinked, waiting}
 use Rattle.host_hub.proofs.Undisturbing.{cut_front, spelled_join}
 
@@ -163,22 +166,6 @@ all_entries s past h (OneOut t n k p e hand lives l) same =
 no_cons : {A P : Type 0} (x : A) (xs : List A) → x ∷ xs ≡ [] → P
 no_cons x xs e = cc
 
-all_count : (s : Setting) (past : Past) (sent : List ℕ) (count : ℕ) → AreSent s past sent count → sent ≡ spelled (written s past) → count ≡ length (written s past)
-all_count s past sent count a e = by (drop count (written s past)) refl
-  where
-    ms : List up.Message
-    ms = written s past
-
-    behind : a.part ≡ spelled (drop count ms)
-    behind = cut_front (spelled (take count ms)) a.part (spelled (drop count ms))
-        (sym a.sent_so_far ∙ e ∙ ap spelled (sym (take-append-drop count ms)) ∙ spelled_join (take count ms) (drop count ms))
-
-    by : (left : List up.Message) → drop count ms ≡ left → count ≡ length ms
-    by [] f = let g : length ms - count ≡ 0 = sym (length-drop count ms) ∙ ap length f in omega (arith, g, a.among)
-    by (m ∷ more) f =
-        let long : length a.part ≡ length (bytes_of m) + length (spelled more) = ap length (behind ∙ ap spelled f) ∙ length-append (bytes_of m) (spelled more) in
-        absurd (let short = a.next m more f in omega (arith, long, short))
-
 abbrev AllLess : ℕ → List Awaited → Type 0
 AllLess n [] = Unit {0}
 AllLess n (x ∷ xs) = (number_of x < n) × AllLess n xs
@@ -238,7 +225,7 @@ module _ (says : Says) (s : Setting) (past : Past) (sent : List ℕ) (core : Hub
       by [] e = none_bad_nothing (entries_sent s past a.count) f (subst (λ (l : List ℕ). BadAt Urbs (entries_sent s past a.count) l f) e bad)
       by (x ∷ rest) e =
           let empty = nothing_left (λ g. no_cons x rest (sym e ∙ g)) in
-          let counted = all_count s past sent a.count a.whole (sym (append-nil sent) ∙ ap (λ (l : List ℕ). sent ++ l) (sym empty) ∙ stands_spelled s past sent core a.rests) in
+          let counted = all_sent s past sent a.count a.whole (ap length (sym (append-nil sent) ∙ ap (λ (l : List ℕ). sent ++ l) (sym empty) ∙ stands_so s past sent core a.rests.knows)) in
           let numbers : next s.first past ≡ s.first + a.count = next_counts s past ∙ ap (λ (n : ℕ). s.first + n) (sym counted) in
           let less : AllLess (s.first + a.count) (urbs.outstanding (crossings s past)) =
           subst (λ (xs : List Awaited). AllLess (s.first + a.count) xs) (same_outstanding s past h)

@@ -44,10 +44,14 @@ use Rattle.host_hub.specs.Tied.{bytes_of, spelled}
 use Rattle.host_hub.proofs.Answering.{ends_fine}
 use Rattle.host_hub.proofs.Assembled.{faultless}
 use Rattle.host_hub.proofs.InHand.{head_of, is_submit, reads_is}
-use Rattle.host_hub.proofs.Joining.{Expected, Laws, Reading, bytes_in, entries_same, expected, extended_full, extended_short, is_read_of, joined_asked, joined_given, joined_settles, joined_stopped, joined_took, joined_wrote, joint_now, next_answer, not_read_of, reading, unlink_never}
+use Rattle.host_hub.proofs.JoiningWrites.{Laws, joined_wrote, joint_now}
+use Rattle.host_hub.proofs.JoiningAnswers.{Expected, Reading, bytes_in, entries_same, expected, extended_full, extended_short, is_read_of, joined_took, next_answer, not_read_of, reading, unlink_never}
+use Rattle.host_hub.proofs.Joining.{joined_asked, joined_given, joined_settles, joined_stopped}
 use Rattle.host_hub.proofs.Lists.{clash}
 use Rattle.host_hub.proofs.Numbers.{same_outstanding}
-use Rattle.host_hub.proofs.Plain.{Answered, InHand, NoneOut, OneOut, Out, Stands, answered_one, stands}
+use Rattle.host_hub.proofs.Plain.{InHand, NoneOut, OneOut, Out, Stands}
+use Rattle.host_hub.proofs.PlainAnswers.{Answered, answered_one}
+use Rattle.host_hub.proofs.PlainStands.{stands}
 use Rattle.host_hub.proofs.Tying.{spelled_more}
 
 -- what host_joint says of pieces

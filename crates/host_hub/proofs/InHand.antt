@@ -29,7 +29,8 @@ use Rattle.host_hub.specs.Pieces.{Piece, data_in, opened, pieces, requested}
 use Rattle.host_hub.specs.Plan.{message_end, next_tag, part_of, parts}
 use Rattle.host_hub.proofs.Lists.{clash, same}
 use Rattle.host_hub.proofs.Pasts.{begun_active, hand_begun}
-use Rattle.host_hub.proofs.Plain.{BeginsWith, GoesOnWith, Move, ReadsWith, RequestsFirst, RequestsNext, end_unbegun, end_wrote, parts_unbegun, parts_wrote, pieces_wrote}
+use Rattle.host_hub.proofs.Plain.{BeginsWith, GoesOnWith, Move, ReadsWith, RequestsFirst, RequestsNext}
+use Rattle.host_hub.proofs.PlainWrites.{end_unbegun, end_wrote, parts_unbegun, parts_wrote, pieces_wrote}
 use Rattle.host_hub.proofs.Within.{never_passes, none_unbegun}
 
 -- ---- what is in hand, by how far the ticket has come

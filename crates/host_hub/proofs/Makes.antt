@@ -25,6 +25,7 @@ use Rattle.host_hub.specs.Hand.{ended}
 use Rattle.host_hub.specs.Outstanding.{Sent, find, outstanding}
 use Rattle.host_hub.specs.Book.{active, asking_of, has, live, or_else, remove}
 use Rattle.host_hub.specs.Calls.{All, IsOwn}
+use Rattle.host_hub.specs.Joined.{IsPlain}
 use Rattle.host_hub.specs.Pieces.{Piece, data_in, got, pieces}
 use Rattle.host_hub.specs.Made.{Standing, made_at, served, stalled, standing}
 use Rattle.host_hub.specs.Needs.{overs, owed, split_at}
@@ -41,12 +42,12 @@ use Rattle.host_hub.specs.Stands.{GoesTo, IsInMessage, IsOut, Rests, Stands}
 use Rattle.host_hub.specs.Writes.{Done, GoesOn, PartIsNext, RequestIsNext}
 use Rattle.host_hub.specs.Hears.{GoesByAnswer, Hears, HearsOut, IsBehind, OfItself, TicketEnds}
 use Rattle.host_hub.proofs.Answering.{HeardOut, answered_out, ends_fine, heard_out, hears_out}
-use Rattle.host_hub.proofs.Plain.{Answered, pieces_out, pieces_took}
+use Rattle.host_hub.proofs.PlainAnswers.{Answered, pieces_out, pieces_took}
 use Rattle.host_hub.proofs.Clean.{clean_answers, clean_recovered, clean_settles}
 use Rattle.host_hub.proofs.Lawful.{lawful_book}
 use Rattle.host_hub.proofs.Parts.{same_asking}
 use Rattle.host_hub.proofs.Knowing.{known_ticket, seen_there}
-use Rattle.host_hub.proofs.Begins.{asking_seen}
+use Rattle.host_hub.proofs.Begins.{asking_seen, one_added}
 use Rattle.host_hub.proofs.Lists.{clash}
 use Rattle.host_hub.proofs.Stepping.{answer_settles, made_of, no_unlinks_settled}
 use Rattle.host_hub.proofs.Taken.{none_left, out_comes, out_goes_on}
@@ -55,8 +56,8 @@ use Rattle.host_hub.proofs.Taken.{none_left, out_comes, out_goes_on}
 
 pub behind_own : (more : Past) → All IsOwn more → All IsBehind more
 behind_own [] h = tt
-behind_own (Wrote n o k ∷ more) h = (h.0, behind_own more h.1)
-behind_own (Recovers ∷ more) h = absurd h.0
+behind_own (Wrote n o k ∷ more) h = (tt, behind_own more h.1)
+behind_own (Recovers ∷ more) h = (tt, behind_own more h.1)
 behind_own (Settled t o ∷ more) h = (tt, behind_own more h.1)
 behind_own (Stopped e ∷ more) h = (subst OfItself (sym h.0) tt, behind_own more h.1)
 behind_own (Took m ∷ more) h = absurd h.0
@@ -73,6 +74,7 @@ goes_behind s past all head bytes new g = record {
   takes = refl;
   more = g.more;
   behind = behind_own g.more g.by_itself;
+  plain = g.plain;
   rests = g.rests;
 }
 
@@ -81,14 +83,11 @@ goes_behind s past all head bytes new g = record {
 pub ends_active : (s : Setting) (past : Past) (all : List ℕ) (core : HubCore) (o : Outcome) → TicketEnds s past all core o → HasActive core
 ends_active s past all core o e = record { setting = s; past = past; sent = all; knows = e.knows; keeps = lawful_book s past e.working.lawful.0; turn = e.turn }
 
-added_own : (more : Past) (x : Happening) → All IsOwn more → IsOwn x → All IsOwn (more ++ x ∷ [])
-added_own [] x h i = (i, tt)
-added_own (y ∷ ys) x h i = (h.0, added_own ys x h.1 i)
-
 pub goes_settled : (s : Setting) (past : Past) (all : List ℕ) (new : HubCore) (t : ℕ) (o : Outcome) → GoesTo s (Settled t o ∷ past) all new → GoesTo s past all new
 goes_settled s past all new t o g = record {
   more = g.more ++ Settled t o ∷ [];
-  by_itself = added_own g.more (Settled t o) g.by_itself tt;
+  by_itself = one_added IsOwn g.more (Settled t o) g.by_itself tt;
+  plain = one_added IsPlain g.more (Settled t o) g.plain tt;
   rests = subst (λ (p : Past). Rests s p all new) (sym (append_assoc g.more (Settled t o ∷ []) past)) g.rests;
 }
 

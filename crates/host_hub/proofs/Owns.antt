@@ -41,10 +41,12 @@ use Rattle.host_hub.specs.Plan.{message_end}
 use Rattle.host_hub.specs.Shown.{ShowsTicket}
 use Rattle.host_hub.specs.Status.{awaits}
 use Rattle.host_hub.proofs.InHand.{reads_is}
-use Rattle.host_hub.proofs.Joining.{ran_running}
+use Rattle.host_hub.proofs.JoiningWrites.{ran_running}
 use Rattle.host_hub.proofs.Lists.{clash, first_has, has_front, has_other, same}
 use Rattle.host_hub.proofs.Pasts.{begun_active, hand_begun, no_stop, settled_cause, unasked_cause}
-use Rattle.host_hub.proofs.Plain.{Answered, AtEnd, AtPart, AtRead, AtRequest, HasCome, InHand, IsMade, Stage, Stands, Told, answered_one, made_is, made_other, none_reached, plain_asking, planned_of, stands}
+use Rattle.host_hub.proofs.Plain.{AtEnd, AtPart, AtRead, AtRequest, HasCome, InHand, IsMade, Stage, Stands, Told, none_reached, plain_asking, planned_of}
+use Rattle.host_hub.proofs.PlainAnswers.{Answered, answered_one, made_is, made_other}
+use Rattle.host_hub.proofs.PlainStands.{stands}
 use Rattle.host_hub.proofs.Within.{asks_alone, never_passes}
 
 -- ---- the record up to the end

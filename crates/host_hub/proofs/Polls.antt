@@ -14,7 +14,8 @@ use Rattle.host_hub.specs.Status.{is_read_status, is_status, poll, polled_at, st
 use Rattle.host_hub.specs.Law.{Kept, Lawful}
 use Rattle.host_hub.specs.Sentences.{IsAmong, wrote_at}
 use Rattle.host_hub.proofs.Lists.{own}
-use Rattle.host_hub.proofs.Own.{Now, kept_at, now, order_is}
+use Rattle.host_hub.proofs.OwnNumbers.{Now, kept_at, now}
+use Rattle.host_hub.proofs.OwnTickets.{order_is}
 use Rattle.host_hub.proofs.Pasts.{begun_active}
 use Rattle.host_hub.proofs.Sound.{waiting}
 use Rattle.host_hub.proofs.Starts.{started_begun}

@@ -33,7 +33,7 @@ use Rattle.host_hub.specs.Stands.{IsInResponse, Stands}
 use Rattle.host_hub.specs.Writes.{GoesOn, ReadIsNext, RequestIsNext}
 use Rattle.host_hub.specs.Hears.{Hears, HearsOut, PieceEnds, TicketEnds}
 use Rattle.host_hub.proofs.Answering.{HeardOut, answered_out, ends_fine, heard_out, hears_out}
-use Rattle.host_hub.proofs.Plain.{Answered, pieces_read, pieces_took}
+use Rattle.host_hub.proofs.PlainAnswers.{Answered, pieces_read, pieces_took}
 use Rattle.host_hub.proofs.Clean.{clean_answers, clean_recovered, clean_settles}
 use Rattle.host_hub.proofs.Lawful.{lawful_book}
 use Rattle.host_hub.proofs.Makes.{due_fine, ends_now, made_fine, seen_asking}

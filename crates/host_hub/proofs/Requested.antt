@@ -24,7 +24,7 @@ use Rattle.host_transfers.specs.Assembly as assembly
 use Rattle.host_hub.specs.Writes.{ReadIsNext}
 use Rattle.host_hub.specs.Hears.{Hears, HearsOut}
 use Rattle.host_hub.proofs.Answering.{HeardOut, answered_out, ends_fine, heard_out, hears_out}
-use Rattle.host_hub.proofs.Plain.{Answered, pieces_out, pieces_took}
+use Rattle.host_hub.proofs.PlainAnswers.{Answered, pieces_out, pieces_took}
 use Rattle.host_hub.proofs.Makes.{due_fine, made_fine, short_out, whole_out}
 use Rattle.host_hub.proofs.Taken.{out_comes, out_goes_on}
 

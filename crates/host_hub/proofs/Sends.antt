@@ -14,6 +14,7 @@ use Rattle.host_hub.specs.Order.{Order, Setting}
 use Rattle.host_hub.specs.Record.{Asking, Past, Stopped}
 use Rattle.host_hub.specs.Book.{live}
 use Rattle.host_hub.specs.Calls.{IsOfTurn}
+use Rattle.host_hub.specs.Joined.{IsPlain}
 use Rattle.host_hub.specs.Crossings.{crossings}
 use Rattle.host_hub.specs.Law.{Kept, StopLaw}
 use Rattle.host_hub.specs.Steps.{settle_all}
@@ -168,6 +169,7 @@ link_stops s past all core new e r running other law is k =
     record {
       more = a.more ++ Stopped e ∷ [];
       own = all_added IsOfTurn a.more (Stopped e) (settling_all IsOfTurn (λ t o. tt) a.more a.settling) other;
+      plain = all_added IsPlain a.more (Stopped e) (settling_all IsPlain (λ t o. tt) a.more a.settling) tt;
       still = all_added MovesNothing a.more (Stopped e) (settling_all MovesNothing (λ t o. tt) a.more a.settling) tt;
       stop = settling_stopped a.more (Stopped e ∷ []) a.settling;
       rests = subst (λ (p : Past). Rests s p all new) (a.same ∙ sym (append_assoc a.more (Stopped e ∷ []) past))

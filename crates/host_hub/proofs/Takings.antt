@@ -1,8 +1,7 @@
--- bytes come: the answers in them are heard
+-- a hub takes what came: one call of the reader
 use Rattle.std.specs.Int.{to_be_bytes, w32}
-use Rattle.std.proofs.Common.{◌≡◌, ◌≤◌, ◌<◌, ℕ, zero, suc, ◌+◌, ◌-◌, true, false, List, [], ◌∷◌, ◌++◌, length, take, drop, Option, Some, None, refl, sym, subst, ◌∙◌, ap, arith, append_assoc, append-nil}
+use Rattle.std.proofs.Common.{◌≡◌, ◌≤◌, ◌<◌, ℕ, zero, suc, ◌+◌, ◌-◌, true, false, List, [], ◌∷◌, ◌++◌, length, take, Option, Some, None, refl, sym, subst, ◌∙◌, ap, arith, append_assoc, append-nil}
 use Rattle.std.specs.Prelude.{is_some}
-use Rattle.std.proofs.lemmas.List.{length-drop, take_all}
 use Rattle.tmc_base.specs.declared.field.Field.{Field}
 use Rattle.usbip_wire.specs.declared.dirs.Outstanding.{Outstanding}
 use Rattle.usbip_wire.specs.declared.down.Down.{Down}
@@ -32,11 +31,11 @@ use Rattle.host_hub.specs.Order.{Setting}
 use Rattle.host_hub.specs.Record.{Asked, Cancelled, Cleared, Fell, GaveUp, Happening, Past, Recovers, Settled, Stopped, Took, Wrote, written}
 use Rattle.host_hub.specs.Book.{KeepsBook, live}
 use Rattle.host_hub.specs.Calls.{All, IsOfTurn}
+use Rattle.host_hub.specs.Joined.{IsPlain}
 use Rattle.host_hub.specs.Crossings.{crossings}
-use Rattle.host_hub.specs.Hand.{ended}
 use Rattle.host_hub.specs.Law.{ByBytes}
 use Rattle.host_hub.specs.Steps.{settle_all}
-use Rattle.host_hub.specs.Tied.{AllTaken, AreSent, IsDueIn, IsRefused, NothingLies, Received, Tied, below, entries_sent, seqnum_of, spelled, stopped, takes_all, takes_all_by}
+use Rattle.host_hub.specs.Tied.{IsDueIn, IsRefused, NothingLies, Received, below, entries_sent, seqnum_of, spelled, stopped, takes_all, takes_all_by}
 use Rattle.host_hub.specs.Knows.{HasBook, Knows}
 use Rattle.host_hub.specs.OneOut.{OneOut}
 use Rattle.host_hub.specs.Stands.{Rests, Stands}
@@ -89,8 +88,8 @@ nothing_lies s past count = record {
 
 behind_turn : (more : Past) → All IsBehind more → All IsOfTurn more
 behind_turn [] h = tt
-behind_turn (Wrote n o k ∷ more) h = (h.0, behind_turn more h.1)
-behind_turn (Recovers ∷ more) h = absurd h.0
+behind_turn (Wrote n o k ∷ more) h = (tt, behind_turn more h.1)
+behind_turn (Recovers ∷ more) h = (tt, behind_turn more h.1)
 behind_turn (Settled t o ∷ more) h = (tt, behind_turn more h.1)
 behind_turn (Stopped e ∷ more) h = (by e h.0, behind_turn more h.1)
   where
@@ -134,6 +133,18 @@ takes_turn m (Cleared w) h = absurd h
 takes_turn m GaveUp h = absurd h
 takes_turn m (Settled t o) h = absurd h
 
+takes_plain : (m : down.Message) (x : Happening) → Takes m x → IsPlain x
+takes_plain m (Took answer) h = tt
+takes_plain m (Fell answer e) h = tt
+takes_plain m (Wrote n o k) h = absurd h
+takes_plain m (Stopped e) h = absurd h
+takes_plain m Recovers h = absurd h
+takes_plain m (Asked t a) h = absurd h
+takes_plain m (Cancelled t) h = absurd h
+takes_plain m (Cleared w) h = absurd h
+takes_plain m GaveUp h = absurd h
+takes_plain m (Settled t o) h = absurd h
+
 takes_due : (s : Setting) (count : ℕ) (m : down.Message) (x : Happening) → Takes m x → seqnum_of m < s.first + count → IsDueIn s count x
 takes_due s count m (Took answer) h less = subst (λ (k : down.Message). seqnum_of k < s.first + count) (sym h) less
 takes_due s count m (Fell answer e) h less = subst (λ (k : down.Message). seqnum_of k < s.first + count) (sym h) less
@@ -158,7 +169,7 @@ takes_stop m (Cleared w) h = absurd h
 takes_stop m GaveUp h = absurd h
 takes_stop m (Settled t o) h = absurd h
 
-same_end : (e f : End) → Some e ≡ Some f → e ≡ f
+pub same_end : (e f : End) → Some e ≡ Some f → e ≡ f
 same_end e f k = cc
 
 behind_stop : (m : down.Message) (more : Past) (x : Happening) (e : End) → All IsBehind more → Takes m x → stopped (more ++ x ∷ []) ≡ Some e → OfItself e
@@ -222,7 +233,7 @@ still_crossings s (GaveUp ∷ more) past h = absurd h.0
 abbrev pub Rows : Type 0
 Rows = (first : ℕ) (past : urbs.Past) → urbs_law.Lawful first past → AreInARow first (urbs.written past)
 
-none_some : {P : Type 0} (e : End) → None ≡ Some e → P
+pub none_some : {P : Type 0} (e : End) → None ≡ Some e → P
 none_some e k = absurd (no k)
   where
     no : None ≡ Some e → ⊥
@@ -263,6 +274,7 @@ module _ (rows : Rows) (core : HubCore) (piece : List ℕ) (step : DownStep) (r 
       record {
         more = [];
         own = tt;
+        plain = tt;
         due = tt;
         fault = λ e. none_some end.LinkFault e;
         closing = λ e. none_some end.Unplugged e;
@@ -317,6 +329,7 @@ module _ (rows : Rows) (core : HubCore) (piece : List ℕ) (step : DownStep) (r 
       fed = record {
         more = g.more ++ g.first ∷ [];
         own = all_added IsOfTurn g.more g.first (behind_turn g.more g.behind) (takes_turn (down.RetSubmit head (data_of r)) g.first g.takes);
+        plain = all_added IsPlain g.more g.first g.plain (takes_plain (down.RetSubmit head (data_of r)) g.first g.takes);
         due = all_added (IsDueIn s count) g.more g.first (behind_due s count g.more g.behind)
             (takes_due s count (down.RetSubmit head (data_of r)) g.first g.takes (low_found (s.first + count) head.seqnum (urbs.outstanding (crossings s past)) (ap is_some spelled_now.1)));
         fault = λ e. stop end.LinkFault e;
@@ -376,6 +389,7 @@ module _ (rows : Rows) (core : HubCore) (piece : List ℕ) (step : DownStep) (r 
         record {
           more = a.more ++ Stopped e ∷ [];
           own = all_added IsOfTurn a.more (Stopped e) (settling_all IsOfTurn (λ t o. tt) a.more a.settling) other;
+          plain = all_added IsPlain a.more (Stopped e) (settling_all IsPlain (λ t o. tt) a.more a.settling) tt;
           due = all_added (IsDueIn s count) a.more (Stopped e) (settling_all (IsDueIn s count) (λ t o. tt) a.more a.settling) tt;
           fault = λ k. by_field end.LinkFault (sym stop ∙ k);
           closing = λ k. by_closing (sym stop ∙ k);
@@ -424,189 +438,3 @@ module _ (rows : Rows) (core : HubCore) (piece : List ℕ) (step : DownStep) (r 
       by (what.Device device) e = (judged_as (what.Device device) e).1
       by (what.Interface class subclass protocol) e = (judged_as (what.Interface class subclass protocol) e).1
       by (what.Import status device) e = (judged_as (what.Import status device) e).1
-
--- ---- one answer behind another
-
--- behind a hub that runs and was fed, it may be fed on
-pub feeds_on : (s : Setting) (past : Past) (sent received : List ℕ) (count : ℕ) (bytes : List ℕ) (core : HubCore) → (f : Fed s past sent received count bytes core) → core.end ≡ None
-    → Feeds s (f.more ++ past) sent (received ++ bytes) f.left count core
-feeds_on s past sent received count bytes core f running = record {
-  rests = f.rests;
-  running = running;
-  tied = f.tied;
-  counted = f.counted;
-  lies = f.lies (ap (λ (o : Option End). takes_all_by o (stopped (f.more ++ past))) (sym f.rests.knows.over ∙ running) ∙ takes_running (stopped (f.more ++ past)));
-  reads = f.reads running;
-}
-  where
-    takes_running : (o : Option End) → takes_all_by None o ≡ true
-    takes_running o = refl
-
-stop_none : (more past : Past) → stopped past ≡ None → stopped (more ++ past) ≡ stopped more
-stop_none [] past e = e
-stop_none (Stopped g ∷ more) past e = refl
-stop_none (Wrote n o k ∷ more) past e = stop_none more past e
-stop_none (Took m ∷ more) past e = stop_none more past e
-stop_none (Fell m g ∷ more) past e = stop_none more past e
-stop_none (Recovers ∷ more) past e = stop_none more past e
-stop_none (Asked t a ∷ more) past e = stop_none more past e
-stop_none (Cancelled t ∷ more) past e = stop_none more past e
-stop_none (Cleared w ∷ more) past e = stop_none more past e
-stop_none (GaveUp ∷ more) past e = stop_none more past e
-stop_none (Settled t o ∷ more) past e = stop_none more past e
-
--- a hub that runs did not end
-pub not_stopped_yet : (past : Past) → ended past ≡ None → stopped past ≡ None
-not_stopped_yet [] e = refl
-not_stopped_yet (Stopped g ∷ past) e = none_some g (sym e)
-not_stopped_yet (Fell m g ∷ past) e = none_some g (sym e)
-not_stopped_yet (Wrote n o k ∷ past) e = not_stopped_yet past e
-not_stopped_yet (Took m ∷ past) e = not_stopped_yet past e
-not_stopped_yet (Recovers ∷ past) e = not_stopped_yet past e
-not_stopped_yet (Asked t a ∷ past) e = not_stopped_yet past e
-not_stopped_yet (Cancelled t ∷ past) e = not_stopped_yet past e
-not_stopped_yet (Cleared w ∷ past) e = not_stopped_yet past e
-not_stopped_yet (GaveUp ∷ past) e = not_stopped_yet past e
-not_stopped_yet (Settled t o ∷ past) e = not_stopped_yet past e
-
-front_of : (more past : Past) → stopped (more ++ past) ≡ None → stopped more ≡ None
-front_of [] past e = refl
-front_of (Stopped h ∷ more) past e = e
-front_of (Wrote n o k ∷ more) past e = front_of more past e
-front_of (Took m ∷ more) past e = front_of more past e
-front_of (Fell m h ∷ more) past e = front_of more past e
-front_of (Recovers ∷ more) past e = front_of more past e
-front_of (Asked t a ∷ more) past e = front_of more past e
-front_of (Cancelled t ∷ more) past e = front_of more past e
-front_of (Cleared w ∷ more) past e = front_of more past e
-front_of (GaveUp ∷ more) past e = front_of more past e
-front_of (Settled t o ∷ more) past e = front_of more past e
-
-all_both : (Is : Happening → Type 0) (more past : Past) → All Is more → All Is past → All Is (more ++ past)
-all_both Is [] past h k = k
-all_both Is (x ∷ more) past h k = (h.0, all_both Is more past h.1 k)
-
-pub fed_then : (s : Setting) (past : Past) (sent received : List ℕ) (count : ℕ) (first behind : List ℕ) (mid new : HubCore) → (f : Fed s past sent received count first mid) → mid.end ≡ None
-    → Fed s (f.more ++ past) sent (received ++ first) count behind new → Fed s past sent received count (first ++ behind) new
-fed_then s past sent received count first behind mid new f running g =
-    let joined : (g.more ++ f.more) ++ past ≡ g.more ++ (f.more ++ past) = append_assoc g.more f.more past in
-    record {
-      more = g.more ++ f.more;
-      own = all_both IsOfTurn g.more f.more g.own f.own;
-      due = all_both (IsDueIn s count) g.more f.more g.due f.due;
-      fault = λ e. g.fault (sym same ∙ e);
-      closing = λ e. g.closing (sym same ∙ e);
-      left = g.left;
-      refused = λ h e. subst (λ (p : Past). IsRefused s p count g.left h) (sym joined) (g.refused h (sym same ∙ e));
-      rests = subst (λ (p : Past). Rests s p sent new) (sym joined) g.rests;
-      tied = subst (λ (p : Past). Tied s p sent new.urbs.outbox (received ++ (first ++ behind)) g.left) (sym joined)
-          (subst (λ (l : List ℕ). Tied s (g.more ++ (f.more ++ past)) sent new.urbs.outbox l g.left) (append_assoc received first behind) g.tied);
-      counted = subst (λ (p : Past). AreSent s p sent count) (sym joined) g.counted;
-      lies = subst (λ (p : Past). AllTaken s p count g.left) (sym joined) g.lies;
-      reads = g.reads;
-    }
-  where
-    front : stopped f.more ≡ None
-    front = front_of f.more past (not_stopped_yet (f.more ++ past) (sym f.rests.knows.over ∙ running))
-
-    same : stopped (g.more ++ f.more) ≡ stopped g.more
-    same = stop_none g.more f.more front
-
--- one that ended takes nothing more of what came
-pub fed_ended : (s : Setting) (past : Past) (sent received : List ℕ) (count : ℕ) (first behind : List ℕ) (core : HubCore) (e : End) → FedAnswer s past sent received count first core
-    → stopped past ≡ None → core.end ≡ Some e → Fed s past sent received count (first ++ behind) core
-fed_ended s past sent received count first behind core e a none over =
-    let f : Fed s past sent received count first core = a.fed in
-    record {
-      more = f.more;
-      own = f.own;
-      due = f.due;
-      fault = f.fault;
-      closing = f.closing;
-      left = f.left ++ behind;
-      refused = λ h k. absurd (a.unrefused h k);
-      rests = f.rests;
-      tied = subst (λ (l : List ℕ). Tied s (f.more ++ past) sent core.urbs.outbox l (f.left ++ behind)) (append_assoc received first behind)
-          (tied_got s (f.more ++ past) sent core.urbs.outbox (received ++ first) f.left behind f.tied);
-      counted = f.counted;
-      lies = λ k. clash (sym (takes_not (stopped f.more) refl) ∙ k);
-      reads = λ k. none_some e (sym k ∙ over);
-    }
-  where
-    ended_so : ended (a.fed.more ++ past) ≡ Some e
-    ended_so = sym a.fed.rests.knows.over ∙ over
-
-    takes_not : (o : Option End) → stopped a.fed.more ≡ o → takes_all (a.fed.more ++ past) ≡ false
-    takes_not o k =
-        ap (λ (x : Option End). takes_all_by x (stopped (a.fed.more ++ past))) ended_so
-        ∙ (ap (λ (x : Option End). takes_all_by (Some e) x) (stop_none a.fed.more past none ∙ k) ∙ by o k)
-      where
-        by : (o : Option End) → stopped a.fed.more ≡ o → takes_all_by (Some e) o ≡ false
-        by None k = refl
-        by (Some end.LinkFault) k = absurd (a.fed.fault k)
-        by (Some end.Unplugged) k = absurd (a.fed.closing k)
-        by (Some end.GivenUp) k = absurd (never_given a.fed.more a.fed.own k)
-          where
-            never_given : (more : Past) → All IsOfTurn more → stopped more ≡ Some end.GivenUp → ⊥
-            never_given [] h k = none_some end.GivenUp k
-            never_given (Stopped g ∷ more) h k = h.0 (same_end g end.GivenUp k)
-            never_given (Wrote n o k ∷ more) h e = never_given more h.1 e
-            never_given (Took m ∷ more) h e = never_given more h.1 e
-            never_given (Fell m g ∷ more) h e = never_given more h.1 e
-            never_given (Recovers ∷ more) h e = never_given more h.1 e
-            never_given (Asked t a ∷ more) h e = absurd h.0
-            never_given (Cancelled t ∷ more) h e = absurd h.0
-            never_given (Cleared w ∷ more) h e = absurd h.0
-            never_given (GaveUp ∷ more) h e = absurd h.0
-            never_given (Settled t o ∷ more) h e = never_given more h.1 e
-        by (Some (end.PeerFault g)) k = refl
-        by (Some (end.DeviceFault status)) k = refl
-        by (Some (end.DeviceSays status)) k = refl
-        by (Some end.Exhausted) k = refl
-
--- nothing was fed yet
-pub fed_nothing : (s : Setting) (past : Past) (sent received rest : List ℕ) (count : ℕ) (core : HubCore) → Feeds s past sent received rest count core → FedAnswer s past sent received count [] core
-fed_nothing s past sent received rest count core f = record {
-  fed = record {
-    more = [];
-    own = tt;
-    due = tt;
-    fault = λ e. none_some end.LinkFault e;
-    closing = λ e. none_some end.Unplugged e;
-    left = rest;
-    refused = λ h e. none_some (end.PeerFault h) e;
-    rests = f.rests;
-    tied = subst (λ (l : List ℕ). Tied s past sent core.urbs.outbox l rest) (sym (append-nil received)) f.tied;
-    counted = f.counted;
-    lies = λ e. f.lies;
-    reads = λ e. f.reads;
-  };
-  unrefused = λ h e. none_some (end.PeerFault h) e;
-}
-
--- one more answer
-pub fed_again : (s : Setting) (past : Past) (sent received : List ℕ) (count : ℕ) (first behind : List ℕ) (mid new : HubCore) → (a : FedAnswer s past sent received count first mid) → mid.end ≡ None
-    → FedAnswer s (a.fed.more ++ past) sent (received ++ first) count behind new → FedAnswer s past sent received count (first ++ behind) new
-unfolding fed_then
-fed_again s past sent received count first behind mid new a running b = record {
-  fed = fed_then s past sent received count first behind mid new a.fed running b.fed;
-  unrefused = λ h e. b.unrefused h (sym (stop_none b.fed.more a.fed.more front) ∙ e);
-}
-  where
-    front : stopped a.fed.more ≡ None
-    front = front_of a.fed.more past (not_stopped_yet (a.fed.more ++ past) (sym a.fed.rests.knows.over ∙ running))
-
--- ---- whether it has ended
-
-pub runs_on : (o : Option End) → is_some o ≡ false → o ≡ None
-runs_on None e = refl
-runs_on (Some x) e = clash (sym e)
-
-pub ended_some : (o : Option End) → is_some o ≡ true → (e : End) × (o ≡ Some e)
-ended_some None e = clash e
-ended_some (Some x) e = (x, refl)
-
--- ---- what is left of the bytes behind some
-
-pub left_behind : (n : ℕ) (xs : List ℕ) → take (length xs - n) (drop n xs) ≡ drop n xs
-left_behind n xs = take_all (length xs - n) (drop n xs) (omega (arith, length-drop n xs))

@@ -19,7 +19,7 @@ use Rattle.host_hub.specs.Order.{Order, Setting}
 use Rattle.host_hub.specs.Record.{Asked, Asking, Cancelled, Cleared, Fell, GaveUp, Past, Recovers, Settled, Stopped, Took, Wrote}
 use Rattle.host_hub.specs.Stands.{IsOut, Rests, Stands}
 use Rattle.host_hub.specs.Tied.{AddsTurn, Closed, Failed, IsDueIn, MovesNothing, Said, Went, stopped, takes_all_by}
-use Rattle.host_hub.proofs.Accounts.{ShowsAt, account_fed, account_stopped, account_unpolled, account_unsent}
+use Rattle.host_hub.proofs.AccountTurns.{ShowsAt, account_fed, account_stopped, account_unpolled, account_unsent}
 use Rattle.host_hub.proofs.Undisturbing.{Joins}
 
 -- ---- the turn is counted

@@ -6,7 +6,8 @@ use Rattle.host_hub.specs.declared.refusals.AskFault.TheVariants as fault
 use Rattle.host_hub.specs.Order.{Setting}
 use Rattle.host_hub.specs.Record.{Asking, Past}
 use Rattle.host_hub.specs.Book.{tickets}
-use Rattle.host_hub.specs.Calls.{AddsAsk}
+use Rattle.host_hub.specs.Calls.{AddsAsk, All}
+use Rattle.host_hub.specs.Joined.{IsPlain}
 use Rattle.host_hub.specs.Refusals.{ask_fault}
 use Rattle.host_hub.specs.Stands.{Rests}
 
@@ -23,6 +24,7 @@ IsUnchanged old new = new ≡ record old { notes = record old.notes { room = new
 pub record Enters (s : Setting) (past : Past) (sent : List ℕ) (asking : Asking) (core : HubCore) : Type 0 where
   pub more : Past
   pub adds : AddsAsk past asking more
+  pub plain : All IsPlain adds.own
   pub rests : Rests s (more ++ past) sent core
 
 abbrev pub Asks : Setting → Past → (sent : List ℕ) → Asking → Result ℕ AskFault → (old new : HubCore) → Type 0

@@ -3,10 +3,9 @@ use Rattle.std.specs.Prelude.{◌≡◌, ◌≢◌, ℕ, ◌+◌, ◌==◌, ◌&
 use Rattle.std.specs.Bool.{MatchBool}
 use Rattle.host_hub.specs.declared.outcome.End.TheVariants as end
 use Rattle.host_hub.specs.Order.{Setting}
-use Rattle.host_hub.specs.Record.{Happening, Past, Wrote, Took, Fell, Stopped, Asked, Cancelled, Cleared, GaveUp, Settled, Asking}
+use Rattle.host_hub.specs.Record.{Happening, Past, Wrote, Took, Fell, Stopped, Recovers, Asked, Cancelled, Cleared, GaveUp, Settled, Asking}
 use Rattle.host_hub.specs.Book.{tickets, live, is_live, is_cancelled, asking_of}
 use Rattle.host_hub.specs.Law.{Kept}
-use Rattle.host_hub.specs.PlainOrders.{IsPlainFor}
 
 abbrev pub All : (Happening → Type 0) → Past → Type 0
 All Is [] = Unit {0}
@@ -14,9 +13,10 @@ All Is (x ∷ past) = Is x × All Is past
 
 -- ---- a call that makes an entry
 
--- what a hub does by itself in it: it writes for its tickets, settles, and ends where no number is left
+-- what a hub does by itself in it: it writes, begins a recovery, settles, and ends where no number is left
 abbrev pub IsOwn : Happening → Type 0
-IsOwn (Wrote number owner order) = IsPlainFor owner order
+IsOwn (Wrote number owner order) = Unit {0}
+IsOwn Recovers = Unit {0}
 IsOwn (Settled t outcome) = Unit {0}
 IsOwn (Stopped e) = e ≡ end.Exhausted
 IsOwn x = ⊥
@@ -73,7 +73,8 @@ pub record AddsGivingUp (more : Past) : Type 0 where
 abbrev pub IsOfTurn : Happening → Type 0
 IsOfTurn (Took answer) = Unit {0}
 IsOfTurn (Fell answer e) = Unit {0}
-IsOfTurn (Wrote number owner order) = IsPlainFor owner order
+IsOfTurn (Wrote number owner order) = Unit {0}
+IsOfTurn Recovers = Unit {0}
 IsOfTurn (Settled t outcome) = Unit {0}
 IsOfTurn (Stopped e) = e ≢ end.GivenUp
 IsOfTurn x = ⊥

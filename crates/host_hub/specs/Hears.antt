@@ -22,7 +22,7 @@ use Rattle.host_hub.specs.Writes.{GoesOn}
 use Rattle.host_hub.specs.declared.outcome.End.{End}
 use Rattle.host_hub.specs.declared.outcome.End.TheVariants as end
 use Rattle.host_hub.specs.declared.outcome.Outcome.{Outcome}
-use Rattle.host_hub.specs.Record.{Asking, Fell, Happening, Of, Past, Settled, Stopped, Took, Wrote}
+use Rattle.host_hub.specs.Record.{Asking, Fell, Happening, Of, Past, Settled, Stopped, Took, Wrote, Recovers}
 use Rattle.host_hub.specs.Hand.{in_hand}
 use Rattle.host_hub.specs.Recovery.{AreRecovered}
 use Rattle.host_hub.specs.Steps.{Working}
@@ -30,7 +30,7 @@ use Rattle.host_hub.specs.Outstanding.{outstanding}
 use Rattle.host_hub.specs.Book.{active, asking_of}
 use Rattle.host_hub.specs.Law.{Lawful}
 use Rattle.host_hub.specs.Calls.{All}
-use Rattle.host_hub.specs.PlainOrders.{IsPlainFor}
+use Rattle.host_hub.specs.Joined.{IsPlain}
 use Rattle.host_hub.specs.Stands.{Rests}
 use Rattle.host_hub.specs.Knows.{Knows}
 use Rattle.host_hub.specs.OneOut.{OneOut}
@@ -126,15 +126,16 @@ Takes message (Took answer) = answer ≡ message
 Takes message (Fell answer e) = answer ≡ message
 Takes message x = ⊥
 
--- what a hub does behind an answer: it writes, settles, and ends where a submit was answered with a nonzero status, or where
--- no number is left
+-- what a hub does behind an answer: it writes, begins a recovery, settles, and ends where a submit was answered with a nonzero
+-- status, or where no number is left
 abbrev pub OfItself : End → Type 0
 OfItself (end.DeviceFault status) = Unit {0}
 OfItself end.Exhausted = Unit {0}
 OfItself e = ⊥
 
 abbrev pub IsBehind : Happening → Type 0
-IsBehind (Wrote number owner order) = IsPlainFor owner order
+IsBehind (Wrote number owner order) = Unit {0}
+IsBehind Recovers = Unit {0}
 IsBehind (Settled t outcome) = Unit {0}
 IsBehind (Stopped e) = OfItself e
 IsBehind x = ⊥
@@ -145,4 +146,5 @@ pub record GoesByAnswer (s : Setting) (past : Past) (sent : List ℕ) (answer : 
   pub takes : Takes answer first
   pub more : Past
   pub behind : All IsBehind more
+  pub plain : All IsPlain more
   pub rests : Rests s (more ++ first ∷ past) sent core

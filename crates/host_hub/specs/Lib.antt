@@ -46,3 +46,4 @@ pub mod Joined
 pub mod Undisturbed
 pub mod Behind
 pub mod HubCalls
+pub mod LinkCalls

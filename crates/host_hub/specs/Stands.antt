@@ -17,6 +17,7 @@ use Rattle.host_hub.specs.Plan.{last, parts}
 use Rattle.host_hub.specs.Recovery.{AreRecovered}
 use Rattle.host_hub.specs.Law.{Kept}
 use Rattle.host_hub.specs.Calls.{AddsGivingUp, All, IsOwn}
+use Rattle.host_hub.specs.Joined.{IsPlain}
 use Rattle.host_hub.specs.Steps.{IsClean}
 use Rattle.host_hub.specs.Knows.{Knows}
 use Rattle.host_hub.specs.OneOut.{OneOut}
@@ -91,6 +92,7 @@ pub record Rests (s : Setting) (past : Past) (sent : List ℕ) (core : HubCore) 
 pub record GoesTo (s : Setting) (past : Past) (sent : List ℕ) (core : HubCore) : Type 0 where
   pub more : Past
   pub by_itself : All IsOwn more
+  pub plain : All IsPlain more
   pub rests : Rests s (more ++ past) sent core
 
 -- there is such a record

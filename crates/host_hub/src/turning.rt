@@ -2,7 +2,8 @@
 
 ghost use Rattle.std.specs.Prelude.{◌≡◌, None, Some};
 ghost use Rattle.host_hub.specs.Behind.{HubParts, IsRecorded};
-ghost use Rattle.host_hub.specs.HubCalls.{CanAnswer, IsAnswer, Polls, Sends, Turns};
+ghost use Rattle.host_hub.specs.HubCalls.{IsAnswer, Turns};
+ghost use Rattle.host_hub.specs.LinkCalls.{CanAnswer, Polls, Sends};
 
 use crate::hub_core::HubCore;
 use crate::recorded::accounts_are_turned;

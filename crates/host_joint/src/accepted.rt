@@ -16,7 +16,7 @@ ghost use Rattle.host_joint.specs.Lines.{Lines, Fitting};
 ghost use Rattle.host_joint.specs.Unlinking.{IsBulk, AreApart, total_of};
 ghost use Rattle.host_joint.specs.Asking.{Ask, Asking};
 
-use tmc_law::halts_have_causes;
+use tmc_law::laws::halts_have_causes;
 use tmc_wire::headers_are_read_again;
 
 /// While an ask is in hand, a bulk endpoint halts only where the device halts it by itself: no header, no length and no size of

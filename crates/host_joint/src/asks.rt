@@ -18,7 +18,7 @@ ghost use Rattle.host_joint.specs.Stage.{Carries};
 ghost use Rattle.host_joint.specs.Lines.{unlinks_in, AllFitting, InOrder};
 ghost use Rattle.host_joint.specs.Asking.{Ask, Asking, AtRest, IsQuiet, IsSafe, StaysPlugged, Cancelled, WasAsking};
 
-use tmc_law::{
+use tmc_law::laws::{
     pending_submits_are_sound, runs_join, steps_act, the_log_grows, transfers_are_in_order,
 };
 use tmc_wire::headers_are_read_again;

@@ -22,7 +22,7 @@ ghost use Rattle.host_joint.specs.Bond.{Situation, Reading, Saying, begins, Take
 
 use crate::{drains_stay, requests_stay};
 use instr_plain::one_response;
-use tmc_law::{
+use tmc_law::laws::{
     a_step_logs_at_most_once, answers_fit, halts_have_causes, numbers_rise,
     pending_submits_are_sound, runs_join, steps_act, the_log_grows,
 };

@@ -24,7 +24,7 @@ use crate::{
     answers_come_until_unplugged, bonds_stay, hosts_go_on_until_unplugged, no_submit_is_refused,
     ties_hold_until_unplugged,
 };
-use tmc_law::{
+use tmc_law::laws::{
     answers_fit, messages_are_refused_by_what_is_pending, pending_submits_are_sound, runs_join,
     runs_take_in_messages,
 };

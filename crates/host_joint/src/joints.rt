@@ -24,7 +24,7 @@ use crate::{
     answers_are_the_expected, bonds_stay, no_submit_is_refused, ties_begin, ties_stay,
     writes_keep_ties,
 };
-use tmc_law::{messages_are_refused_by_what_is_pending, runs_join, runs_take_in_messages};
+use tmc_law::laws::{messages_are_refused_by_what_is_pending, runs_join, runs_take_in_messages};
 use usbip_wire::{
     answers_are_determined, bad_fields_are_alone, bad_fields_are_refused, bad_fields_stay,
     urbs_are_determined,

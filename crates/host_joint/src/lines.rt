@@ -15,7 +15,7 @@ ghost use Rattle.usbip_wire.specs.declared.ret_unlink.RetUnlinkHead.{RetUnlinkHe
 ghost use Rattle.host_joint.specs.Unlinking.{IsNamed};
 ghost use Rattle.host_joint.specs.Lines.{Lines, EmptyLine, without, unlinked_by, AllFitting, InOrder};
 
-use tmc_law::{pending_submits_are_sound, runs_join, steps_act};
+use tmc_law::laws::{pending_submits_are_sound, runs_join, steps_act};
 
 /// They stay so under each step of a device, and under each run: what the device takes in stood in front of the messages on
 /// their way, and what it puts out stands behind the answers on their way.

@@ -11,7 +11,7 @@ ghost use Rattle.tmc_law.specs.Numbers.{AllBelow, Rises, numbers};
 ghost use Rattle.host_joint.specs.Stage.{NoExec, IsAnother, Ran};
 
 use instr_plain::one_response;
-use tmc_law::a_step_logs_at_most_once;
+use tmc_law::laws::a_step_logs_at_most_once;
 
 /// Where all numbers that were given are below one, no message was executed and none waits under that number or a greater one.
 /// So an ask with a new number finds the device as [`asks_begin`](crate::asks_begin) needs it.

@@ -22,7 +22,7 @@ ghost use Rattle.host_joint.specs.Positions.{IsAt, rests, in_begun, in_ended, ou
 ghost use Rattle.host_joint.specs.Requests.{RequestStays, ClearHaltStays, NoBulk, IsPlugged, in_aborts, in_fails, in_checked, in_pending, out_rests, out_aborts, out_fails, out_checked, out_pending, begins_clear, never, clear_checked, clear_pending, usable_again, usable_cleared};
 ghost use Rattle.host_joint.specs.Drains.{DrainAt, OnlyRead};
 
-use tmc_law::{pending_submits_are_sound, setups_have_one_meaning};
+use tmc_law::laws::{pending_submits_are_sound, setups_have_one_meaning};
 
 /// What an ask leaves to a recovery, once each of its submits and unlinks was answered. Where its request was taken, a Bulk-IN
 /// transfer to abort; where its last transfer was not taken, a Bulk-OUT transfer to abort, without an unfinished message where

@@ -32,7 +32,7 @@ ghost use Rattle.host_joint.specs.Remotes.{request_of, OneSince, Operating};
 
 use crate::no_submit_is_refused;
 use instr_plain::one_response;
-use tmc_law::{
+use tmc_law::laws::{
     a_step_logs_at_most_once, answers_fit, halts_have_causes,
     messages_are_refused_by_what_is_pending, numbers_rise, pending_submits_are_sound, runs_join,
     runs_take_in_messages, setups_have_one_meaning, steps_act, the_log_grows,

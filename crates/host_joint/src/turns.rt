@@ -19,7 +19,7 @@ ghost use Rattle.host_joint.specs.Positions.{IsAt, out_begun, out_first};
 ghost use Rattle.host_joint.specs.Turns.{InTurn, AreParts};
 
 use crate::{asking_stays, cancelled_asks_stay};
-use tmc_law::{answers_fit, pending_submits_are_sound, runs_join};
+use tmc_law::laws::{answers_fit, pending_submits_are_sound, runs_join};
 
 /// However many submits of an ask are unanswered: once an answer to a read has bytes of a piece, none comes behind it that says that a
 /// transfer was taken. So where a read has bytes, all transfers of the ask were answered as taken before, the request as the last.

@@ -30,10 +30,10 @@ use crate::{
     cancelled_asks_own, cancels_begin, messages_are_cancelled, pieces_have_no_fault, tickets_end,
     ties_begin, ties_own, ties_stay, writes_keep_ties,
 };
-use tmc_law::worked::{a_message_comes_in_parts, a_query_is_answered};
-use tmc_law::{
+use tmc_law::laws::{
     pending_submits_are_sound, runs_join, steps_act, the_log_grows, worked_runs_meet_the_laws,
 };
+use tmc_law::worked::{a_message_comes_in_parts, a_query_is_answered};
 use tmc_wire::headers_are_read_again;
 
 /// A query is in hand before its messages arrive and when all its answers are on their way back, with its submits in the

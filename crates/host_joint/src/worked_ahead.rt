@@ -19,7 +19,7 @@ use crate::{
     asks_are_settled_late, asks_begin, cancelled_asks_stay, messages_are_written,
     worked_pieces_are_asked,
 };
-use tmc_law::runs_join;
+use tmc_law::laws::runs_join;
 use tmc_law::worked::{a_message_comes_in_parts, a_query_is_answered};
 use tmc_wire::headers_are_read_again;
 

@@ -27,7 +27,7 @@ use crate::{
     new_numbers_are_unused, new_numbers_rise, no_submit_is_refused, nothing_comes_unasked,
     what_is_answered_is_over, what_ran_is_kept, worked_pieces_are_asked, worked_pieces_are_read,
 };
-use tmc_law::runs_join;
+use tmc_law::laws::runs_join;
 use tmc_law::worked::{a_message_comes_in_parts, a_query_is_answered};
 use tmc_wire::headers_are_read_again;
 

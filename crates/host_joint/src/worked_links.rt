@@ -32,7 +32,7 @@ use crate::{
     worked_cancels_are_recovered, worked_hosts_are_unplugged, worked_pieces_are_read,
     writes_keep_joints, writes_keep_joints_until_unplugged,
 };
-use tmc_law::runs_join;
+use tmc_law::laws::runs_join;
 use tmc_law::worked::a_message_comes_in_parts;
 
 /// A host that writes the first transfer of a message at power-on is joined to its device, whatever bytes spell it; still so when the link told

@@ -24,7 +24,7 @@ use crate::{
     messages_are_written, pieces_have_no_fault, tickets_end, ties_own, ties_stay,
     what_is_read_is_owned, what_ran_is_one, worked_hosts_are_tied, writes_keep_ties,
 };
-use tmc_law::runs_join;
+use tmc_law::laws::runs_join;
 use tmc_law::worked::a_message_comes_in_parts;
 use tmc_wire::{header_offsets_are_laid_out, headers_are_read_again, transfers_are_read_again};
 

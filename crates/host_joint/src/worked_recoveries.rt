@@ -37,7 +37,7 @@ use crate::{
     worked_asks_are_cancelled_ahead, worked_cancels_are_bound, worked_pieces_are_asked,
     worked_pieces_are_read, writes_keep_ties,
 };
-use tmc_law::runs_join;
+use tmc_law::laws::runs_join;
 
 /// Bulk-IN halts when the second piece of a response has begun. The host is bound to the device from where it wrote its read, has the data of
 /// the first piece still, finds that no transfer is in progress, ends the halt, and is tied to the device again; or it clears all, and is tied again

@@ -26,7 +26,7 @@ use crate::{
     joints_begin, remote_tickets_are_read, remote_tickets_are_tied, ties_begin,
     worked_halts_are_recovered,
 };
-use tmc_law::runs_join;
+use tmc_law::laws::runs_join;
 use tmc_law::worked::a_remote_act_is_logged;
 
 /// A host that writes REN_CONTROL at power-on is tied; when it was answered, that act was logged since, and no other. A host that takes

@@ -23,7 +23,7 @@ use crate::{
     joints_begin, remote_tickets_are_read, remote_tickets_are_tied, ties_begin,
     trigger_tickets_are_read, trigger_tickets_are_tied,
 };
-use tmc_law::runs_join;
+use tmc_law::laws::runs_join;
 use tmc_law::worked::a_trigger_is_counted;
 
 /// A host that writes a trigger at power-on is tied; when it was answered, the instrument was triggered under its number exactly once. Where

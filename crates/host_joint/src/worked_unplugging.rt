@@ -25,7 +25,7 @@ use crate::{
     worked_cancels_are_recovered, worked_halts_are_asked, worked_halts_are_recovered,
     worked_pieces_are_asked, worked_pieces_are_read,
 };
-use tmc_law::runs_join;
+use tmc_law::laws::runs_join;
 use tmc_law::worked::a_message_comes_in_parts;
 use tmc_wire::headers_are_read_again;
 

@@ -13,10 +13,11 @@ use crate::{DeviceFault, Drove};
 use std::alloc::Global;
 use std::marker::Model;
 use tmc_base::Memory;
-use tmc_law::{
-    DevEvent, Input, Log, Output, answers_fit, few_packets_are_queued, pending_submits_are_sound,
-    runs_join, transfers_are_in_order,
+use tmc_law::laws::{
+    answers_fit, few_packets_are_queued, pending_submits_are_sound, runs_join,
+    transfers_are_in_order,
 };
+use tmc_law::{DevEvent, Input, Log, Output};
 
 /// The instrument at the end of a USB link.
 ///

@@ -6,7 +6,7 @@ ghost use Rattle.tmc_law.specs.Put.{Put};
 ghost use Rattle.tmc_law.specs.Step.{Move, Steps};
 ghost use Rattle.tmc_law.specs.Run.{Entry, Runs};
 
-use crate::setups_have_one_meaning;
+use crate::setups::setups_have_one_meaning;
 use instr_plain::{grows, one_standing};
 use tmc_wire::headers_are_read_again;
 

@@ -22,6 +22,21 @@ ghost use Rattle.tmc_law.specs.Run.{Entry, Runs, TakesAll, inputs, outputs, Spel
 ghost use Rattle.tmc_law.specs.Told.{Tells};
 ghost use Rattle.tmc_law.specs.Laws.{NoneArrives, NoneAnswers, NoneAgain, AreInOrder, answers_to, NoneRenews, bytes_taken, IsAccepted, AreNew, refusal, EndsRefused, EndsOver};
 
+pub use crate::answers::answers_fit;
+pub use crate::determined::steps_are_determined;
+pub use crate::halt_causes::halts_have_causes;
+pub use crate::instances::worked_runs_meet_the_laws;
+pub use crate::layouts::{
+    class_answers_are_laid_out, packets_are_laid_out, pieces_are_transfers,
+    the_ends_are_the_descriptors,
+};
+pub use crate::numbers::numbers_rise;
+pub use crate::reachable::{
+    few_packets_are_queued, pending_submits_are_sound, transfers_are_in_order,
+    what_arrives_can_be_taken,
+};
+pub use crate::setups::setups_have_one_meaning;
+pub use crate::steps::{a_step_logs_at_most_once, packets_are_of_transfers, steps_act};
 use instr_plain::{keeps_responses, one_response};
 use usbip_wire::{
     answers_take_out, bad_fields_are_alone, bad_fields_are_refused, urbs_are_determined,

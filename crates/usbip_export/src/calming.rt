@@ -10,7 +10,7 @@ use crate::body::Body;
 use crate::spelling::spell_all;
 use tmc_base::Memory;
 use tmc_device::{DevEvent, Drove};
-use tmc_law::packets_are_of_transfers;
+use tmc_law::laws::packets_are_of_transfers;
 
 /// The calm moves, each with all that there is.
 const CALM: [DevEvent; 6] = [

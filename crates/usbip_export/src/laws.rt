@@ -9,7 +9,7 @@ ghost use Rattle.usbip_export.specs.Serving.{Works};
 ghost use Rattle.usbip_export.specs.Laws.{Call, Chain, AnswersLawfully, all_bytes, all_sent};
 ghost use Rattle.usbip_export.specs.Work.{weight};
 
-use tmc_law::packets_are_of_transfers;
+use tmc_law::laws::packets_are_of_transfers;
 
 /// Driving, calm moves and sending are work of a node, as feeding is, and the work of a list of calls is one: what was fed
 /// in all of them was taken in or is kept, and what was answered was sent or is pending. Of a node that began imported at

@@ -15,7 +15,7 @@ use std::alloc::Global;
 use std::marker::Model;
 use tmc_base::{Field, Memory};
 use tmc_device::{DevEvent, Drove, Log};
-use tmc_law::a_closed_run_ends_with_refused_bytes;
+use tmc_law::laws::a_closed_run_ends_with_refused_bytes;
 
 /// The instrument at the end of a USB/IP connection.
 ///

@@ -1,5 +1,5 @@
 -- what feeding answers, from what the held bytes are
-use Rattle.std.proofs.Common.{◌≡◌, ℕ, ◌+◌, ◌≤◌, Bool, true, false, Option, Some, None, List, [], ◌∷◌, ◌++◌, length, take, drop, Ok, Err, sym, ap, subst, ◌∙◌, arith}
+use Rattle.std.proofs.Common.{◌≡◌, ℕ, ◌+◌, ◌-◌, ◌≤◌, Bool, true, false, Option, Some, None, List, [], ◌∷◌, ◌++◌, length, take, drop, Ok, Err, sym, ap, subst, ◌∙◌, arith}
 use Rattle.std.proofs.lemmas.List.{take_all, append-nil, length-append, length-take}
 use Rattle.tmc_base.specs.declared.field.Field.{Field}
 use Rattle.usbip_wire.specs.declared.dirs.Outstanding.{Outstanding}
@@ -18,8 +18,10 @@ use Rattle.usbip_wire.proofs.Determined.{Placed}
 use Rattle.usbip_wire.proofs.DownRead.{down_sound, whole_means, whole_good, stopped_none, short_good}
 use Rattle.usbip_wire.proofs.Edges.{exact_refused, bad_within}
 use Rattle.usbip_wire.proofs.Forms.{sound, more_bad, more_whole, bad_refused, refused_bad, exact}
+use Rattle.usbip_wire.proofs.Fronts.{IsBytes-take}
 use Rattle.usbip_wire.proofs.Pieces.{rest_of_piece}
 use Rattle.usbip_wire.proofs.Places.{ops_placed, answers_placed}
+use Rattle.usbip_wire.proofs.Whole.{front, front_read}
 
 -- the reader behind so many bytes of a piece
 abbrev pub at : DownPhase → List ℕ → List ℕ → ℕ → Held
@@ -118,6 +120,33 @@ keeps_whole phase entries start piece used self what left new le e fits judged n
     keeps_message phase entries start piece used what new s.0 left le s.1 (down_sound phase entries what s.0 s.2)
     (λ f b. front_good phase entries (start ++ take used piece) (drop used piece) what left r f (subst (λ (t : List ℕ). BadAt phase entries t f) (sym (rest_of_piece start piece used)) b))
     (next ∙ ap (λ (h : Held). record h { phase = after h.phase what; whole = true }) e)
+
+-- ---- a message that is whole at the front of a piece, where nothing was held
+
+module _ (entries : List Outstanding) (old mid new : Held) (piece left : List ℕ) (what : Down) (unread : old.whole ≡ false) (good : old.bad ≡ None) (empty : old.rest ≡ [])
+    (fits : IsBytes piece) (r : read (down_form old.phase entries) piece ≡ Ok (what, left)) (is : mid ≡ record old { rest = old.rest ++ front piece left })
+    (next : new ≡ record mid { phase = after mid.phase what; whole = true }) where
+  held : mid ≡ at old.phase old.rest piece (length piece - length left)
+  held =
+      is ∙ (ap (λ (b : Bool). record old { rest = old.rest ++ front piece left; whole = b }) unread
+      ∙ ap (λ (f : Option Field). record old { rest = old.rest ++ front piece left; whole = false; bad = f }) good)
+
+  alone : mid.rest ≡ front piece left
+  alone = ap (λ (h : Held). h.rest) is ∙ ap (λ (l : List ℕ). l ++ front piece left) empty
+
+  bytes : IsBytes mid.rest
+  bytes = subst IsBytes (sym alone) (IsBytes-take (length piece - length left) piece fits)
+
+  judged : read (down_form mid.phase entries) mid.rest ≡ Ok (what, [])
+  judged =
+      subst (λ (l : List ℕ). read (down_form mid.phase entries) l ≡ Ok (what, [])) (sym alone)
+      (subst (λ (p : DownPhase). read (down_form p entries) (front piece left) ≡ Ok (what, [])) (sym (ap (λ (h : Held). h.phase) is)) (front_read (down_form old.phase entries) piece left what fits r))
+
+  pub answers_front : Answers old.phase entries old.rest piece (length piece - length left) what new
+  answers_front = answers_whole old.phase entries old.rest piece (length piece - length left) mid what new (omega arith) held bytes judged next
+
+  pub keeps_front : Keeps old.phase entries old.rest piece (length piece - length left) what new
+  keeps_front = keeps_whole old.phase entries old.rest piece (length piece - length left) mid what [] new (omega arith) held bytes judged next
 
 -- ---- what is used ends with a refused field
 

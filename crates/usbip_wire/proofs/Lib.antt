@@ -1,4 +1,5 @@
 pub mod Wide
+pub mod Whole
 pub mod Appends
 pub mod Answered
 pub mod Recorded

@@ -1,5 +1,5 @@
 -- what feeding answers, from what the held bytes are
-use Rattle.std.proofs.Common.{◌≡◌, ℕ, ◌+◌, ◌≤◌, Bool, true, false, Option, Some, None, List, [], ◌++◌, length, take, drop, Ok, Err, sym, ap, subst, ◌∙◌, arith}
+use Rattle.std.proofs.Common.{◌≡◌, ℕ, ◌+◌, ◌-◌, ◌≤◌, Bool, true, false, Option, Some, None, List, [], ◌++◌, length, take, drop, Ok, Err, sym, ap, subst, ◌∙◌, arith}
 use Rattle.std.proofs.lemmas.List.{take_all, append-nil, length-append, length-take}
 use Rattle.tmc_base.specs.declared.field.Field.{Field}
 use Rattle.usbip_wire.specs.declared.stop.Stop.TheVariants.{Short, Refused}
@@ -11,10 +11,12 @@ use Rattle.usbip_wire.specs.Form.{read}
 use Rattle.usbip_wire.specs.Given.{IsBytes}
 use Rattle.usbip_wire.specs.JudgedFields.{op_fields, urb_fields, missing_for}
 use Rattle.usbip_wire.specs.UpForm.{up_form}
-use Rattle.usbip_wire.specs.UpFed.{Held, Answers, Judged, Means, BadAt}
+use Rattle.usbip_wire.specs.UpFed.{Held, Answers, Ends, Judged, Means, BadAt}
 use Rattle.usbip_wire.proofs.Determined.{Placed}
 use Rattle.usbip_wire.proofs.Edges.{exact_refused, bad_within}
-use Rattle.usbip_wire.proofs.Forms.{more_bad, refused_bad}
+use Rattle.usbip_wire.proofs.Forms.{more_bad, ok_is, refused_bad}
+use Rattle.usbip_wire.proofs.Fronts.{IsBytes-take}
+use Rattle.usbip_wire.proofs.Whole.{front, front_read}
 use Rattle.usbip_wire.proofs.Pieces.{rest_of_piece}
 use Rattle.usbip_wire.proofs.Places.{requests_placed, urbs_placed}
 use Rattle.usbip_wire.proofs.UpRead.{whole_means, whole_good, stopped_none, short_good}
@@ -69,6 +71,30 @@ answers_more phase start piece used self n all e judged =
 pub begun : (self : Held) → self.whole ≡ false → self.bad ≡ None → self ≡ record { phase = self.phase; rest = self.rest ++ []; whole = false; bad = None }
 begun self w b = ap (λ (x : Bool). record self { whole = x }) w ∙ (ap (λ (x : Option Field). record self { whole = false; bad = x }) b
     ∙ ap (λ (t : List ℕ). record { phase = self.phase; rest = t; whole = false; bad = None }) (sym (append-nil self.rest)))
+
+-- a message that is whole at the front of a piece, where nothing was held
+pub answers_front : (old mid new : Held) (piece left : List ℕ) (what : Up) → old.whole ≡ false → old.bad ≡ None → old.rest ≡ [] → IsBytes piece
+    → read (up_form old.phase) piece ≡ Ok (what, left) → mid ≡ record old { rest = old.rest ++ front piece left } → new ≡ record mid { whole = true }
+    → Answers old.phase old.rest piece (length piece - length left) what new
+answers_front old mid new piece left what unread good empty fits r is after =
+    let held : mid ≡ at old.phase old.rest piece (length piece - length left) =
+    is ∙ (ap (λ (b : Bool). record old { rest = old.rest ++ front piece left; whole = b }) unread
+    ∙ ap (λ (f : Option Field). record old { rest = old.rest ++ front piece left; whole = false; bad = f }) good) in
+    let alone : mid.rest ≡ front piece left = ap (λ (h : Held). h.rest) is ∙ ap (λ (l : List ℕ). l ++ front piece left) empty in
+    answers_whole old.phase old.rest piece (length piece - length left) mid what new (omega arith) held
+    (subst IsBytes (sym alone) (IsBytes-take (length piece - length left) piece fits))
+    (subst (λ (l : List ℕ). read (up_form mid.phase) l ≡ Ok (what, [])) (sym alone)
+    (subst (λ (p : UpPhase). read (up_form p) (front piece left) ≡ Ok (what, [])) (sym (ap (λ (h : Held). h.phase) is)) (front_read (up_form old.phase) piece left what fits r)))
+    after
+
+-- no byte stands behind it
+pub front_ends : (phase : UpPhase) (rest piece left : List ℕ) (what : Up) → rest ≡ [] → IsBytes piece → read (up_form phase) piece ≡ Ok (what, left)
+    → Ends phase (rest ++ front piece left)
+front_ends phase rest piece left what empty fits r other more w =
+    let one : read (up_form phase) (front piece left) ≡ Ok (other, more) =
+    subst (λ (l : List ℕ). read (up_form phase) (l ++ front piece left) ≡ Ok (other, more)) empty w in
+    let two = front_read (up_form phase) piece left what fits r in
+    ap (λ (p : Up × List ℕ). p.1) (ok_is (other, more) (what, []) (sym one ∙ two))
 
 -- ---- what is used ends with a refused field
 

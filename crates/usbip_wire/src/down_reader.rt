@@ -1,6 +1,6 @@
 //! The reader of what a device sends.
 
-ghost use Rattle.std.specs.Prelude.{◌≡◌, ◌+◌, ◌≤◌, [], ◌++◌, length, IfOk, Some, None, true, false};
+ghost use Rattle.std.specs.Prelude.{◌≡◌, ◌+◌, ◌≤◌, [], ◌++◌, length, IfOk, IfSome, Some, None, true, false};
 ghost use Rattle.usbip_wire.specs.declared.down.DownPhase.TheVariants.{Ops, Urbs};
 ghost use Rattle.usbip_wire.specs.Dirs.{AreShort};
 ghost use Rattle.usbip_wire.specs.DownForm.{after};
@@ -11,6 +11,7 @@ ghost use Rattle.usbip_wire.specs.Urb.{message_max};
 use crate::dirs::Dirs;
 use crate::down::{Down, DownPhase, DownStep};
 use crate::down_reading::read_down;
+use crate::reading::are_bytes;
 use crate::room::{Last, Room};
 use crate::stop::Stop;
 use crate::urb::behind_header;
@@ -109,6 +110,46 @@ impl DownReader {
     }
 
     fn fill(&mut self, piece: &[u8], dirs: &Dirs) -> DownStep
+        requires good { self.old.bad ≡ None }
+        requires unread { self.old.whole ≡ false }
+        ensures fresh { NoneWhole self.old.phase dirs.now self.old.rest
+            → Answers self.old.phase dirs.now self.old.rest piece.now result.used result.what self.new }
+        ensures always { Keeps self.old.phase dirs.now self.old.rest piece.now result.used result.what self.new }
+        ensures one_held { length self.new.rest ≤ message_max }
+        ensures within { result.used ≤ length piece.now }
+    {
+        if self.room.bytes().is_empty()
+            && let Some(step) = self.take_whole(piece, dirs)
+        {
+            return step;
+        }
+        self.gather(piece, dirs)
+    }
+
+    /// A message that is whole at the front of a piece, where nothing is held: it is judged there, once.
+    fn take_whole(&mut self, piece: &[u8], dirs: &Dirs) -> Option<DownStep>
+        requires good { self.old.bad ≡ None }
+        requires unread { self.old.whole ≡ false }
+        requires empty { self.old.rest ≡ [] }
+        ensures whole { IfSome result (λ step. Answers self.old.phase dirs.now self.old.rest piece.now step.used step.what self.new) }
+        ensures always { IfSome result (λ step. Keeps self.old.phase dirs.now self.old.rest piece.now step.used step.what self.new) }
+        ensures within { IfSome result (λ step. step.used ≤ length piece.now) }
+        ensures none { result ≡ None → self.new ≡ self.old }
+        ensures one_held { length self.new.rest ≤ message_max }
+    {
+        are_bytes(piece);
+        dirs.know();
+        let Ok((what, left)) = read_down(self.phase, dirs, piece) else {
+            return None;
+        };
+        let used = piece.len() - left.len();
+        self.add(&piece[..used]);
+        self.finish(&what);
+        Some(DownStep { used, what })
+    }
+
+    /// Holds what a message lacks, field by field, until it is whole or a field is refused.
+    fn gather(&mut self, piece: &[u8], dirs: &Dirs) -> DownStep
         requires good { self.old.bad ≡ None }
         requires unread { self.old.whole ≡ false }
         ensures fresh { NoneWhole self.old.phase dirs.now self.old.rest

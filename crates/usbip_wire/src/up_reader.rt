@@ -1,11 +1,12 @@
 //! The reader of what a client sends.
 
-ghost use Rattle.std.specs.Prelude.{◌≡◌, ◌+◌, ◌≤◌, [], ◌++◌, length, IfOk, Some, None, true, false};
+ghost use Rattle.std.specs.Prelude.{◌≡◌, ◌+◌, ◌≤◌, [], ◌++◌, length, IfOk, IfSome, Some, None, true, false};
 ghost use Rattle.usbip_wire.specs.declared.up.UpPhase.TheVariants.{Ops, Urbs};
 ghost use Rattle.usbip_wire.specs.Given.{IsBytes};
 ghost use Rattle.usbip_wire.specs.UpFed.{Held, Fed, Answers, Judged, Ends, kept, data_of};
 ghost use Rattle.usbip_wire.specs.Urb.{message_max};
 
+use crate::reading::are_bytes;
 use crate::room::{Last, Room};
 use crate::stop::Stop;
 use crate::up::{Up, UpPhase, UpStep};
@@ -98,6 +99,40 @@ impl UpReader {
     }
 
     fn fill(&mut self, piece: &[u8]) -> UpStep
+        requires good { self.old.bad ≡ None }
+        requires unread { self.old.whole ≡ false }
+        ensures answers { Answers self.old.phase self.old.rest piece.now result.used result.what self.new }
+        ensures one_held { length self.new.rest ≤ message_max }
+    {
+        if self.room.bytes().is_empty()
+            && let Some(step) = self.take_whole(piece)
+        {
+            return step;
+        }
+        self.gather(piece)
+    }
+
+    /// A message that is whole at the front of a piece, where nothing is held: it is judged there, once.
+    fn take_whole(&mut self, piece: &[u8]) -> Option<UpStep>
+        requires good { self.old.bad ≡ None }
+        requires unread { self.old.whole ≡ false }
+        requires empty { self.old.rest ≡ [] }
+        ensures whole { IfSome result (λ step. Answers self.old.phase self.old.rest piece.now step.used step.what self.new) }
+        ensures none { result ≡ None → self.new ≡ self.old }
+        ensures one_held { length self.new.rest ≤ message_max }
+    {
+        are_bytes(piece);
+        let Ok((what, left)) = read_up(self.phase, piece) else {
+            return None;
+        };
+        let used = piece.len() - left.len();
+        self.add(&piece[..used]);
+        self.finish();
+        Some(UpStep { used, what })
+    }
+
+    /// Holds what a message lacks, field by field, until it is whole or a field is refused.
+    fn gather(&mut self, piece: &[u8]) -> UpStep
         requires good { self.old.bad ≡ None }
         requires unread { self.old.whole ≡ false }
         ensures answers { Answers self.old.phase self.old.rest piece.now result.used result.what self.new }

@@ -1,4 +1,4 @@
-use Rattle.host_hub.proofs.Accounts.{account_tended}
+use Rattle.host_hub.proofs.AccountTurns.{account_tended}
 use Rattle.host_hub.proofs.recorded.accounts_are_tended.Goals as goal
 
 pub returns : goal.returns

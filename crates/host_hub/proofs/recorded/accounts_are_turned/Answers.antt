@@ -1,7 +1,7 @@
 use Rattle.std.proofs.Common.{refl}
 use Rattle.host_hub.specs.declared.outcome.End.TheVariants as end
 use Rattle.host_hub.specs.Tied.{Closed, Failed}
-use Rattle.host_hub.proofs.Accounts.{account_sent}
+use Rattle.host_hub.proofs.AccountTurns.{account_sent}
 use Rattle.host_hub.proofs.Turns.{account_counted, feeds_on, turns_failed, turns_fed, turns_idle, turns_unpolled, turns_unsent}
 use Rattle.host_hub.proofs.recorded.accounts_are_turned.Goals as goal
 

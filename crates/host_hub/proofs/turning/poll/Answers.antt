@@ -2,7 +2,8 @@ use Rattle.std.proofs.Common.{◌++◌, [], refl, sym, subst, take}
 use Rattle.tmc_base.specs.declared.link.PollStep.{PollStep}
 use Rattle.tmc_base.specs.Link.{got_count}
 use Rattle.tmc_base.specs.Told.{CameIn}
-use Rattle.host_hub.specs.HubCalls.{EndsPoll, KeepsPoll, TurnsOn, said_of}
+use Rattle.host_hub.specs.HubCalls.{EndsPoll, TurnsOn, said_of}
+use Rattle.host_hub.specs.LinkCalls.{KeepsPoll}
 use Rattle.host_hub.proofs.Calling.{either_poll, neither_poll, rose_some}
 use Rattle.host_hub.proofs.Entering.{same_births}
 use Rattle.host_hub.proofs.turning.poll.Goals as goal

@@ -3,7 +3,8 @@ use Rattle.std.specs.Prelude.{◌==◌}
 use Rattle.tmc_base.specs.declared.link.SendStep.{SendStep}
 use Rattle.tmc_base.specs.Link.{SendsWithin, took_count}
 use Rattle.tmc_base.specs.Told.{WentOut}
-use Rattle.host_hub.specs.HubCalls.{EndsSend, KeepsSend, SendsOn}
+use Rattle.host_hub.specs.HubCalls.{EndsSend}
+use Rattle.host_hub.specs.LinkCalls.{KeepsSend, SendsOn}
 use Rattle.host_hub.proofs.Calling.{either_send, neither_send, rose_some, sends_once, some_length}
 use Rattle.host_hub.proofs.Entering.{same_births}
 use Rattle.host_hub.proofs.turning.send.Goals as goal

@@ -2,7 +2,8 @@ use Rattle.std.proofs.Common.{◌∙◌, ◌++◌, ℕ, [], List, take, drop, re
 use Rattle.std.proofs.lemmas.List.{length-drop}
 use Rattle.host_hub.specs.Fed.{Fed}
 use Rattle.host_hub.proofs.Leaving.{keeps_then}
-use Rattle.host_hub.proofs.Takings.{ended_some, fed_again, fed_ended, fed_nothing, fed_then, feeds_on, left_behind, not_stopped_yet, runs_on}
+use Rattle.host_hub.proofs.TakingsInRow.{ended_some, fed_again, fed_ended, fed_nothing, fed_then, feeds_on, left_behind, runs_on}
+use Rattle.host_hub.proofs.Falls.{not_stopped_yet}
 use Rattle.host_hub.proofs.hub_core.HubCore.feed.Goals as goal
 
 pub answers-init : goal.answers-init

@@ -8,7 +8,7 @@ use Rattle.usbip_wire.proofs.Forms.{missing, within_most}
 use Rattle.usbip_wire.proofs.Pieces.{next_of_piece}
 use Rattle.usbip_wire.proofs.DownRead.{down_within, none_ends}
 use Rattle.usbip_wire.proofs.DownFeeding.{begun, ended, answers_whole, answers_bad, answers_more, still_ends, keeps_whole, EndsHere, none_missing, still_missing}
-use Rattle.usbip_wire.proofs.down_reader.DownReader.fill.Goals as goal
+use Rattle.usbip_wire.proofs.down_reader.DownReader.gather.Goals as goal
 
 pub loop-what-init : goal.loop-what-init
 loop-what-init c = record {

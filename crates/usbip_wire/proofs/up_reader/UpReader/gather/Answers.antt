@@ -7,7 +7,7 @@ use Rattle.usbip_wire.proofs.Forms.{exact, missing, within_most}
 use Rattle.usbip_wire.proofs.Pieces.{next_of_piece}
 use Rattle.usbip_wire.proofs.UpRead.{up_within}
 use Rattle.usbip_wire.proofs.UpFeeding.{begun, answers_whole, answers_bad, answers_more, EndsHere, none_missing, still_missing}
-use Rattle.usbip_wire.proofs.up_reader.UpReader.fill.Goals as goal
+use Rattle.usbip_wire.proofs.up_reader.UpReader.gather.Goals as goal
 
 pub loop-what-init : goal.loop-what-init
 loop-what-init c = record {
