@@ -57,6 +57,7 @@ asked_so limit message became said hub rested text within asked leads same rests
     let goes = first_ticket limit message said leads.new within asked (goes_as 1 1 (ask 0 limit message) begun leads.new became said same leads.goes) in
     let last = rests leads.new leads.behind in
     record {
+      begins = record { number = omega arith; some = omega arith; most = omega arith };
       world = last.new;
       goes = (leads.new, goes, last.new, last.goes, refl);
       tells = tells last.new last.behind;

@@ -2,10 +2,9 @@
 
 ghost use Rattle.std.specs.Prelude.{ℕ, IfOk};
 ghost use Rattle.tmc_world.specs.World.{Worldly, IsBehind};
-ghost use Rattle.tmc_tool.specs.Told.{MayBegin, Tells};
+ghost use Rattle.tmc_tool.specs.Told.{Tells};
 
 use event_text::{EventAnswer, put_report};
-use host_joint::joints_begin;
 use std::alloc::Global;
 use tmc_base::Memory;
 use tmc_world::World;
@@ -16,9 +15,9 @@ pub(crate) fn report(
     answers: &[Option<EventAnswer>],
     world: &World,
 ) -> Result<Vec<u8>, Memory>
-    ensures { IfOk result (λ text. (first depth : ℕ) (now : Worldly) → MayBegin first depth → IsBehind first depth now world.now.hub → Tells first depth now answers.now text.items) }
+    ensures { IfOk result (λ text. (first depth : ℕ) (now : Worldly) → IsBehind first depth now world.now.hub → Tells first depth now answers.now text.items) }
 {
-    joints_begin();
+    world.holds();
     let mut text = Vec::new(alloc);
     let hub = world.hub();
     put_report(

@@ -7,6 +7,6 @@ pub returns : goal.returns
 returns c =
     let went = c.in_ok-answers.ensures c.args.script.now.first c.args.script.now.depth begun c.in_ok-world.ensures in
     IfOk-weaker c.report.result _ _
-    (λ text tells. replayed_so c.args.script.now c.in_ok-answers.answers.items _ text (rw c.as_slice.ensures at went)
-    (λ now behind. rw c.deref.ensures.value at (tells c.args.script.now.first c.args.script.now.depth now c.requires behind)))
+    (λ text tells. replayed_so c.args.script.now c.in_ok-answers.answers.items _ text c.requires (rw c.as_slice.ensures at went)
+    (λ now behind. rw c.deref.ensures.value at (tells c.args.script.now.first c.args.script.now.depth now behind)))
     c.report.ensures
