@@ -49,6 +49,11 @@ fit-append : (a b : List Put) → AllAnswers IsFit a → AllAnswers IsFit b → 
 fit-append [] b h k = k
 fit-append (x ∷ a) b h k = (h.0, fit-append a b h.1 k)
 
+pub fits_step : (laws : TieLaws) (run : List Entry) (s t : State) (move : Move) (ups : List up.Message) (downs puts : List Put) → Runs start run s → Steps s move puts t → AllFitting (taken move ++ ups)
+    → AllAnswers IsFit downs → AllAnswers IsFit (downs ++ puts)
+fits_step laws run s t move ups downs puts reached step fitting fits =
+    fit-append downs puts fits (all_fit s t move ups puts (λ e. laws.ask.reaches.fits run s e reached) fitting (laws.answers run s t move puts reached step) (laws.fit run s t move puts reached step))
+
 bond_step : (laws : TieLaws) (Holds : List up.Message → List Put → State → Type 0) (asked : Endpoint → List SubmitHead) (unlinks : List UnlinkHead) → Keeps Holds asked unlinks
     → (next : ℕ) (ups : List up.Message) (downs puts : List Put) (s t : State) (move : Move) → Steps s move puts t → move ≢ Unplug
     → Bond Holds asked unlinks next (taken move ++ ups) downs s → Bond Holds asked unlinks next ups (downs ++ puts) t
@@ -58,8 +63,7 @@ bond_step laws Holds asked unlinks keeps next ups downs puts s t move step plugg
   lines = lines_step laws.ask.reaches bond.run asked unlinks s t move puts ups downs bond.reached step bond.fitting bond.order bond.lines;
   fitting = fitting_behind (taken move) ups bond.fitting;
   order = order_behind (taken move) ups bond.order;
-  fits = fit-append downs puts bond.fits
-      (all_fit s t move ups puts (λ e. laws.ask.reaches.fits bond.run s e bond.reached) bond.fitting (laws.answers bond.run s t move puts bond.reached step) (laws.fit bond.run s t move puts bond.reached step));
+  fits = fits_step laws bond.run s t move ups downs puts bond.reached step bond.fitting bond.fits;
   rises = laws.rises s t move puts ups step bond.rises;
   below = laws.below next s t move puts ups step bond.below;
   held = keeps bond.run s t move ups downs puts bond.reached step plugged bond.fitting bond.order bond.lines bond.held;
@@ -124,7 +128,7 @@ stands_keeps position closed run s t move ups downs puts reached step plugged fi
     (record { outs = (empty_at (asked_of None) (taken move ++ ups) downs s BulkOut lines refl).sent; ins = (empty_at (asked_of None) (taken move ++ ups) downs s BulkIn lines refl).sent; unlinks = none_linked (asked_of None) (taken move ++ ups) downs s lines })
     (empty_at (asked_of None) (taken move ++ ups) downs s Control lines refl).queue step.leads at
 
-plugged_of : (move : Move) → move ≢ Unplug → IsPlugged move
+pub plugged_of : (move : Move) → move ≢ Unplug → IsPlugged move
 plugged_of Unplug h = h refl
 plugged_of _ h = tt
 

@@ -39,7 +39,7 @@ use Rattle.host_joint.specs.Stage.{Ran}
 use Rattle.host_joint.specs.Hand.{Hand}
 use Rattle.host_joint.specs.Tie.{IsUndisturbed, asked_of, IsGood, Tie, IsGiven}
 use Rattle.host_joint.specs.Asking.{StaysPlugged}
-use Rattle.host_joint.specs.Bond.{Situation, Bound}
+use Rattle.host_joint.specs.Bond.{Situation, Bond, Bound}
 use Rattle.usbip_wire.specs.declared.unlink.UnlinkHead.{UnlinkHead}
 use Rattle.std.proofs.lemmas.Bool.{ne_eqb}
 use Rattle.usbip_wire.specs.Dirs.{is_unlink}
@@ -272,7 +272,7 @@ bound_kept stays never situation waits unlinks next = record {
 -- ---- what comes next
 
 -- nothing is on its way to a device, where no list has anything
-no_ups : (ups : List up.Message) → AllFitting ups → unlinks_in ups ≡ [] → ((e : Endpoint) → sent_to e ups ≡ []) → ups ≡ []
+pub no_ups : (ups : List up.Message) → AllFitting ups → unlinks_in ups ≡ [] → ((e : Endpoint) → sent_to e ups ≡ []) → ups ≡ []
 no_ups [] fit none empty = refl
 no_ups (up.Unlink head ∷ ups) fit none empty = absurd (cc)
 no_ups (up.Submit head transferred ∷ ups) fit none empty = absurd (some (sym (empty fit.0.endpoint) ∙ own))
@@ -467,21 +467,26 @@ submit_found head unlinks a transferred bytes same spelled = (record { dir = hea
     found : submit_of (find a.seqnum (entries_of (Some head) unlinks)) ≡ Some (head.dir, head.length)
     found = rw (eq-eqb head.seqnum a.seqnum (sym same)) refl
 
-pub first_spelled : (situation : Situation) (waits : Option SubmitHead) (unlinks : List UnlinkHead) (next : ℕ) (put : Put) (ups : List up.Message) (downs : List Put) (s : State) (bytes : List ℕ) → IsApart waits unlinks
-    → Bound situation waits unlinks next ups (put ∷ downs) s → SpellsPut put bytes → SpellsAnswer (entries_of waits unlinks) (message_of put) bytes
-first_spelled situation None unlinks next (Submitted asked a transferred) ups downs s bytes apart bound spelled =
-    first_asked asked _ (submit_answered (asked_of None) unlinks ups asked a transferred downs s bound.bond.fits.0.0.endpoint bound.bond.fits.0.0.number bound.bond.lines).1
-first_spelled situation (Some head) unlinks next (Submitted asked a transferred) ups downs s bytes apart bound spelled =
-    let fits = bound.bond.fits.0.0 in
-    let same = the_one (eqb head.ep (number_of fits.endpoint)) head asked _ (submit_answered (asked_of (Some head)) unlinks ups asked a transferred downs s fits.endpoint fits.number bound.bond.lines).1 in
-    submit_found head unlinks a transferred bytes (bound.bond.fits.0.1.number ∙ ap (λ (x : SubmitHead). x.seqnum) same)
+-- the first answer of a bond is spelled as one to what is not answered
+pub first_of_bond : (Holds : List up.Message → List Put → State → Type 0) (waits : Option SubmitHead) (unlinks : List UnlinkHead) (next : ℕ) (put : Put) (ups : List up.Message) (downs : List Put) (s : State) (bytes : List ℕ) → IsApart waits unlinks
+    → Bond Holds (asked_of waits) unlinks next ups (put ∷ downs) s → SpellsPut put bytes → SpellsAnswer (entries_of waits unlinks) (message_of put) bytes
+first_of_bond Holds None unlinks next (Submitted asked a transferred) ups downs s bytes apart bond spelled =
+    first_asked asked _ (submit_answered (asked_of None) unlinks ups asked a transferred downs s bond.fits.0.0.endpoint bond.fits.0.0.number bond.lines).1
+first_of_bond Holds (Some head) unlinks next (Submitted asked a transferred) ups downs s bytes apart bond spelled =
+    let fits = bond.fits.0.0 in
+    let same = the_one (eqb head.ep (number_of fits.endpoint)) head asked _ (submit_answered (asked_of (Some head)) unlinks ups asked a transferred downs s fits.endpoint fits.number bond.lines).1 in
+    submit_found head unlinks a transferred bytes (bond.fits.0.1.number ∙ ap (λ (x : SubmitHead). x.seqnum) same)
     (subst (λ (x : SubmitHead). SpellsRetSubmit (record { dir = x.dir; size = x.length }) a transferred bytes) same spelled)
-first_spelled situation waits unlinks next (Unlinked asked a) ups downs s bytes apart bound spelled =
-    let taken = unlink_answered (asked_of waits) unlinks ups asked a downs s bound.bond.lines in
+first_of_bond Holds waits unlinks next (Unlinked asked a) ups downs s bytes apart bond spelled =
+    let taken = unlink_answered (asked_of waits) unlinks ups asked a downs s bond.lines in
     let found = unlink_found waits asked taken.0 (subst (λ (l : List UnlinkHead). IsApart waits l) taken.1 apart) in (
-      subst (λ (n : ℕ). is_unlink (find n (entries_of waits unlinks)) ≡ true) (sym bound.bond.fits.0.number) (subst (λ (l : List UnlinkHead). is_unlink (find asked.seqnum (entries_of waits l)) ≡ true) (sym taken.1) found),
+      subst (λ (n : ℕ). is_unlink (find n (entries_of waits unlinks)) ≡ true) (sym bond.fits.0.number) (subst (λ (l : List UnlinkHead). is_unlink (find asked.seqnum (entries_of waits l)) ≡ true) (sym taken.1) found),
       spelled,
     )
+
+pub first_spelled : (situation : Situation) (waits : Option SubmitHead) (unlinks : List UnlinkHead) (next : ℕ) (put : Put) (ups : List up.Message) (downs : List Put) (s : State) (bytes : List ℕ) → IsApart waits unlinks
+    → Bound situation waits unlinks next ups (put ∷ downs) s → SpellsPut put bytes → SpellsAnswer (entries_of waits unlinks) (message_of put) bytes
+first_spelled situation waits unlinks next put ups downs s bytes apart bound spelled = first_of_bond _ waits unlinks next put ups downs s bytes apart bound.bond spelled
 
 pub next_of : ((entries : List Outstanding) → ArePrefixFree (SpellsAnswer entries)) → (devid : ℕ) (situation : Situation) (waits : Option SubmitHead) (unlinks : List UnlinkHead) (next : ℕ) (written read this more : List ℕ) (message : down.Message) (steps : List RunStep) (s : State)
     → IsApart waits unlinks → Joined devid situation waits unlinks next written read steps s → out_bytes steps ≡ read ++ (this ++ more) → SpellsAnswer (entries_of waits unlinks) message this

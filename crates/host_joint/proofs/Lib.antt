@@ -55,3 +55,12 @@ mod Operating
 mod Triggering
 mod TriggerTied
 mod Shutting
+mod Reasoning
+mod Freeing
+mod Idling
+mod Racing
+mod ActRacing
+mod TriggerRacing
+mod Ticketed
+mod Telling
+mod Lettered

@@ -47,7 +47,7 @@ use Rattle.host_joint.proofs.Requesting.{Meaning, only_class, OnlyClass, Apart, 
 -- ---- what is logged meanwhile
 
 -- nothing was logged, or an entry that is no act
-data Others (s t : State) : Type 0 where
+pub data Others (s t : State) : Type 0 where
   NoEntry : t.log ≡ s.log → Others s t
   OneOther : (e : LogEntry) → NoAct (e ∷ []) → t.log ≡ s.log ++ e ∷ [] → Others s t
 
@@ -72,7 +72,7 @@ no_act s Notify (entry.Remote a) other may = may
 no_act s (Halt e) (entry.Remote a) other may = may
 no_act s Unplug (entry.Remote a) other may = may
 
-others : (s t : State) (move : Move) → move ≢ Answer → Adds (MayLog s move) s t → Others s t
+pub others : (s t : State) (move : Move) → move ≢ Answer → Adds (MayLog s move) s t → Others s t
 others s t move other (LogsNothing log standing) = NoEntry log
 others s t move other (LogsOne e may log after) = OneOther e (no_act s move e other may) log
 
@@ -87,7 +87,7 @@ act-append (entry.Poll seq ∷ a) b h k = act-append a b h k
 act-append (entry.Clear ∷ a) b h k = act-append a b h k
 act-append (entry.Remote x ∷ a) b h k = absurd h
 
-none_goes : (since : List LogEntry) (s t : State) → Others s t → NoneSince since s.log → NoneSince since t.log
+pub none_goes : (since : List LogEntry) (s t : State) → Others s t → NoneSince since s.log → NoneSince since t.log
 none_goes since s t (NoEntry same) h = subst (λ (l : List LogEntry). NoneSince since l) (sym same) h
 none_goes since s t (OneOther e other log) h = record {
   more = h.more ++ e ∷ [];
@@ -95,7 +95,7 @@ none_goes since s t (OneOther e other log) h = record {
   none = act-append h.more (e ∷ []) h.none other;
 }
 
-one_goes : (a : RemoteAct) (since : List LogEntry) (s t : State) → Others s t → OneSince a since s.log → OneSince a since t.log
+pub one_goes : (a : RemoteAct) (since : List LogEntry) (s t : State) → Others s t → OneSince a since s.log → OneSince a since t.log
 one_goes a since s t (NoEntry same) h = subst (λ (l : List LogEntry). OneSince a since l) (sym same) h
 one_goes a since s t (OneOther e other log) h = record {
   before = h.before;
@@ -203,7 +203,7 @@ no_poll a head s t is (class.DoesPollFirst submit behind setup tag line asks row
 
 -- ---- all moves
 
-quiet_out : (a : RemoteAct) (since : List LogEntry) (head : SubmitHead) (coming : List Sent) (events : List Event) (s : State) → ActAt a since head coming events s → IsAt rests s
+pub quiet_out : (a : RemoteAct) (since : List LogEntry) (head : SubmitHead) (coming : List Sent) (events : List Event) (s : State) → ActAt a since head coming events s → IsAt rests s
 quiet_out a since head coming events s (ActComes come empty free rest nothing) = rest
 quiet_out a since head coming events s (ActPends come empty pends rest nothing) = rest
 quiet_out a since head coming events s (ActDone come given free rest one) = rest
@@ -265,7 +265,7 @@ act_begins a head next ups downs s is fits number bound =
           (ActComes (coming Control head ups is.number line.sent) line.events line.queue bound.bond.held (since_now s.log));
     }
 
-done_at : (a : RemoteAct) (since : List LogEntry) (head : SubmitHead) (b : RetSubmitHead) (transferred : List ℕ) (ups : List up.Message) (downs : List Put) (s : State) → head.ep ≡ 0
+pub done_at : (a : RemoteAct) (since : List LogEntry) (head : SubmitHead) (b : RetSubmitHead) (transferred : List ℕ) (ups : List up.Message) (downs : List Put) (s : State) → head.ep ≡ 0
     → ActAt a since head (sent_to Control ups) (events_of Control (Submitted head b transferred ∷ downs)) s
     → (b ≡ record { seqnum = head.seqnum; status = success; actual = 1 }) × (transferred ≡ STATUS_SUCCESS ∷ []) × OneSince a since s.log × IsAt rests s
 done_at a since head b transferred ups downs s own (ActComes come none free rest nothing) = no_event _ _ (sym (own_event Control head b transferred downs own) ∙ none)

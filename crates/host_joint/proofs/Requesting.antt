@@ -393,7 +393,7 @@ clear_answers head e position one other coming downs puts s t is letter (class.B
     (ap (λ (x : State). x.control) state ∙ halt_control e (record s { control = [] }))
     (says_is one other [] (with_halt e false (record s { control = [] })) t state (letter.clears (record s { control = [] }) (at_rest position s rest)))
 
-no_row_pend : (head : SubmitHead) (e : Endpoint) (s t : State) (puts : List Put) → OnlyClearHalt head e → class.Postpones s puts t → s.control ≡ arrived head [] ∷ [] → ⊥
+pub no_row_pend : (head : SubmitHead) (e : Endpoint) (s t : State) (puts : List Put) → OnlyClearHalt head e → class.Postpones s puts t → s.control ≡ arrived head [] ∷ [] → ⊥
 no_row_pend head e s t puts is (class.DoesPostpone submit behind setup found layout line asks row pending put to) pends =
     let g = one_pending submit (arrived head []) behind (sym line ∙ pends) in is.not_class setup found (subst (λ (x : Pending). Asks x setup) g.0 asks) row
 
@@ -401,13 +401,13 @@ no_row_poll : (head : SubmitHead) (e : Endpoint) (s t : State) → OnlyClearHalt
 no_row_poll head e s t is (class.DoesPollFirst submit behind setup tag line asks row good fresh free polls) pends =
     let g = one_pending submit (arrived head []) behind (sym line ∙ pends) in is.not_class setup (ReadStatus tag) (subst (λ (x : Pending). Asks x setup) g.0 asks) row
 
-rest_out : (head : SubmitHead) (position : Position) (one other : Choice) (coming : List Sent) (events : List Event) (s : State) → RequestAt head position one other coming events s → s.bulk_out ≡ []
+pub rest_out : (head : SubmitHead) (position : Position) (one other : Choice) (coming : List Sent) (events : List Event) (s : State) → RequestAt head position one other coming events s → s.bulk_out ≡ []
 rest_out head position one other coming events s (recovery.Comes come empty free rest) = rest.bulk_out
 rest_out head position one other coming events s (recovery.Pends come empty pends rest) = rest.bulk_out
 rest_out head position one other coming events s (recovery.Answered layout come given free (SaysOne a rest)) = rest.bulk_out
 rest_out head position one other coming events s (recovery.Answered layout come given free (SaysOther a rest)) = rest.bulk_out
 
-rest_in : (head : SubmitHead) (position : Position) (one other : Choice) (coming : List Sent) (events : List Event) (s : State) → RequestAt head position one other coming events s → s.bulk_in ≡ []
+pub rest_in : (head : SubmitHead) (position : Position) (one other : Choice) (coming : List Sent) (events : List Event) (s : State) → RequestAt head position one other coming events s → s.bulk_in ≡ []
 rest_in head position one other coming events s (recovery.Comes come empty free rest) = rest.bulk_in
 rest_in head position one other coming events s (recovery.Pends come empty pends rest) = rest.bulk_in
 rest_in head position one other coming events s (recovery.Answered layout come given free (SaysOne a rest)) = rest.bulk_in

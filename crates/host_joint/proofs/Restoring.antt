@@ -79,13 +79,13 @@ check_is seqnum = record { number = refl; way = refl; setup = row ends CheckIn; 
 pub clear_is : (seqnum : ℕ) → IsClass (clear_submit seqnum) Clear
 clear_is seqnum = record { number = refl; way = refl; setup = row ends Clear; asks = clear_asks seqnum; row = record { fits = tt; is = refl }; room = lit≤ tt }
 
-check_clear_is : (seqnum : ℕ) → IsClass (check_clear_submit seqnum) CheckClear
+pub check_clear_is : (seqnum : ℕ) → IsClass (check_clear_submit seqnum) CheckClear
 check_clear_is seqnum = record { number = refl; way = refl; setup = row ends CheckClear; asks = check_clear_asks seqnum; row = record { fits = tt; is = refl }; room = lit≤ tt }
 
-in_is : (seqnum : ℕ) → IsClearHalt (usable_in seqnum) BulkIn
+pub in_is : (seqnum : ℕ) → IsClearHalt (usable_in seqnum) BulkIn
 in_is seqnum = record { number = refl; setup = in_setup; asks = in_asks seqnum; row = record { request_type = refl; request = refl; value = refl; index = refl } }
 
-out_is : (seqnum : ℕ) → IsClearHalt (usable_out seqnum) BulkOut
+pub out_is : (seqnum : ℕ) → IsClearHalt (usable_out seqnum) BulkOut
 out_is seqnum = record { number = refl; setup = out_setup; asks = out_asks seqnum; row = record { request_type = refl; request = refl; value = refl; index = refl } }
 
 -- ---- Bulk-IN halts

@@ -33,7 +33,7 @@ abbrev pub with_control : SubmitHead → State → State
 with_control head s = record s { control = arrived head [] ∷ [] }
 
 -- a class request, as the row of its table says it
-class_answers : (s : State) (head : SubmitHead) (request : ClassRequest) (served : Served) → s.presence ≡ Plugged → s.control ≡ arrived head [] ∷ []
+pub class_answers : (s : State) (head : SubmitHead) (request : ClassRequest) (served : Served) → s.presence ≡ Plugged → s.control ≡ arrived head [] ∷ []
     → Asks (arrived head []) (row ends request) → TagFits request → Serves request (arrived head []) (record s { control = [] }) served
     → Steps s Answer (control_answer (arrived head []) (row ends request) served.layout ∷ served.behind) served.state
 class_answers s head request served plugged first asks fits serves = record {
@@ -95,16 +95,15 @@ aborts_none = (
   ),
 )
 
+pub free_comes : Steps halted_inside (Comes (up.Submit (usable_in 8) [])) [] (with_control (usable_in 8) halted_inside)
+free_comes =
+    comes halted_inside (usable_in 8) [] Control (record { plugged = refl; wide = refl; eight = refl; setup = refl; carried = refl; bytes = refl; free = refl; few = refl }) (record { number = refl; way = refl; usable = refl })
+
+pub free_answers : Steps (with_control (usable_in 8) halted_inside) Answer (answered (usable_in 8) success 0 [] ∷ []) usable_again
+free_answers = standard_answers (with_control (usable_in 8) halted_inside) (usable_in 8) in_setup (ClearHalt BulkIn) refl refl (in_asks 8) (record { request_type = refl; request = refl; value = refl; index = refl })
+
 pub frees : Runs halted_inside freeing usable_again
-frees = (
-  with_control (usable_in 8) halted_inside,
-  comes halted_inside (usable_in 8) [] Control (record { plugged = refl; wide = refl; eight = refl; setup = refl; carried = refl; bytes = refl; free = refl; few = refl }) (record { number = refl; way = refl; usable = refl }),
-  (
-    usable_again,
-    standard_answers (with_control (usable_in 8) halted_inside) (usable_in 8) in_setup (ClearHalt BulkIn) refl refl (in_asks 8) (record { request_type = refl; request = refl; value = refl; index = refl }),
-    refl,
-  ),
-)
+frees = (with_control (usable_in 8) halted_inside, free_comes, (usable_again, free_answers, refl))
 
 -- or all is cleared
 
@@ -170,7 +169,7 @@ wants_packet = record cancelled_inside { side = Sending (record { tag = 4; size 
 abbrev pub gave_packet : State
 gave_packet = record cancelled_inside { side = Idle; running = AbortsIn false 0 }
 
-all_wide : (ns : List ℕ) → all_below (2 ^ 32) ns ≡ true → AreWide ns
+pub all_wide : (ns : List ℕ) → all_below (2 ^ 32) ns ≡ true → AreWide ns
 all_wide ns e = below (2 ^ 32) ns (lit< tt) e
 
 pub cancels_second : Runs requested_second cancelling_second cancelled_inside

@@ -25,7 +25,7 @@ use Rattle.host_joint.proofs.Writing.{other_asked}
 use Rattle.host_joint.proofs.Joining.{IsKept, Never, plugged-append, plugged_front, rising_asked, apart_asked, few_total}
 use Rattle.host_joint.proofs.Triggering.{Alone, trigger_goes, unused}
 
-alone : (head : SubmitHead) (ups : List up.Message) (downs : List Put) (s : State) → head.ep ≡ 1 → Lines (asked_of (Some head)) [] ups downs s → Alone ups s
+pub alone : (head : SubmitHead) (ups : List up.Message) (downs : List Put) (s : State) → head.ep ≡ 1 → Lines (asked_of (Some head)) [] ups downs s → Alone ups s
 alone head ups downs s own lines =
     let control = empty_at (asked_of (Some head)) ups downs s Control lines (other_asked BulkOut Control head own (λ e. cc)) in
     let ins = empty_at (asked_of (Some head)) ups downs s BulkIn lines (other_asked BulkOut BulkIn head own (λ e. cc)) in
@@ -57,7 +57,7 @@ trigger_begins job next ups downs s is number bound =
           (TriggerComes (coming job.head job.bytes ups is.transfer.number line.sent) line.events bound.bond.held (subst (λ (n : ℕ). NoTrigger n s.log) (sym number) (unused next s.log _ bound.bond.below)));
     }
 
-done_at : (job : Job) (a : RetSubmitHead) (transferred : List ℕ) (ups : List up.Message) (downs : List Put) (s : State) → job.head.ep ≡ 1 → TriggerAt job (sent_to BulkOut ups) (events_of BulkOut (Submitted job.head a transferred ∷ downs)) s
+pub done_at : (job : Job) (a : RetSubmitHead) (transferred : List ℕ) (ups : List up.Message) (downs : List Put) (s : State) → job.head.ep ≡ 1 → TriggerAt job (sent_to BulkOut ups) (events_of BulkOut (Submitted job.head a transferred ∷ downs)) s
     → (a.seqnum ≡ job.head.seqnum) × (((a.status ≡ success) × (a.actual ≡ job.head.length) × OneTrigger job.head.seqnum s.log) ⊎ ((a.status ≡ stalled) × (s.halted.bulk_out ≡ true) × NoTrigger job.head.seqnum s.log)) × IsAt rests s
 done_at job a transferred ups downs s own (TriggerComes come none rest nothing) = no_event _ _ (sym (own_event BulkOut job.head a transferred downs own) ∙ none)
 done_at job a transferred ups downs s own (TriggerPends come none pends rest nothing) = no_event _ _ (sym (own_event BulkOut job.head a transferred downs own) ∙ none)

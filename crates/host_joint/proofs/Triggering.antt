@@ -50,7 +50,7 @@ trigger-append n (entry.Clear ∷ a) b h k = trigger-append n a b h k
 trigger-append n (entry.Remote x ∷ a) b h k = trigger-append n a b h k
 
 -- nothing was logged, or an entry that is no trigger
-data Others (n : ℕ) (s t : State) : Type 0 where
+pub data Others (n : ℕ) (s t : State) : Type 0 where
   NoEntry : t.log ≡ s.log → Others n s t
   OneOther : (e : LogEntry) → NoTrigger n (e ∷ []) → t.log ≡ s.log ++ e ∷ [] → Others n s t
 
@@ -75,15 +75,15 @@ no_trigger n s Notify (entry.Trigger seq) other may = absurd may
 no_trigger n s (Halt e) (entry.Trigger seq) other may = absurd may
 no_trigger n s Unplug (entry.Trigger seq) other may = absurd may
 
-others : (n : ℕ) (s t : State) (move : Move) → ((count : ℕ) → move ≢ Take count) → Adds (MayLog s move) s t → Others n s t
+pub others : (n : ℕ) (s t : State) (move : Move) → ((count : ℕ) → move ≢ Take count) → Adds (MayLog s move) s t → Others n s t
 others n s t move other (LogsNothing log standing) = NoEntry log
 others n s t move other (LogsOne e may log after) = OneOther e (no_trigger n s move e other may) log
 
-none_goes : (n : ℕ) (s t : State) → Others n s t → NoTrigger n s.log → NoTrigger n t.log
+pub none_goes : (n : ℕ) (s t : State) → Others n s t → NoTrigger n s.log → NoTrigger n t.log
 none_goes n s t (NoEntry same) h = subst (λ (l : List LogEntry). NoTrigger n l) (sym same) h
 none_goes n s t (OneOther e other log) h = subst (λ (l : List LogEntry). NoTrigger n l) (sym log) (trigger-append n s.log (e ∷ []) h other)
 
-one_goes : (n : ℕ) (s t : State) → Others n s t → OneTrigger n s.log → OneTrigger n t.log
+pub one_goes : (n : ℕ) (s t : State) → Others n s t → OneTrigger n s.log → OneTrigger n t.log
 one_goes n s t (NoEntry same) h = subst (λ (l : List LogEntry). OneTrigger n l) (sym same) h
 one_goes n s t (OneOther e other log) h = record {
   before = h.before;
@@ -354,10 +354,10 @@ ins_of job coming events s (TriggerPends come none pends rest nothing) = (rest.b
 ins_of job coming events s (TriggerTaken come one rest triggered) = (rest.bulk_in, rest.side, rest.running)
 ins_of job coming events s (TriggerShut come one shuts rest nothing) = (rest.bulk_in, rest.side, rest.running)
 
-no_begin : (s t : State) (count : ℕ) → s.side ≡ Idle → «in».Begins s count t → ⊥
+pub no_begin : (s t : State) (count : ℕ) → s.side ≡ Idle → «in».Begins s count t → ⊥
 no_begin s t count idle («in».DoesBegin tag size owes free low high logs) = let e : Idle ≡ Owed tag size = sym idle ∙ owes in cc
 
-no_notify : (s t : State) (puts : List Put) → s.interrupt_in ≡ [] → status.Notifies s puts t → ⊥
+pub no_notify : (s t : State) (puts : List Put) → s.interrupt_in ≡ [] → status.Notifies s puts t → ⊥
 no_notify s t puts none (status.Gives submit behind packet packets line there long put is) = none_first _ _ _ none line
 no_notify s t puts none (status.NoRoom submit behind packet packets line there short put is) = none_first _ _ _ none line
 

@@ -130,7 +130,7 @@ none_given hand next put ups downs t (inr held) = by held.front held.tie held.be
     by [] tie is = let e : None ≡ Some (tells None [] put ups downs held.before tie.lines (sym is)).head = (tells None [] put ups downs held.before tie.lines (sym is)).awaited in cc
     by (p ∷ front) tie is = none_tied hand next p ups front held.before tie
 
-told_spelled : (waits : Option SubmitHead) (unlinks : List UnlinkHead) (put : Put) (downs : List Put) (bytes : List ℕ) → TellsUnplugged waits put downs → SpellsPut put bytes → SpellsAnswer (entries_of waits unlinks) (message_of put) bytes
+pub told_spelled : (waits : Option SubmitHead) (unlinks : List UnlinkHead) (put : Put) (downs : List Put) (bytes : List ℕ) → TellsUnplugged waits put downs → SpellsPut put bytes → SpellsAnswer (entries_of waits unlinks) (message_of put) bytes
 told_spelled waits unlinks put downs bytes told spelled =
     subst (λ (w : Option SubmitHead). SpellsAnswer (entries_of w unlinks) (message_of put) bytes) (sym told.awaited)
     (subst (λ (p : Put). SpellsAnswer (entries_of (Some told.head) unlinks) (message_of p) bytes) (sym told.is)

@@ -27,13 +27,17 @@ pub mod Next
 pub mod Unplugged
 pub mod Hits
 pub mod Turns
+pub mod Reasons
+pub mod Races
 -- examples
 pub mod WorkedAsks
 pub mod WorkedTies
 pub mod WorkedLines
-pub mod WorkedAhead
 pub mod WorkedPieces
+pub mod WorkedAhead
 pub mod WorkedRecoveries
 pub mod WorkedUnplugging
 pub mod WorkedTriggers
 pub mod WorkedRemotes
+pub mod WorkedReasons
+pub mod WorkedRaces

@@ -40,6 +40,14 @@ clear_submit seqnum = asking_submit seqnum 1 (0xA1 ∷ 0x05 ∷ 0x00 ∷ 0x00 �
 abbrev pub check_clear_submit : (seqnum : ℕ) → SubmitHead
 check_clear_submit seqnum = asking_submit seqnum 2 (0xA1 ∷ 0x06 ∷ 0x00 ∷ 0x00 ∷ 0x00 ∷ 0x00 ∷ 0x02 ∷ 0x00 ∷ [])
 
+-- INITIATE_ABORT_BULK_OUT of the transfer with tag 1
+abbrev pub abort_out_submit : (seqnum : ℕ) → SubmitHead
+abort_out_submit seqnum = asking_submit seqnum 2 (0xA2 ∷ 0x01 ∷ 0x01 ∷ 0x00 ∷ 0x01 ∷ 0x00 ∷ 0x02 ∷ 0x00 ∷ [])
+
+-- no transfer is in progress at power-on
+abbrev pub aborting_nothing : List Entry
+aborting_nothing = submits (abort_out_submit 1) [] ∷ step Answer (answered (abort_out_submit 1) success 2 (0x80 ∷ 0x00 ∷ []) ∷ []) ∷ []
+
 -- ---- Bulk-IN halts
 
 -- the piece has begun, and none of its bytes was given

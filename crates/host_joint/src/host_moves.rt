@@ -1,6 +1,6 @@
 //! What a host does with an ask, and what it can conclude. Each function does nothing, and its contract is the law.
 
-ghost use Rattle.std.specs.Prelude.{◌≡◌, ◌≢◌, ℕ, Some, false, true, List, [], ◌∷◌, ◌++◌, length};
+ghost use Rattle.std.specs.Prelude.{◌≡◌, ◌≢◌, ◌≤◌, ℕ, Some, false, true, List, [], ◌∷◌, ◌++◌, length};
 ghost use Rattle.usbip_wire.specs.declared.submit.SubmitHead.{SubmitHead};
 ghost use Rattle.usbip_wire.specs.declared.unlink.UnlinkHead.{UnlinkHead};
 ghost use Rattle.usbip_wire.specs.declared.ret_submit.RetSubmitHead.{RetSubmitHead};
@@ -10,10 +10,11 @@ ghost use Rattle.tmc_wire.specs.declared.header.OutHeader.TheVariants.{Request};
 ghost use Rattle.tmc_law.specs.Endpoint.{BulkOut, BulkIn, InterruptIn, number_of};
 ghost use Rattle.tmc_law.specs.State.{State};
 ghost use Rattle.tmc_law.specs.Logging.{unread};
-ghost use Rattle.tmc_law.specs.Put.{Put, Submitted, Unlinked};
-ghost use Rattle.host_joint.specs.Lines.{Gives, unlinks_in};
+ghost use Rattle.tmc_law.specs.Put.{Put, Submitted, Unlinked, success, stalled};
+ghost use Rattle.tmc_wire.specs.Standard.{header_size};
+ghost use Rattle.host_joint.specs.Lines.{Gives, unlinks_in, events_of};
 ghost use Rattle.host_joint.specs.Jobs.{Job, IsJob, last_header};
-ghost use Rattle.host_joint.specs.Reads.{IsRead};
+ghost use Rattle.host_joint.specs.Reads.{IsRead, IsHalted, gives};
 ghost use Rattle.host_joint.specs.Stage.{IsUnasked, IsInner, IsFinal, NoExec, IsAnother};
 ghost use Rattle.host_joint.specs.Asking.{Ask, Asking};
 ghost use Rattle.host_joint.specs.Hosted.{OutAnswered, InAnswered, IsNextOf, unlinks_of};
@@ -69,3 +70,19 @@ pub fn asks_are_settled_late()
     ensures reads { (ask : Ask) (ups : List up.Message) (downs : List Put) (s : State) → ask.written ≡ [] → ask.sofar ≢ [] → unlinks_in ups ≡ []
         → Asking ask ups downs s → Asking (record ask { gone = false }) ups downs s }
 {}
+
+/// Behind the first answer that tells of a halt the ask stays in hand, so that each later one can be taken, and the later ones at that endpoint tell of it
+/// too. No answer to the first read of a piece is empty: it tells of a halt, or begins with the header of the piece.
+pub fn answers_go_on()
+    ensures outs { (ask : Ask) (ups : List up.Message) (head : SubmitHead) (answer : RetSubmitHead) (transferred : List ℕ) (downs : List Put) (s : State)
+        → head.ep ≡ number_of BulkOut → answer.status ≡ stalled → Asking ask ups (Submitted head answer transferred ∷ downs) s
+        → Asking ask ups downs s × IsHalted (gives (events_of BulkOut downs)) }
+    ensures ins { (ask : Ask) (ups : List up.Message) (head : SubmitHead) (answer : RetSubmitHead) (transferred : List ℕ) (downs : List Put) (s : State)
+        → head.ep ≡ number_of BulkIn → answer.status ≡ stalled → Asking ask ups (Submitted head answer transferred ∷ downs) s
+        → Asking ask ups downs s × IsHalted (gives (events_of BulkIn downs)) }
+    ensures first { (ask : Ask) (ups : List up.Message) (head : SubmitHead) (answer : RetSubmitHead) (transferred : List ℕ) (downs : List Put) (s : State)
+        → head.ep ≡ number_of BulkIn → answer.status ≡ success → ask.read ≡ [] → Asking ask ups (Submitted head answer transferred ∷ downs) s
+        → header_size ≤ length transferred }
+{
+    answers_are_taken();
+}

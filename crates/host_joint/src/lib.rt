@@ -14,6 +14,8 @@ mod joints;
 mod lines;
 mod numbers;
 mod owned;
+mod races;
+mod reasons;
 mod recovery;
 mod remotes;
 mod ties;
@@ -25,59 +27,111 @@ mod worked_ahead;
 mod worked_lines;
 mod worked_links;
 mod worked_pieces;
+mod worked_races;
+mod worked_reasons;
 mod worked_recoveries;
 mod worked_remotes;
 mod worked_triggers;
 mod worked_unplugging;
 
-pub use accepted::{asks_halt_nothing, no_submit_is_refused};
-pub use asks::{
-    asking_stays, asks_begin, cancelled_asks_stay, nothing_comes_unasked,
-    unplugged_asks_were_in_hand, unplugging_is_the_end,
-};
-pub use bonds::{
-    bonds_stay, cancelled_answers_are_taken, cancelled_asks_own, cancels_begin,
-    messages_are_cancelled, recoveries_end, recoveries_go_on,
-};
-pub use hits::{joints_tell_hits, unlinks_tell_hits};
-pub use host_moves::{answers_are_taken, asks_are_settled_late, messages_are_written};
-pub use joints::{
-    joints_begin, joints_stay, no_answer_is_refused, the_next_answer_is_read, writes_keep_joints,
-};
-pub use lines::{hosts_keep_lines, lines_stay, what_is_answered_is_over};
-pub use numbers::{new_numbers_are_unused, new_numbers_rise, what_ran_is_kept, what_ran_is_one};
+pub use accepted::asks_halt_nothing;
+pub use accepted::no_submit_is_refused;
+pub use asks::asking_stays;
+pub use asks::asks_begin;
+pub use asks::cancelled_asks_stay;
+pub use asks::nothing_comes_unasked;
+pub use asks::unplugged_asks_were_in_hand;
+pub use asks::unplugging_is_the_end;
+pub use bonds::bonds_stay;
+pub use bonds::cancelled_answers_are_taken;
+pub use bonds::cancelled_asks_own;
+pub use bonds::cancels_begin;
+pub use bonds::messages_are_cancelled;
+pub use bonds::recoveries_end;
+pub use bonds::recoveries_go_on;
+pub use hits::joints_tell_hits;
+pub use hits::unlinks_tell_hits;
+pub use host_moves::answers_are_taken;
+pub use host_moves::answers_go_on;
+pub use host_moves::asks_are_settled_late;
+pub use host_moves::messages_are_written;
+pub use joints::joints_begin;
+pub use joints::joints_stay;
+pub use joints::no_answer_is_refused;
+pub use joints::the_next_answer_is_read;
+pub use joints::writes_keep_joints;
+pub use lines::hosts_keep_lines;
+pub use lines::lines_stay;
+pub use lines::what_is_answered_is_over;
+pub use numbers::new_numbers_are_unused;
+pub use numbers::new_numbers_rise;
+pub use numbers::what_ran_is_kept;
+pub use numbers::what_ran_is_one;
 pub use owned::what_is_read_is_owned;
-pub use recovery::{asks_hand_over, devices_rest, drains_stay, requests_stay};
-pub use remotes::{remote_tickets_are_read, remote_tickets_are_tied};
-pub use ties::{
-    answers_are_the_expected, pieces_have_no_fault, tickets_end, ties_begin, ties_own, ties_stay,
-    writes_keep_ties,
-};
-pub use triggers::{trigger_tickets_are_read, trigger_tickets_are_tied};
-pub use turns::{answers_come_in_turn, asks_ahead_hand_over};
-pub use unplugged::{
-    answers_come_until_unplugged, hosts_go_on_until_unplugged, joints_stay_until_unplugged,
-    the_next_answer_is_read_until_unplugged, ties_hold_until_unplugged, unplugged_hosts_own,
-    writes_keep_joints_until_unplugged,
-};
-pub use worked::{
-    worked_asks_are_in_hand, worked_cancels_are_bound, worked_hosts_are_tied,
-    worked_messages_are_cancelled,
-};
-pub use worked_ahead::{worked_asks_are_cancelled_ahead, worked_asks_are_written_ahead};
-pub use worked_lines::{worked_lines_are_kept, worked_numbers_rise, worked_pieces_are_numbered};
-pub use worked_links::{
-    worked_cancels_are_joined, worked_hosts_are_joined, worked_pieces_are_joined,
-    worked_recoveries_are_joined,
-};
-pub use worked_pieces::{worked_pieces_are_asked, worked_pieces_are_read};
-pub use worked_recoveries::{
-    worked_asks_hand_over, worked_cancels_are_asked, worked_cancels_are_recovered,
-    worked_clears_stay, worked_halts_are_asked, worked_halts_are_recovered, worked_requests_stay,
-    worked_unlinks_tell_hits,
-};
-pub use worked_remotes::{worked_remote_tickets_are_read, worked_remote_tickets_are_tied};
-pub use worked_triggers::{worked_trigger_tickets_are_read, worked_trigger_tickets_are_tied};
-pub use worked_unplugging::{
-    worked_asks_are_unplugged, worked_cancels_are_unplugged, worked_hosts_are_unplugged,
-};
+pub use races::remote_tickets_are_cancelled;
+pub use races::tickets_are_held;
+pub use races::tickets_are_read;
+pub use races::trigger_tickets_are_cancelled;
+pub use reasons::endpoints_stay_usable;
+pub use reasons::halts_have_reasons;
+pub use reasons::usable_joints_go_on;
+pub use recovery::asks_hand_over;
+pub use recovery::devices_rest;
+pub use recovery::drains_stay;
+pub use recovery::requests_stay;
+pub use remotes::remote_tickets_are_read;
+pub use remotes::remote_tickets_are_tied;
+pub use ties::answers_are_the_expected;
+pub use ties::pieces_have_no_fault;
+pub use ties::tickets_end;
+pub use ties::ties_begin;
+pub use ties::ties_own;
+pub use ties::ties_stay;
+pub use ties::writes_keep_ties;
+pub use triggers::trigger_tickets_are_read;
+pub use triggers::trigger_tickets_are_tied;
+pub use turns::answers_come_in_turn;
+pub use turns::asks_ahead_hand_over;
+pub use unplugged::answers_come_until_unplugged;
+pub use unplugged::hosts_go_on_until_unplugged;
+pub use unplugged::joints_stay_until_unplugged;
+pub use unplugged::the_next_answer_is_read_until_unplugged;
+pub use unplugged::ties_hold_until_unplugged;
+pub use unplugged::unplugged_hosts_own;
+pub use unplugged::writes_keep_joints_until_unplugged;
+pub use worked::worked_asks_are_in_hand;
+pub use worked::worked_cancels_are_bound;
+pub use worked::worked_hosts_are_tied;
+pub use worked::worked_messages_are_cancelled;
+pub use worked_ahead::worked_asks_are_cancelled_ahead;
+pub use worked_ahead::worked_asks_are_written_ahead;
+pub use worked_lines::worked_lines_are_kept;
+pub use worked_lines::worked_numbers_rise;
+pub use worked_lines::worked_pieces_are_numbered;
+pub use worked_links::worked_cancels_are_joined;
+pub use worked_links::worked_hosts_are_joined;
+pub use worked_links::worked_pieces_are_joined;
+pub use worked_links::worked_recoveries_are_joined;
+pub use worked_pieces::worked_pieces_are_asked;
+pub use worked_pieces::worked_pieces_are_read;
+pub use worked_races::worked_remote_tickets_are_cancelled;
+pub use worked_races::worked_tickets_are_read;
+pub use worked_races::worked_trigger_tickets_are_cancelled;
+pub use worked_reasons::worked_endpoints_stay_usable;
+pub use worked_reasons::worked_halts_have_reasons;
+pub use worked_reasons::worked_usable_joints_go_on;
+pub use worked_recoveries::worked_asks_hand_over;
+pub use worked_recoveries::worked_cancels_are_asked;
+pub use worked_recoveries::worked_cancels_are_recovered;
+pub use worked_recoveries::worked_clears_stay;
+pub use worked_recoveries::worked_halts_are_asked;
+pub use worked_recoveries::worked_halts_are_recovered;
+pub use worked_recoveries::worked_requests_stay;
+pub use worked_recoveries::worked_unlinks_tell_hits;
+pub use worked_remotes::worked_remote_tickets_are_read;
+pub use worked_remotes::worked_remote_tickets_are_tied;
+pub use worked_triggers::worked_trigger_tickets_are_read;
+pub use worked_triggers::worked_trigger_tickets_are_tied;
+pub use worked_unplugging::worked_asks_are_unplugged;
+pub use worked_unplugging::worked_cancels_are_unplugged;
+pub use worked_unplugging::worked_hosts_are_unplugged;

@@ -1,23 +1,26 @@
 //! Example asks whose request or read is written ahead. Each function does nothing.
 
 ghost use Rattle.std.specs.Prelude.{List, true, [], ◌∷◌, ◌++◌};
-ghost use Rattle.tmc_law.specs.State.{start};
-ghost use Rattle.tmc_law.specs.Put.{success};
+ghost use Rattle.usbip_wire.specs.Up as up;
+ghost use Rattle.tmc_law.specs.State.{State, start};
+ghost use Rattle.tmc_law.specs.Put.{Put, success, stalled};
 ghost use Rattle.tmc_law.specs.Run.{Runs, inputs, outputs};
 ghost use Rattle.tmc_law.specs.WorkedQuery.{request_submit, response_submit, response_text, asking, answering};
-ghost use Rattle.tmc_law.specs.WorkedSession.{answered};
+ghost use Rattle.tmc_law.specs.WorkedSession.{in_submit, answered};
+ghost use Rattle.host_joint.specs.Lines.{Gives};
+ghost use Rattle.host_joint.specs.Reads.{IsHalted};
 ghost use Rattle.host_joint.specs.Asking.{Asking, Cancelled};
 ghost use Rattle.host_joint.specs.Positions.{IsAt, out_begun, out_first};
 ghost use Rattle.host_joint.specs.Turns.{InTurn};
 ghost use Rattle.host_joint.specs.WorkedAsks.{query_ask};
-ghost use Rattle.host_joint.specs.WorkedAhead.{ahead_asked, ahead_unlinks, cancelling_ahead, cancelling_request, cancelling_read};
-ghost use Rattle.host_joint.specs.WorkedPieces.{behind_first, first_data, spaces_job, last_job, request_job, asked_with};
-ghost use Rattle.host_joint.specs.WorkedTies.{told_to};
+ghost use Rattle.host_joint.specs.WorkedAhead.{ahead_asked, ahead_unlinks, cancelling_ahead, cancelling_request, cancelling_read, halted_before};
+ghost use Rattle.host_joint.specs.WorkedPieces.{behind_first, first_data, spaces_job, last_job, request_job, next_job, asked_with};
+ghost use Rattle.host_joint.specs.WorkedTies.{told_to, closed_before};
 
 use crate::{
-    answers_are_taken, answers_come_in_turn, asking_stays, asks_ahead_hand_over,
+    answers_are_taken, answers_come_in_turn, answers_go_on, asking_stays, asks_ahead_hand_over,
     asks_are_settled_late, asks_begin, cancelled_asks_stay, messages_are_written,
-    worked_pieces_are_asked,
+    worked_pieces_are_asked, worked_pieces_are_read,
 };
 use tmc_law::laws::runs_join;
 use tmc_law::worked::{a_message_comes_in_parts, a_query_is_answered};
@@ -63,4 +66,23 @@ pub fn worked_asks_are_cancelled_ahead()
     asks_ahead_hand_over();
     asks_are_settled_late();
     worked_pieces_are_asked();
+}
+
+/// Bulk-OUT halts before a packet of the query written ahead was taken, or Bulk-IN before the second piece begins, of which two reads were written: behind the
+/// first answer that tells of it the ask is in hand, and the second one tells of it too. No ask is in hand whose first read of a piece was
+/// answered with nothing.
+pub fn worked_answers_go_on()
+    ensures outs { Asking query_ask (up.Submit response_submit [] ∷ []) (answered request_submit stalled 0 [] ∷ []) closed_before
+        × IsHalted (Gives request_submit (record { seqnum = 2; status = stalled; actual = 0 }) [] ∷ []) }
+    ensures ins { Asking (asked_with 4 (next_job ∷ []) 1 first_data) [] (answered (in_submit 7 4096) stalled 0 [] ∷ []) halted_before
+        × IsHalted (Gives (in_submit 7 4096) (record { seqnum = 7; status = stalled; actual = 0 }) [] ∷ []) }
+    ensures empty { (ups : List up.Message) (downs : List Put) (s : State)
+        → Asking (asked_with 4 (next_job ∷ []) 1 first_data) ups (answered (in_submit 6 4096) success 0 [] ∷ downs) s → ⊥ }
+{
+    worked_asks_are_written_ahead();
+    worked_pieces_are_read();
+    worked_pieces_are_asked();
+    messages_are_written();
+    asking_stays();
+    answers_go_on();
 }

@@ -4,7 +4,7 @@ ghost use Rattle.std.specs.Prelude.{◌≡◌, length, true, List, ℕ, [], ◌�
 ghost use Rattle.usbip_wire.specs.declared.submit.SubmitHead.{SubmitHead};
 ghost use Rattle.usbip_wire.specs.declared.unlink.UnlinkHead.{UnlinkHead};
 ghost use Rattle.usbip_wire.specs.Up as up;
-ghost use Rattle.tmc_law.specs.State.{State};
+ghost use Rattle.tmc_law.specs.State.{State, start};
 ghost use Rattle.tmc_law.specs.Put.{Put, Unlinked, success, stalled, unlinked};
 ghost use Rattle.tmc_law.specs.Run.{Runs, outputs};
 ghost use Rattle.tmc_law.specs.WorkedQuery.{identity};
@@ -23,11 +23,12 @@ ghost use Rattle.host_joint.specs.WorkedLines.{one_asked};
 ghost use Rattle.tmc_base.specs.declared.field.Field.{Field};
 ghost use Rattle.tmc_law.specs.Step.{IsOver};
 ghost use Rattle.host_joint.specs.Owned.{Owned};
-ghost use Rattle.host_joint.specs.Positions.{IsAt, rests, in_begun, in_wants, out_first, anything};
+ghost use Rattle.host_joint.specs.Positions.{IsAt, rests, in_begun, in_wants, out_begun, out_first, anything, clears, cleared};
 ghost use Rattle.host_joint.specs.Lines.{Gives};
-ghost use Rattle.host_joint.specs.Requests.{RequestAt, in_aborts, in_fails, begins_clear, never};
+ghost use Rattle.host_joint.specs.Requests.{RequestAt, in_aborts, in_fails, out_aborts, out_fails, out_rests, begins_clear, never, clear_checked, clear_pending, usable_cleared};
+ghost use Rattle.host_joint.specs.Requests as requests;
 ghost use Rattle.host_joint.specs.Drains.{DrainAt};
-ghost use Rattle.host_joint.specs.WorkedRecoveries.{reading_rest, halting_second, halted_inside, aborting_none, freeing, usable_again, clearing_halted, checking_clear, freeing_out, freeing_in, cleared_log, cleared_at_last, cancelling_second, cancelled_inside, aborting_second, draining, checking_second, abort_submit, clear_submit, wanting, wanting_halted, drained, clearing_all};
+ghost use Rattle.host_joint.specs.WorkedRecoveries.{reading_rest, halting_second, halted_inside, aborting_none, freeing, usable_again, clearing_halted, checking_clear, freeing_out, freeing_in, cleared_log, cleared_at_last, cancelling_second, cancelled_inside, aborting_second, draining, checking_second, abort_submit, clear_submit, wanting, wanting_halted, drained, clearing_all, abort_out_submit, aborting_nothing, check_clear_submit, usable_in};
 
 use crate::{
     answers_are_taken, answers_come_in_turn, asking_stays, asks_are_settled_late, asks_hand_over,
@@ -187,4 +188,21 @@ pub fn worked_asks_hand_over()
     asks_hand_over();
     worked_pieces_are_asked();
     worked_asks_are_cancelled_ahead();
+}
+
+/// The other requests one by one: aborts of Bulk-OUT at power-on, which find no transfer; the check of the clear; and the ends of halts behind the abort and
+/// behind the clear. Each is answered as its request says. No abort of Bulk-OUT was answered so that finds the device clearing.
+pub fn worked_letters_stay()
+    ensures abort_out { Runs start aborting_nothing start
+        × RequestAt (abort_out_submit 1) (out_begun 1) (out_aborts 1) out_fails [] (Gives (abort_out_submit 1) (record { seqnum = 1; status = success; actual = 2 }) (0x80 ∷ 0x00 ∷ []) ∷ []) start }
+    ensures abort_first { RequestAt (abort_out_submit 1) (out_first 1) (out_aborts 1) out_rests [] (Gives (abort_out_submit 1) (record { seqnum = 1; status = success; actual = 2 }) (0x80 ∷ 0x00 ∷ []) ∷ []) start }
+    ensures check_clear { (s : State) × Runs clearing_all checking_clear s
+        × RequestAt (check_clear_submit 8) clears clear_checked clear_pending [] (Gives (check_clear_submit 8) (record { seqnum = 8; status = success; actual = 2 }) (0x01 ∷ 0x00 ∷ []) ∷ []) s }
+    ensures clear_halt { RequestAt (usable_in 8) rests requests.usable_again never [] (Gives (usable_in 8) (record { seqnum = 8; status = success; actual = 0 }) [] ∷ []) usable_again }
+    ensures clear_halt_behind { RequestAt (usable_in 10) cleared usable_cleared never [] (Gives (usable_in 10) (record { seqnum = 10; status = success; actual = 0 }) [] ∷ []) cleared_at_last }
+    ensures early { IsAt (out_begun 1) clearing_all → ⊥ }
+{
+    runs_join();
+    worked_pieces_are_read();
+    requests_stay();
 }
