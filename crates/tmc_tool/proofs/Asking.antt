@@ -10,15 +10,14 @@ use Rattle.event_text.specs.declared.answer.EventAnswer.{EventAnswer}
 use Rattle.event_text.specs.declared.answer.EventAnswer.TheVariants as answer
 use Rattle.event_text.specs.declared.event.Event.TheVariants.{Ask as ask, Rest as rest}
 use Rattle.tmc_world.specs.declared.applied.Applied.{Applied}
-use Rattle.tmc_world.specs.declared.applied.Applied.TheVariants.{Answer}
 use Rattle.tmc_world.specs.LoopLink.{Looped}
 use Rattle.tmc_world.specs.World.{Worldly, IsBehind, begun, setting_of}
 use Rattle.tmc_world.specs.WorldEvents.{LeadsTo}
 use Rattle.tmc_world.specs.WorldSteps.{Asks, Goes, asking_of_ask}
 use Rattle.tmc_tool.specs.Command.{IsLimit}
 use Rattle.tmc_tool.specs.Line.{IsAsked}
-use Rattle.tmc_tool.specs.Told.{AskedOnce, Tells}
-use Rattle.tmc_tool.specs.Going.{applied_as}
+use Rattle.tmc_tool.specs.Told.{AskedOnce, Tells, asked_once}
+use Rattle.tmc_tool.specs.Going.{HasAsked, LedBy, applied_as}
 use Rattle.tmc_tool.proofs.Going.{goes_as}
 
 not_zero : (n : ℕ) → 0 < n → eqb n 0 ≡ false
@@ -49,16 +48,31 @@ first_ticket limit message (Some (answer.DropSaid said)) new within asked goes =
 first_ticket limit message (Some (answer.NotCleared why)) new within asked goes = absurd goes
 first_ticket limit message (Some answer.Done) new within asked goes = absurd goes
 
-pub asked_so : (limit : ℕ) (message : List ℕ) (became : Applied) (said : Option EventAnswer) (hub rested : HubParts Looped) (text : List ℕ) → IsLimit limit → IsAsked message
-    → LeadsTo 1 1 (ask 0 limit message) begun became hub → became ≡ applied_as said
-    → ((old : Worldly) → IsBehind 1 1 old hub → LeadsTo 1 1 rest old (Answer answer.Done) rested)
-    → ((now : Worldly) → IsBehind 1 1 now rested → Tells 1 1 now [] text) → AskedOnce limit message text
-asked_so limit message became said hub rested text within asked leads same rests tells =
-    let goes = first_ticket limit message said leads.new within asked (goes_as 1 1 (ask 0 limit message) begun leads.new became said same leads.goes) in
-    let last = rests leads.new leads.behind in
-    record {
-      begins = record { number = omega arith; some = omega arith; most = omega arith };
-      world = last.new;
-      goes = (leads.new, goes, last.new, last.goes, refl);
-      tells = tells last.new last.behind;
-    }
+-- a rest happens
+rested : (old new : Worldly) (said : Option EventAnswer) → Goes (setting_of 1 1) rest old said new → Goes (setting_of 1 1) rest old (Some answer.Done) new
+rested old new None goes = absurd goes
+rested old new (Some (answer.Ticket ticket)) goes = absurd goes
+rested old new (Some (answer.Refused why)) goes = absurd goes
+rested old new (Some (answer.CancelSaid said)) goes = absurd goes
+rested old new (Some (answer.DropSaid said)) goes = absurd goes
+rested old new (Some (answer.NotCleared why)) goes = absurd goes
+rested old new (Some answer.Done) goes = goes
+
+pub asked_so : (limit : ℕ) (message : List ℕ) (old hub next : HubParts Looped) (became : Applied) (said : Option EventAnswer) → IsLimit limit → IsAsked message → HasAsked limit message old hub
+    → ((first depth : ℕ) (world : Worldly) → IsBehind first depth world hub → LeadsTo first depth rest world became next) → became ≡ applied_as said
+    → IsBehind 1 1 begun old → LedBy 1 1 begun (asked_once limit message) next
+asked_so limit message old hub next became said within asked has rests same behind =
+    let leads = has.leads 1 1 begun behind in
+    let goes = first_ticket limit message has.said leads.new within asked (goes_as 1 1 (ask 0 limit message) begun leads.new (applied_as has.said) has.said refl leads.goes) in
+    let last = rests 1 1 leads.new leads.behind in
+    let done = rested leads.new last.new said (goes_as 1 1 rest leads.new last.new became said same last.goes) in
+    record { new = last.new; goes = (leads.new, goes, last.new, done, refl); behind = last.behind }
+
+pub reported_so : (limit : ℕ) (message : List ℕ) (hub : HubParts Looped) (text : List ℕ) → LedBy 1 1 begun (asked_once limit message) hub
+    → ((now : Worldly) → IsBehind 1 1 now hub → Tells 1 1 now [] text) → AskedOnce limit message text
+reported_so limit message hub text led tells = record {
+  begins = record { number = omega arith; some = omega arith; most = omega arith };
+  world = led.new;
+  goes = led.goes;
+  tells = tells led.new led.behind;
+}

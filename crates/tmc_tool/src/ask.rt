@@ -1,9 +1,11 @@
 //! The command `ask`.
 
 ghost use Rattle.std.specs.Prelude.{IfOk};
+ghost use Rattle.tmc_world.specs.World.{IsBehind, begun};
 ghost use Rattle.tmc_tool.specs.Command.{IsLimit};
 ghost use Rattle.tmc_tool.specs.Line.{IsAsked};
-ghost use Rattle.tmc_tool.specs.Told.{AskedOnce};
+ghost use Rattle.tmc_tool.specs.Told.{AskedOnce, asked_once};
+ghost use Rattle.tmc_tool.specs.Going.{HasAsked, LedBy};
 
 use crate::replay::said;
 use crate::report::report;
@@ -26,12 +28,30 @@ pub(crate) fn ask(alloc: Global, limit: u32, message: &[u8]) -> Result<Vec<u8>, 
     ensures { IfOk result (λ text. AskedOnce limit message.now text.items) }
 {
     let mut world = World::new(alloc, FIRST, DEPTH)?;
+    ask_and_rest(alloc, &mut world, limit, message)?;
+    report(alloc, &[], &world)
+}
+
+/// Asks a message of a world at power-on, and lets it come to rest.
+fn ask_and_rest(alloc: Global, world: &mut World, limit: u32, message: &[u8]) -> Result<(), Memory>
+    requires limit { IsLimit limit }
+    requires asked { IsAsked message.now }
+    ensures { IfOk result (λ _. IsBehind 1 1 begun world.old.hub → LedBy 1 1 begun (asked_once limit message.now) world.new.hub) }
+{
+    ask_of(alloc, world, limit, message)?;
+    said(world.apply(&Event::Rest))?;
+    Ok(())
+}
+
+/// Asks a message of a world.
+fn ask_of(alloc: Global, world: &mut World, limit: u32, message: &[u8]) -> Result<(), Memory>
+    ensures { IfOk result (λ _. HasAsked limit message.now world.old.hub world.new.hub) }
+{
     let ask = Event::Ask {
         session: SESSION,
         limit,
         message: Octets::from_slice(alloc, message)?,
     };
     said(world.apply(&ask))?;
-    world.rest()?;
-    report(alloc, &[], &world)
+    Ok(())
 }
