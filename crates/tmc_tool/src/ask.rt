@@ -28,8 +28,17 @@ pub(crate) fn ask(alloc: Global, limit: u32, message: &[u8]) -> Result<Vec<u8>, 
     ensures { IfOk result (λ text. AskedOnce limit message.now text.items) }
 {
     let mut world = World::new(alloc, FIRST, DEPTH)?;
-    ask_and_rest(alloc, &mut world, limit, message)?;
-    report(alloc, &[], &world)
+    ask_in(alloc, &mut world, limit, message)
+}
+
+/// Asks a message of a world at power-on, lets it come to rest, and reports it.
+fn ask_in(alloc: Global, world: &mut World, limit: u32, message: &[u8]) -> Result<Vec<u8>, Memory>
+    requires limit { IsLimit limit }
+    requires asked { IsAsked message.now }
+    ensures { IfOk result (λ text. IsBehind 1 1 begun world.old.hub → AskedOnce limit message.now text.items) }
+{
+    ask_and_rest(alloc, world, limit, message)?;
+    report(alloc, &[], world)
 }
 
 /// Asks a message of a world at power-on, and lets it come to rest.

@@ -1,7 +1,7 @@
 //! The command `replay`.
 
 ghost use Rattle.std.specs.Prelude.{◌≡◌, ℕ, IfOk};
-ghost use Rattle.tmc_world.specs.World.{Worldly, IsBehind};
+ghost use Rattle.tmc_world.specs.World.{Worldly, IsBehind, begun};
 ghost use Rattle.tmc_tool.specs.Told.{MayBegin, Replayed};
 ghost use Rattle.tmc_tool.specs.Going.{Went, applied_as};
 
@@ -17,8 +17,16 @@ pub(crate) fn replay(alloc: Global, script: &Script) -> Result<Vec<u8>, Memory>
     ensures { IfOk result (λ text. Replayed script.now text.items) }
 {
     let mut world = World::new(alloc, script.first, script.depth)?;
-    let answers = apply_all(alloc, &mut world, script.events.as_slice())?;
-    report(alloc, &answers, &world)
+    replay_in(alloc, &mut world, script)
+}
+
+/// Applies the events of a script to a world at power-on in their order, and reports what came of them.
+fn replay_in(alloc: Global, world: &mut World, script: &Script) -> Result<Vec<u8>, Memory>
+    requires { MayBegin script.now.first script.now.depth }
+    ensures { IfOk result (λ text. IsBehind script.now.first script.now.depth begun world.old.hub → Replayed script.now text.items) }
+{
+    let answers = apply_all(alloc, world, script.events.as_slice())?;
+    report(alloc, &answers, world)
 }
 
 /// Applies events in their order, and collects what they answered. `None` is an event that was not enabled.

@@ -1,12 +1,5 @@
 use Rattle.std.proofs.lemmas.Result.{IfOk-weaker}
-use Rattle.tmc_world.specs.World.{begun}
-use Rattle.tmc_tool.proofs.Replaying.{replayed_so}
 use Rattle.tmc_tool.proofs.replay.replay.Goals as goal
 
 pub returns : goal.returns
-returns c =
-    let went = c.in_ok-answers.ensures c.args.script.now.first c.args.script.now.depth begun c.in_ok-world.ensures in
-    IfOk-weaker c.report.result _ _
-    (λ text tells. replayed_so c.args.script.now c.in_ok-answers.answers.items _ text c.requires (rw c.as_slice.ensures at went)
-    (λ now behind. rw c.deref.ensures.value at (tells c.args.script.now.first c.args.script.now.depth now behind)))
-    c.report.ensures
+returns c = IfOk-weaker c.replay_in.result _ _ (λ text told. told c.in_ok-world.ensures) c.replay_in.ensures
