@@ -66,7 +66,7 @@ asked_so limit message old hub next became said within asked has rests same behi
     let goes = first_ticket limit message has.said leads.new within asked (goes_as 1 1 (ask 0 limit message) begun leads.new (applied_as has.said) has.said refl leads.goes) in
     let last = rests 1 1 leads.new leads.behind in
     let done = rested leads.new last.new said (goes_as 1 1 rest leads.new last.new became said same last.goes) in
-    record { new = last.new; goes = (leads.new, goes, last.new, done, refl); behind = last.behind }
+    record { new = last.new; goes = (leads.new, goes, (last.new, done, refl)); behind = last.behind }
 
 pub reported_so : (limit : ℕ) (message : List ℕ) (hub : HubParts Looped) (text : List ℕ) → LedBy 1 1 begun (asked_once limit message) hub
     → ((now : Worldly) → IsBehind 1 1 now hub → Tells 1 1 now [] text) → AskedOnce limit message text

@@ -7,9 +7,6 @@ use Rattle.event_text.specs.declared.line_fault.LineWhat.{LineWhat}
 use Rattle.event_text.specs.declared.line_fault.LineWhat.TheVariants.{TooLong, TooMany}
 use Rattle.event_text.specs.Script.{lines_most, line_most, judged, later_words, first_words, Say}
 use Rattle.event_text.specs.declared.event.Script.{Script}
-use Rattle.event_text.specs.declared.event_line.Place.TheVariants.{Start}
-use Rattle.event_text.specs.declared.event_line.Place.{Place as Behind}
-use Rattle.event_text.specs.declared.event_line.Said.{Said}
 use Rattle.event_text.specs.EventLine.{line_words, place_behind}
 use Rattle.event_text.specs.EventScript.{IsEventScript, SayInTurn}
 use Rattle.event_text.specs.Shown.{ShownOf}
@@ -234,20 +231,27 @@ shown_keeps way source text shown =
     let all : KeepsLimits source = subst (λ xs. (length xs ≤ lines_most) × AllByRecursion IsShortLine xs) (sym script.cut) (omega (arith, rest.0), (head.1, rest.1)) in
     all
 
--- and one of events: its lines say something each, behind what was said before
-events_keep : (place : Behind) (number : ℕ) (lines : List (List ℕ)) (said : List Said) → number ≤ lines_most + 1 → SayInTurn place number lines said
+-- lines that say something each, behind what was said before
+turns_keep : {P A : Type 0} → (S : P → ℕ → List (List ℕ) → List A → Type 0)
+    → ((place : P) (number : ℕ) (line : List ℕ) (lines : List (List ℕ)) → S place number (line ∷ lines) [] → ⊥)
+    → ((place : P) (number : ℕ) (line : List ℕ) (lines : List (List ℕ)) (one : A) (said : List A) → S place number (line ∷ lines) (one ∷ said)
+    → (number ≤ lines_most) × (length line ≤ line_most) × ((next : P) × S next (number + 1) lines said))
+    → (place : P) (number : ℕ) (lines : List (List ℕ)) (said : List A) → number ≤ lines_most + 1 → S place number lines said
     → (number + length lines ≤ lines_most + 1) × AllByRecursion IsShortLine lines
-events_keep place number [] [] few say = (omega (arith, few), tt)
-events_keep place number [] (one ∷ said) few say = absurd say
-events_keep place number (line ∷ lines) [] few say = absurd say
-events_keep place number (line ∷ lines) (one ∷ said) few say =
-    let here = judged_keeps number line (line_words place) one say.0 in
-    let rest = events_keep (place_behind one) (number + 1) lines said (omega (arith, here.0)) say.1 in
+turns_keep S none first place number [] said few say = (omega (arith, few), tt)
+turns_keep S none first place number (line ∷ lines) [] few say = absurd (none place number line lines say)
+turns_keep S none first place number (line ∷ lines) (one ∷ said) few say =
+    let here = first place number line lines one said say in
+    let rest = turns_keep S none first here.2.0 (number + 1) lines said (omega (arith, here.0)) here.2.1 in
     (omega (arith, rest.0), (here.1, rest.1))
 
+-- so of a script of events
 pub script_keeps : (source : List ℕ) (script : Script) → IsEventScript source script → KeepsLimits source
 script_keeps source script is =
-    let all = events_keep Start 1 (lines_of source) is.said (omega arith) is.says in
+    let all = turns_keep SayInTurn (λ place number line lines none. none)
+    (λ place number line lines one said say.
+    let here = judged_keeps number line (line_words place) one say.0 in (here.0, here.1, (place_behind one, say.1)))
+    _ 1 (lines_of source) is.said (omega arith) is.says in
     (omega (arith, all.0), all.1)
 
 -- ---- what is read
