@@ -1,5 +1,6 @@
 mod Queues
 mod Flows
+mod Packeting
 mod Parts
 mod Taking
 mod Filling

@@ -5,6 +5,7 @@ pub mod Unlinking
 pub mod Jobs
 pub mod Reads
 pub mod Stage
+pub mod StatusReads
 pub mod Asking
 -- what follows from an ask, and what a host does with it
 pub mod Owned
