@@ -54,7 +54,7 @@ own_line e head transferred ups is =
     ap sent_heads (sent-append e ups (up.Submit head transferred ∷ [])) ∙ heads_more (sent_to e ups) (sent_to e (up.Submit head transferred ∷ []))
     ∙ ap (λ (l : List Sent). sent_heads (sent_to e ups) ++ sent_heads l) one
 
-other_line : (e : Endpoint) (head : SubmitHead) (transferred : List ℕ) (ups : List up.Message) → eqb head.ep (number_of e) ≡ false
+pub other_line : (e : Endpoint) (head : SubmitHead) (transferred : List ℕ) (ups : List up.Message) → eqb head.ep (number_of e) ≡ false
     → sent_to e (ups ++ up.Submit head transferred ∷ []) ≡ sent_to e ups
 other_line e head transferred ups other =
     let none : sent_to e (up.Submit head transferred ∷ []) ≡ [] = rw other refl in

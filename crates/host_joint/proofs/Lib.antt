@@ -1,6 +1,8 @@
 mod Queues
 mod Flows
 mod Packeting
+mod StatusReading
+mod StatusTied
 mod Parts
 mod Taking
 mod Filling

@@ -151,7 +151,7 @@ no_packets_away e head = by (eqb head.ep (number_of e))
 pub none_out : (s t : State) (puts : List Put) → puts ≡ [] → statuses t.packets ≡ statuses s.packets → Streams [] s t puts
 none_out s t puts none same = still s t puts (ap (λ (p : List Put). packets_in (events_of InterruptIn p)) none) same
 
-logs_same : (e : _) (s t : State) → Logs e s t → statuses t.packets ≡ statuses s.packets
+pub logs_same : (e : _) (s t : State) → Logs e s t → statuses t.packets ≡ statuses s.packets
 logs_same e s t logs = ap (λ (x : State). statuses x.packets) logs.is ∙ service_same s.standing logs.standing s.packets
 
 pub arrives : (head : SubmitHead) (transferred : List ℕ) (s t : State) (puts : List Put) → Arrives s head transferred puts t → Streams [] s t puts
@@ -202,9 +202,10 @@ pub data Others (s t : State) : Type 0 where
   NoEntry : t.log ≡ s.log → Others s t
   OneOther : (e : LogEntry) → NoPoll (e ∷ []) → t.log ≡ s.log ++ e ∷ [] → Others s t
 
--- a move that does nothing to the control queue but bring a submit
+-- a move that answers and polls nothing at the control endpoint
 abbrev pub IsElsewhere : Move → Type 0
 IsElsewhere Answer = ⊥
+IsElsewhere Pend = ⊥
 IsElsewhere Poll = ⊥
 IsElsewhere Unplug = ⊥
 IsElsewhere _ = Unit {0}
@@ -224,7 +225,7 @@ no_poll s Exec (entry.Poll seq) other may = may
 no_poll s (Begin count) (entry.Poll seq) other may = may
 no_poll s (Fill count) (entry.Poll seq) other may = may
 no_poll s Answer (entry.Poll seq) other may = other
-no_poll s Pend (entry.Poll seq) other may = may
+no_poll s Pend (entry.Poll seq) other may = other
 no_poll s Poll (entry.Poll seq) other may = other
 no_poll s Notify (entry.Poll seq) other may = may
 no_poll s (Halt e) (entry.Poll seq) other may = may

@@ -87,7 +87,7 @@ bound_run laws letters (Drains head) run waits unlinks next ups downs s t goes p
 
 -- ---- a submit is written
 
-order_more : (ups : List up.Message) (head : SubmitHead) (bytes : List ℕ) → unlinks_in ups ≡ [] → InOrder (ups ++ up.Submit head bytes ∷ [])
+pub order_more : (ups : List up.Message) (head : SubmitHead) (bytes : List ℕ) → unlinks_in ups ≡ [] → InOrder (ups ++ up.Submit head bytes ∷ [])
 order_more [] head bytes none = tt
 order_more (up.Submit x transferred ∷ ups) head bytes none = order_more ups head bytes none
 order_more (up.Unlink x ∷ ups) head bytes none = absurd (cc)

@@ -207,3 +207,11 @@ pub data GivesStatus (read : StatusRead) (waits : Bool) (notify : Option SubmitH
   -- Interrupt-IN is halted, and the packets wait
   BringsHalt : notify ≡ Some asked → answer.status ≡ stalled → ReadsStatus read waits None got older next ups downs s
       → GivesStatus read waits notify got older asked answer transferred next ups downs s
+
+-- the next answer to a host that is in no status read
+pub data GivesQuiet (notify : Option SubmitHead) (older : List Packet) (asked : SubmitHead) (answer : RetSubmitHead) (transferred : List ℕ) (next : ℕ) (ups : List up.Message) (downs : List Put) (s : State) : Type 0 where
+  QuietService : (byte : ℕ) → notify ≡ Some asked → answer.status ≡ success → transferred ≡ packet_bytes (ServicePacket byte) → Quiet None older next ups downs s
+      → GivesQuiet notify older asked answer transferred next ups downs s
+  QuietOlder : (packet : Packet) (others : List Packet) → notify ≡ Some asked → answer.status ≡ success → older ≡ packet ∷ others → transferred ≡ packet_bytes packet → Quiet None others next ups downs s
+      → GivesQuiet notify older asked answer transferred next ups downs s
+  QuietHalt : notify ≡ Some asked → answer.status ≡ stalled → Quiet None older next ups downs s → GivesQuiet notify older asked answer transferred next ups downs s
