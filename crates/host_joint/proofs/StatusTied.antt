@@ -1,5 +1,5 @@
 -- a host in a status read: what it writes, and what it is given
-use Rattle.std.proofs.Common.{◌≡◌, ◌≢◌, ◌∙◌, ◌⊎◌, inl, inr, ℕ, ◌+◌, ◌<◌, ◌≤◌, Bool, true, false, cond, eqb, Option, Some, None, List, [], ◌∷◌, ◌++◌, length, refl, ap, sym, subst, append-nil, arith}
+use Rattle.std.proofs.Common.{◌≡◌, ◌≢◌, ◌∙◌, ◌⊎◌, inl, inr, ℕ, ◌+◌, ◌<◌, ◌≤◌, Bool, true, false, cond, eqb, ℤ, Option, Some, None, List, [], ◌∷◌, ◌++◌, length, refl, ap, sym, subst, append-nil, arith}
 use Rattle.std.proofs.lemmas.Bool.{eq-eqb}
 use Rattle.usbip_wire.specs.declared.submit.SubmitHead.{SubmitHead}
 use Rattle.usbip_wire.specs.declared.ret_submit.RetSubmitHead.{RetSubmitHead}
@@ -9,20 +9,20 @@ use Rattle.tmc_wire.specs.declared.class_request.ClassRequest.TheVariants.{ReadS
 use Rattle.tmc_wire.specs.ClassStatus.{STATUS_SUCCESS, STATUS_INTERRUPT_IN_BUSY}
 use Rattle.instr_plain.specs.declared.log.LogEntry.{LogEntry}
 use Rattle.tmc_law.specs.Endpoint.{Endpoint, Control, BulkOut, BulkIn, InterruptIn, number_of}
-use Rattle.tmc_law.specs.State.{State, Packet, StatusPacket, ServicePacket}
+use Rattle.tmc_law.specs.State.{State, queue_of, Packet, StatusPacket, ServicePacket}
 use Rattle.tmc_law.specs.Put.{Put, Submitted, Unlinked, success, stalled}
 use Rattle.tmc_law.specs.Status.{IsStatusTag, status_layout, packet_bytes}
 use Rattle.tmc_law.specs.AnswerFits.{AllAnswers}
 use Rattle.tmc_law.specs.Queues.{pending_most}
 use Rattle.tmc_law.specs.Run.{Entry, Runs, inputs, outputs}
-use Rattle.host_joint.specs.Lines.{Sent, sent_to, Event, Gives, events_of, unlinks_in, unlinked_by, Lines, EmptyLine, Fitting, AllFitting, NoneNumbered}
+use Rattle.host_joint.specs.Lines.{Sent, sent_to, Event, Gives, events_of, unlinks_in, unlinked_by, LeftBy, heads, sent_heads, Lines, EmptyLine, Fitting, AllFitting, NoneNumbered}
 use Rattle.host_joint.specs.Unlinking.{AllHeads, Rising, IsNamed, AreApart, total_of}
 use Rattle.host_joint.specs.Asking.{StaysPlugged}
 use Rattle.host_joint.specs.Positions.{IsAt, rests}
 use Rattle.host_joint.specs.Requests.{IsClass}
 use Rattle.host_joint.specs.Tie.{asked_of}
 use Rattle.host_joint.specs.Bond.{IsFit, Bond, Bound, Stands, Resting}
-use Rattle.host_joint.specs.StatusReads.{is_good, packets_in, bytes_of, statuses, IsUsual, Brings, NonePolled, OnePolled, StatusRead, StatusAt, StatusComes, StatusPends, StatusPolled, StatusSaid, StatusBusy, StatusOver, ByteAt, ByteUnread, ByteComes, ByteCame, StatusHeld, QuietHeld, none_or_one, asked_by, while, IsNotify, IsEarlier, IsOther, Quiet, ReadsStatus, GivesStatus, SaysSuccess, SaysBusy, BringsService, BringsOlder, BringsByte, BringsHalt, GivesQuiet, QuietService, QuietOlder, QuietHalt}
+use Rattle.host_joint.specs.StatusReads.{is_good, packets_in, bytes_of, statuses, IsUsual, Brings, NonePolled, OnePolled, StatusRead, StatusAt, StatusComes, StatusPends, StatusPolled, StatusSaid, StatusBusy, StatusOver, ByteAt, ByteUnread, ByteComes, ByteCame, StatusHeld, QuietHeld, none_or_one, asked_by, while, IsNotify, IsEarlier, IsOther, Quiet, ReadsStatus, GivesStatus, SaysSuccess, SaysBusy, BringsService, BringsOlder, BringsByte, BringsHalt, NoneTagged, GivesQuiet, QuietService, QuietOlder, QuietHalt}
 use Rattle.host_joint.proofs.Flows.{all_answered}
 use Rattle.host_joint.proofs.Booking.{submit_written, submit_answered, other_line}
 use Rattle.host_joint.proofs.Numbered.{rises_written}
@@ -166,7 +166,7 @@ none_down ups (Submitted asked a transferred ∷ downs) s fits lines =
 
 lines_as : (asked later : Endpoint → List SubmitHead) (ups : List up.Message) (downs : List Put) (s : State) → ((e : Endpoint) → later e ≡ asked e) → Lines asked [] ups downs s → Lines later [] ups downs s
 lines_as asked later ups downs s same lines =
-    record { submits = λ e. subst (λ (l : List SubmitHead). _) (sym (same e)) (lines.submits e); unlinked = lines.unlinked }
+    record { submits = λ e. subst (λ (l : List SubmitHead). LeftBy l (events_of e downs) (heads (queue_of e s) ++ sent_heads (sent_to e ups))) (sym (same e)) (lines.submits e); unlinked = lines.unlinked }
 
 bond_to : (Before After : List up.Message → List Put → State → Type 0) (asked later : Endpoint → List SubmitHead) (next : ℕ) (ups : List up.Message) (downs : List Put) (s : State) → ((e : Endpoint) → later e ≡ asked e)
     → Bond Before asked [] next ups downs s → After ups downs s → Bond After later [] next ups downs s
@@ -308,19 +308,30 @@ first l head a transferred downs s own b = by b.usual.0
     given : cond (is_good a.status) (transferred ∷ packets_in (events_of InterruptIn downs)) (packets_in (events_of InterruptIn downs)) ≡ bytes_of b.sent
     given = ap (λ (x : List Event). packets_in x) (sym (own_event InterruptIn head a transferred downs own)) ∙ b.carried
 
+    heads_same : (x y : List ℕ) (k m : List (List ℕ)) → x ∷ k ≡ y ∷ m → (x ≡ y) × (k ≡ m)
+    heads_same x y k m e = (cc, cc)
+
     some : (sent : List Packet) → a.status ≡ success → transferred ∷ packets_in (events_of InterruptIn downs) ≡ bytes_of sent → statuses (sent ++ s.packets) ≡ l → First l a transferred downs s
     some [] good e is = absurd (cc)
-    some (ServicePacket byte ∷ sent) good e is = FirstService byte good cc (record { sent = sent; carried = cc; queued = is; usual = b.usual.1 })
-    some (StatusPacket tag byte ∷ sent) good e is = FirstStatus tag byte (statuses (sent ++ s.packets)) good (sym is) cc (record { sent = sent; carried = cc; queued = refl; usual = b.usual.1 })
+    some (ServicePacket byte ∷ sent) good e is =
+        let same = heads_same transferred (packet_bytes (ServicePacket byte)) (packets_in (events_of InterruptIn downs)) (bytes_of sent) e in
+        let rest : Brings l downs s = record { sent = sent; carried = same.1; queued = is; usual = b.usual.1 } in
+        FirstService byte good same.0 rest
+    some (StatusPacket tag byte ∷ sent) good e is =
+        let same = heads_same transferred (packet_bytes (StatusPacket tag byte)) (packets_in (events_of InterruptIn downs)) (bytes_of sent) e in
+        let rest : Brings (statuses (sent ++ s.packets)) downs s = record { sent = sent; carried = same.1; queued = refl; usual = b.usual.1 } in
+        FirstStatus tag byte (statuses (sent ++ s.packets)) good (sym is) same.0 rest
 
     by : (a.status ≡ success) ⊎ (a.status ≡ stalled) → First l a transferred downs s
-    by (inl good) = some b.sent good (ap (λ x. cond (is_good x) (transferred ∷ packets_in (events_of InterruptIn downs)) (packets_in (events_of InterruptIn downs))) (sym good) ∙ given) b.queued
-    by (inr halted) = FirstHalt halted (record {
-      sent = b.sent;
-      carried = ap (λ x. cond (is_good x) (transferred ∷ packets_in (events_of InterruptIn downs)) (packets_in (events_of InterruptIn downs))) (sym halted) ∙ given;
-      queued = b.queued;
-      usual = b.usual.1;
-    })
+    by (inl good) = some b.sent good (ap (λ (x : ℤ). cond (is_good x) (transferred ∷ packets_in (events_of InterruptIn downs)) (packets_in (events_of InterruptIn downs))) (sym good) ∙ given) b.queued
+    by (inr halted) =
+        let rest : Brings l downs s = record {
+          sent = b.sent;
+          carried = ap (λ (x : ℤ). cond (is_good x) (transferred ∷ packets_in (events_of InterruptIn downs)) (packets_in (events_of InterruptIn downs))) (sym halted) ∙ given;
+          queued = b.queued;
+          usual = b.usual.1;
+        } in
+        FirstHalt halted rest
 
 request_kept : (request notify : Option SubmitHead) (d : Endpoint) → d ≢ InterruptIn → asked_by request None d ≡ asked_by request notify d
 request_kept request notify Control differ = refl
@@ -476,6 +487,35 @@ quiet_given notify older asked a transferred next ups downs s q = by fits.endpoi
     by InterruptIn is =
         let own : asked.ep ≡ 3 = fits.number ∙ ap number_of is in
         let e = first_asked (asked_by None notify) _ asked a transferred next ups downs s InterruptIn own q.bond in which own (one_only notify asked e.0 e.1) (first older asked a transferred downs s own q.bond.held.brings)
+
+-- the packet with the tag of the request, which none of the older ones has
+pub status_owned : (read : StatusRead) (waits : Bool) (notify : Option SubmitHead) (got : Option ℕ) (older : List Packet) (asked : SubmitHead) (a : RetSubmitHead) (byte next : ℕ) (ups : List up.Message) (downs : List Put) (s : State)
+    → asked.ep ≡ 3 → a.status ≡ success → NoneTagged read.tag older → ReadsStatus read waits notify got older next ups (Submitted asked a ((0x80 + read.tag) ∷ byte ∷ []) ∷ downs) s
+    → OnePolled read.head.seqnum byte read.since s.log × ReadsStatus read waits None (Some byte) [] next ups downs s
+status_owned read waits notify got older asked a byte next ups downs s own good none r = by (status_given read waits notify got older asked a _ next ups downs s r)
+  where
+    Owned : Type 0
+    Owned = OnePolled read.head.seqnum byte read.since s.log × ReadsStatus read waits None (Some byte) [] next ups downs s
+
+    two : (x y z w : ℕ) → x ∷ y ∷ [] ≡ z ∷ w ∷ [] → (x ≡ z) × (y ≡ w)
+    two x y z w e = (cc, cc)
+
+    no_service : (other : ℕ) → (0x80 + read.tag) ∷ byte ∷ [] ≡ packet_bytes (ServicePacket other) → Owned
+    no_service other text = absurd (omega (arith, (two (0x80 + read.tag) byte 0x81 other text).0, r.tagged.0))
+
+    no_older : (packet : Packet) (others : List Packet) → NoneTagged read.tag (packet ∷ others) → (0x80 + read.tag) ∷ byte ∷ [] ≡ packet_bytes packet → Owned
+    no_older (ServicePacket other) others apart text = no_service other text
+    no_older (StatusPacket tag other) others apart text = absurd (apart.0 (omega (arith, (two (0x80 + read.tag) byte (0x80 + tag) other text).0)))
+
+    by : GivesStatus read waits notify got older asked a ((0x80 + read.tag) ∷ byte ∷ []) next ups downs s → Owned
+    by (SaysSuccess w same is text behind) = absurd (omega (arith, own, r.asks.number, ap (λ (x : SubmitHead). x.ep) same))
+    by (SaysBusy w same is text some not_yet quiet) = absurd (omega (arith, own, r.asks.number, ap (λ (x : SubmitHead). x.ep) same))
+    by (BringsService other is fine text behind) = no_service other text
+    by (BringsOlder packet others is fine left text behind) = no_older packet others (subst (λ (l : List Packet). NoneTagged read.tag l) left none) text
+    by (BringsByte other is fine none_left g text one behind) =
+        let same : other ≡ byte = sym (two (0x80 + read.tag) byte (0x80 + read.tag) other text).1 in
+        (subst (λ (b : ℕ). OnePolled read.head.seqnum b read.since s.log) same one, subst (λ (b : ℕ). ReadsStatus read waits None (Some b) [] next ups downs s) same behind)
+    by (BringsHalt is halted behind) = let e : success ≡ stalled = sym good ∙ halted in absurd (cc)
 
 -- ---- over a link
 

@@ -215,3 +215,9 @@ pub data GivesQuiet (notify : Option SubmitHead) (older : List Packet) (asked : 
   QuietOlder : (packet : Packet) (others : List Packet) → notify ≡ Some asked → answer.status ≡ success → older ≡ packet ∷ others → transferred ≡ packet_bytes packet → Quiet None others next ups downs s
       → GivesQuiet notify older asked answer transferred next ups downs s
   QuietHalt : notify ≡ Some asked → answer.status ≡ stalled → Quiet None older next ups downs s → GivesQuiet notify older asked answer transferred next ups downs s
+
+-- no packet of these has this tag
+abbrev pub NoneTagged : (tag : ℕ) → List Packet → Type 0
+NoneTagged tag [] = Unit {0}
+NoneTagged tag (StatusPacket other byte ∷ packets) = (other ≢ tag) × NoneTagged tag packets
+NoneTagged tag (ServicePacket byte ∷ packets) = NoneTagged tag packets
