@@ -1,8 +1,5 @@
 mod Queues
 mod Flows
-mod Packeting
-mod StatusReading
-mod StatusTied
 mod Parts
 mod Taking
 mod Filling
@@ -67,3 +64,7 @@ mod TriggerRacing
 mod Ticketed
 mod Telling
 mod Lettered
+mod Packeting
+mod StatusReading
+mod StatusTied
+mod StatusExamples

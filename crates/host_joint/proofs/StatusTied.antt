@@ -1,10 +1,14 @@
 -- a host in a status read: what it writes, and what it is given
 use Rattle.std.proofs.Common.{◌≡◌, ◌≢◌, ◌∙◌, ◌⊎◌, inl, inr, ℕ, ◌+◌, ◌<◌, ◌≤◌, Bool, true, false, cond, eqb, ℤ, Option, Some, None, List, [], ◌∷◌, ◌++◌, length, refl, ap, sym, subst, append-nil, arith}
-use Rattle.std.proofs.lemmas.Bool.{eq-eqb}
+use Rattle.std.proofs.lemmas.Bool.{eq-eqb, ne_eqb}
 use Rattle.usbip_wire.specs.declared.submit.SubmitHead.{SubmitHead}
 use Rattle.usbip_wire.specs.declared.ret_submit.RetSubmitHead.{RetSubmitHead}
 use Rattle.usbip_wire.specs.declared.unlink.UnlinkHead.{UnlinkHead}
 use Rattle.usbip_wire.specs.Up as up
+use Rattle.usbip_wire.specs.Down as down
+use Rattle.usbip_wire.specs.Down.{SpellsAnswer}
+use Rattle.usbip_wire.specs.RetSubmit.{SpellsRetSubmit}
+use Rattle.usbip_wire.specs.Dirs.{find, submit_of}
 use Rattle.tmc_wire.specs.declared.class_request.ClassRequest.TheVariants.{ReadStatus}
 use Rattle.tmc_wire.specs.ClassStatus.{STATUS_SUCCESS, STATUS_INTERRUPT_IN_BUSY}
 use Rattle.instr_plain.specs.declared.log.LogEntry.{LogEntry}
@@ -22,7 +26,7 @@ use Rattle.host_joint.specs.Positions.{IsAt, rests}
 use Rattle.host_joint.specs.Requests.{IsClass}
 use Rattle.host_joint.specs.Tie.{asked_of}
 use Rattle.host_joint.specs.Bond.{IsFit, Bond, Bound, Stands, Resting}
-use Rattle.host_joint.specs.StatusReads.{is_good, packets_in, bytes_of, statuses, IsUsual, Brings, NonePolled, OnePolled, StatusRead, StatusAt, StatusComes, StatusPends, StatusPolled, StatusSaid, StatusBusy, StatusOver, ByteAt, ByteUnread, ByteComes, ByteCame, StatusHeld, QuietHeld, none_or_one, asked_by, while, IsNotify, IsEarlier, IsOther, Quiet, ReadsStatus, GivesStatus, SaysSuccess, SaysBusy, BringsService, BringsOlder, BringsByte, BringsHalt, NoneTagged, GivesQuiet, QuietService, QuietOlder, QuietHalt}
+use Rattle.host_joint.specs.StatusReads.{is_good, packets_in, bytes_of, statuses, IsUsual, Brings, NonePolled, OnePolled, StatusRead, StatusAt, StatusComes, StatusPends, StatusPolled, StatusSaid, StatusBusy, StatusOver, ByteAt, ByteUnread, ByteComes, ByteCame, StatusHeld, QuietHeld, none_or_one, asked_by, while, IsNotify, IsEarlier, IsOther, Quiet, ReadsStatus, GivesStatus, SaysSuccess, SaysBusy, BringsService, BringsOlder, BringsByte, BringsHalt, NoneTagged, entries_by, GivesQuiet, QuietService, QuietOlder, QuietHalt}
 use Rattle.host_joint.proofs.Flows.{all_answered}
 use Rattle.host_joint.proofs.Booking.{submit_written, submit_answered, other_line}
 use Rattle.host_joint.proofs.Numbered.{rises_written}
@@ -33,6 +37,7 @@ use Rattle.host_joint.proofs.Requesting.{Meaning}
 use Rattle.host_joint.proofs.Bonding.{bond_run, none_linked}
 use Rattle.host_joint.proofs.Recovering.{order_more, coming, no_event, one_event}
 use Rattle.host_joint.proofs.Joining.{IsKept, Never, plugged-append, plugged_front}
+use Rattle.host_joint.proofs.UntilJoined.{Spelled}
 use Rattle.host_joint.proofs.StatusReading.{status_keeps, quiet_keeps}
 
 -- ---- they stay
@@ -581,10 +586,57 @@ status_kept laws meaning never read waits notify got older next = record {
       never (asked_by (while waits read.head) notify) [] x transferred ups downs s f r.bond.fitting.0 (read_apart read waits notify r.other) (few_by (while waits read.head) notify) r.bond.lines over;
 }
 
-pub quiet_kept : (laws : TieLaws) → Never → (notify : Option SubmitHead) (older : List Packet) (next : ℕ) → IsKept StaysPlugged (λ ups downs t. Quiet notify older next ups downs t)
-quiet_kept laws never notify older next = record {
+pub quiet_kept : ((notify : Option SubmitHead) (older : List Packet) (run : List Entry) (next : ℕ) (ups : List up.Message) (downs : List Put) (s t : State)
+    → Runs s run t → StaysPlugged run → Quiet notify older next (inputs run ++ ups) downs s → Quiet notify older next ups (downs ++ outputs run) t)
+    → Never → (notify : Option SubmitHead) (older : List Packet) (next : ℕ) → IsKept StaysPlugged (λ ups downs t. Quiet notify older next ups downs t)
+quiet_kept stays never notify older next = record {
   kind = record { more = plugged-append; front = plugged_front };
-  goes = λ run ups downs s t goes plugged q. quiet_run laws notify older run next ups downs s t goes plugged q;
+  goes = λ run ups downs s t goes plugged q. stays notify older run next ups downs s t goes plugged q;
   taken = λ x transferred ups downs s f q over.
       never (asked_by None notify) [] x transferred ups downs s f q.bond.fitting.0 (apart_by None notify (λ head is. absurd (cc))) (few_by None notify) q.bond.lines over;
 }
+
+-- the first answer is spelled as one to what is not answered
+pub read_spelled : (read : StatusRead) (waits : Bool) (notify : Option SubmitHead) (got : Option ℕ) (older : List Packet) (next : ℕ)
+    → Spelled (λ ups downs t. ReadsStatus read waits notify got older next ups downs t) (entries_by (while waits read.head) notify)
+read_spelled read waits notify got older next (Unlinked asked a) ups downs s bytes r spelled = let e = none_unlinked (unlinked_by (Unlinked asked a ∷ downs)) (unlinks_in ups) r.bond.lines.unlinked in absurd (cc)
+read_spelled read waits notify got older next (Submitted asked a transferred) ups downs s bytes r spelled = by fits.0.endpoint refl
+  where
+    fits : IsFit (Submitted asked a transferred)
+    fits = r.bond.fits.0
+
+    Goal : Type 0
+    Goal = SpellsAnswer (entries_by (while waits read.head) notify) (down.RetSubmit a transferred) bytes
+
+    number : a.seqnum ≡ asked.seqnum
+    number = fits.1.number
+
+    request_found : (o : Option SubmitHead) → o ≡ Some asked → SpellsAnswer (entries_by o notify) (down.RetSubmit a transferred) bytes
+    request_found None e = absurd (cc)
+    request_found (Some x) e =
+        let same : x ≡ asked = cc in
+        let found : submit_of (find a.seqnum (entries_by (Some x) notify)) ≡ Some (x.dir, x.length) = rw (eq-eqb x.seqnum a.seqnum (ap (λ (h : SubmitHead). h.seqnum) same ∙ sym number)) refl in
+        (record { dir = x.dir; size = x.length }, found, subst (λ (h : SubmitHead). SpellsRetSubmit (record { dir = h.dir; size = h.length }) a transferred bytes) (sym same) spelled)
+
+    notify_found : (b : Bool) (o : Option SubmitHead) → o ≡ Some asked → IsOther o read.head → SpellsAnswer (entries_by (while b read.head) o) (down.RetSubmit a transferred) bytes
+    notify_found b None e other = absurd (cc)
+    notify_found false (Some x) e other =
+        let same : x ≡ asked = cc in
+        let found : submit_of (find a.seqnum (entries_by None (Some x))) ≡ Some (x.dir, x.length) = rw (eq-eqb x.seqnum a.seqnum (ap (λ (h : SubmitHead). h.seqnum) same ∙ sym number)) refl in
+        (record { dir = x.dir; size = x.length }, found, subst (λ (h : SubmitHead). SpellsRetSubmit (record { dir = h.dir; size = h.length }) a transferred bytes) (sym same) spelled)
+    notify_found true (Some x) e other =
+        let same : x ≡ asked = cc in
+        let apart : read.head.seqnum ≢ a.seqnum = λ k. other (ap (λ (h : SubmitHead). h.seqnum) same ∙ sym number ∙ sym k) in
+        let found : submit_of (find a.seqnum (entries_by (Some read.head) (Some x))) ≡ Some (x.dir, x.length) =
+        rw (ne_eqb read.head.seqnum a.seqnum apart) (rw (eq-eqb x.seqnum a.seqnum (ap (λ (h : SubmitHead). h.seqnum) same ∙ sym number)) refl) in
+        (record { dir = x.dir; size = x.length }, found, subst (λ (h : SubmitHead). SpellsRetSubmit (record { dir = h.dir; size = h.length }) a transferred bytes) (sym same) spelled)
+
+    by : (e : Endpoint) → fits.0.endpoint ≡ e → Goal
+    by Control is =
+        let e = first_asked (asked_by (while waits read.head) notify) _ asked a transferred next ups downs s Control (fits.0.number ∙ ap number_of is) r.bond in
+        request_found (while waits read.head) (one_only (while waits read.head) asked e.0 e.1)
+    by BulkOut is = let e = first_asked (asked_by (while waits read.head) notify) _ asked a transferred next ups downs s BulkOut (fits.0.number ∙ ap number_of is) r.bond in some_first asked e.0 e.1
+    by BulkIn is = let e = first_asked (asked_by (while waits read.head) notify) _ asked a transferred next ups downs s BulkIn (fits.0.number ∙ ap number_of is) r.bond in some_first asked e.0 e.1
+    by InterruptIn is =
+        let e = first_asked (asked_by (while waits read.head) notify) _ asked a transferred next ups downs s InterruptIn (fits.0.number ∙ ap number_of is) r.bond in
+        notify_found waits notify (one_only notify asked e.0 e.1) r.other

@@ -5,7 +5,6 @@ pub mod Unlinking
 pub mod Jobs
 pub mod Reads
 pub mod Stage
-pub mod StatusReads
 pub mod Asking
 -- what follows from an ask, and what a host does with it
 pub mod Owned
@@ -30,6 +29,8 @@ pub mod Hits
 pub mod Turns
 pub mod Reasons
 pub mod Races
+-- a status read
+pub mod StatusReads
 -- examples
 pub mod WorkedAsks
 pub mod WorkedTies
@@ -41,5 +42,6 @@ pub mod WorkedUnplugging
 pub mod WorkedTriggers
 pub mod WorkedRemotes
 pub mod WorkedReasons
+pub mod WorkedStatusReads
 pub mod WorkedRaces
 pub mod WorkedNotices

@@ -3,7 +3,10 @@ use Rattle.std.specs.Prelude.{◌≡◌, ◌≢◌, ◌⊎◌, ℕ, ◌==◌, �
 use Rattle.usbip_wire.specs.declared.submit.SubmitHead.{SubmitHead}
 use Rattle.usbip_wire.specs.declared.ret_submit.RetSubmitHead.{RetSubmitHead}
 use Rattle.usbip_wire.specs.declared.urb.Dir.TheVariants.{In}
+use Rattle.tmc_base.specs.declared.run_step.RunStep.{RunStep}
+use Rattle.usbip_wire.specs.declared.dirs.Outstanding.{Outstanding}
 use Rattle.usbip_wire.specs.Up as up
+use Rattle.usbip_wire.specs.Down as down
 use Rattle.tmc_wire.specs.declared.class_request.ClassRequest.TheVariants.{ReadStatus}
 use Rattle.tmc_wire.specs.ClassStatus.{STATUS_SUCCESS, STATUS_INTERRUPT_IN_BUSY}
 use Rattle.instr_plain.specs.declared.log.LogEntry.{LogEntry}
@@ -15,10 +18,12 @@ use Rattle.tmc_law.specs.State.{State, Pending, Packet, StatusPacket, ServicePac
 use Rattle.tmc_law.specs.Put.{Put, Submitted, Unlinked, success, stalled}
 use Rattle.tmc_law.specs.Status.{IsStatusTag, status_layout, packet_bytes}
 use Rattle.tmc_law.specs.AnswerFits.{AllAnswers}
+use Rattle.tmc_law.specs.Laws.{message_of}
 use Rattle.host_joint.specs.Lines.{Sent, sent_to, Event, Gives, Drops, events_of}
 use Rattle.host_joint.specs.Positions.{IsAt, rests}
 use Rattle.host_joint.specs.Requests.{IsClass}
 use Rattle.host_joint.specs.Bond.{Bond}
+use Rattle.host_joint.specs.Joint.{JointBy, entries_for}
 
 -- ---- the packets on their way to a host
 
@@ -221,3 +226,22 @@ abbrev pub NoneTagged : (tag : ℕ) → List Packet → Type 0
 NoneTagged tag [] = Unit {0}
 NoneTagged tag (StatusPacket other byte ∷ packets) = (other ≢ tag) × NoneTagged tag packets
 NoneTagged tag (ServicePacket byte ∷ packets) = NoneTagged tag packets
+
+-- ---- over a link
+
+-- the submits that are not answered, as a reader of answers knows them
+abbrev pub entries_by : (request notify : Option SubmitHead) → List Outstanding
+entries_by request notify = entries_for request ++ entries_for notify
+
+-- The next message, from these bytes, is the first answer on its way, and the two are tied with it. Whatever the host has of the read then, it is
+-- joined to the device as it is tied behind that answer.
+pub record IsNextOfRead (read : StatusRead) (waits : Bool) (notify : Option SubmitHead) (got : Option ℕ) (older : List Packet) (next devid : ℕ) (message : down.Message) (written given this : List ℕ) (steps : List RunStep) (s : State) : Type 0 where
+  pub put : Put
+  pub ups : List up.Message
+  pub downs : List Put
+  pub is : message_of put ≡ message
+  pub tie : ReadsStatus read waits notify got older next ups (put ∷ downs) s
+  pub later : (still : Bool) (other : Option SubmitHead) (has : Option ℕ) (left : List Packet) → ReadsStatus read still other has left next ups downs s
+      → JointBy (λ ups downs t. ReadsStatus read still other has left next ups downs t) devid written (given ++ this) steps s
+  pub quiet : (other : Option SubmitHead) (left : List Packet) → Quiet other left next ups downs s
+      → JointBy (λ ups downs t. Quiet other left next ups downs t) devid written (given ++ this) steps s

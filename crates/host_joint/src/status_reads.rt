@@ -3,7 +3,12 @@
 
 ghost use Rattle.std.specs.Prelude.{◌≡◌, ℕ, ◌+◌, Bool, true, false, Option, Some, None, List, [], ◌∷◌, ◌++◌};
 ghost use Rattle.tmc_base.specs.declared.run_step.RunStep.{RunStep};
-ghost use Rattle.tmc_base.specs.Told.{in_bytes, IsFront};
+ghost use Rattle.tmc_base.specs.Told.{in_bytes, out_bytes, IsFront};
+ghost use Rattle.tmc_base.specs.declared.field.Field.{Field};
+ghost use Rattle.usbip_wire.specs.declared.down.DownPhase.TheVariants.{Urbs};
+ghost use Rattle.usbip_wire.specs.Down as down;
+ghost use Rattle.usbip_wire.specs.Down.{SpellsAnswer};
+ghost use Rattle.usbip_wire.specs.DownFed.{BadAt};
 ghost use Rattle.usbip_wire.specs.declared.ret_submit.RetSubmitHead.{RetSubmitHead};
 ghost use Rattle.usbip_wire.specs.declared.submit.SubmitHead.{SubmitHead};
 ghost use Rattle.usbip_wire.specs.Up as up;
@@ -19,7 +24,7 @@ ghost use Rattle.host_joint.specs.Asking.{StaysPlugged};
 ghost use Rattle.host_joint.specs.Bond.{Stands, Resting, Bound};
 ghost use Rattle.host_joint.specs.Joint.{TellsPlugged, JointBy};
 ghost use Rattle.host_joint.specs.Unplugged.{Until};
-ghost use Rattle.host_joint.specs.StatusReads.{statuses, OnePolled, StatusRead, IsNotify, Quiet, ReadsStatus, GivesStatus, GivesQuiet, NoneTagged};
+ghost use Rattle.host_joint.specs.StatusReads.{statuses, OnePolled, StatusRead, IsNotify, Quiet, ReadsStatus, GivesStatus, GivesQuiet, NoneTagged, while, entries_by, IsNextOfRead};
 
 use crate::no_submit_is_refused;
 use instr_plain::one_response;
@@ -29,7 +34,10 @@ use tmc_law::laws::{
     runs_take_in_messages, setups_have_one_meaning, steps_act, the_log_grows,
 };
 use tmc_wire::headers_are_read_again;
-use usbip_wire::urbs_are_determined;
+use usbip_wire::{
+    answers_are_determined, bad_fields_are_alone, bad_fields_are_refused, bad_fields_stay,
+    urbs_are_determined,
+};
 
 /// A host that stands at rest is in no status read, and what it knows of the packets with a status byte is kept under each run of a device that is not
 /// unplugged. It may write a submit to Interrupt-IN, if none is there that is not answered. What such a submit is answered with is a request for
@@ -109,4 +117,46 @@ pub fn status_reads_are_tied()
     runs_take_in_messages();
     messages_are_refused_by_what_is_pending();
     urbs_are_determined();
+}
+
+/// Over a link, a host that is in no status read stays joined while the device goes on, and where it writes a submit to Interrupt-IN or
+/// READ_STATUS_BYTE, in any spelling. What a host in a status read reads next is the first answer on its way, and no field of its bytes is bad.
+pub fn status_reads_are_read()
+    ensures begins { (devid : ℕ) (older : List Packet) (next : ℕ) (written given : List ℕ) (steps : List RunStep) (s : State) → statuses s.packets ≡ older
+        → JointBy (λ ups downs t. Bound (Stands Resting) None [] next ups downs t) devid written given steps s
+        → JointBy (λ ups downs t. Quiet None older next ups downs t) devid written given steps s }
+    ensures goes_on { (devid : ℕ) (notify : Option SubmitHead) (older : List Packet) (next : ℕ) (written given : List ℕ) (steps more : List RunStep) (s t : State)
+        → TellsPlugged devid s more t → IsFront (in_bytes (steps ++ more)) written
+        → JointBy (λ ups downs t. Quiet notify older next ups downs t) devid written given steps s
+        → JointBy (λ ups downs t. Quiet notify older next ups downs t) devid written given (steps ++ more) t }
+    ensures notify { (devid : ℕ) (head : SubmitHead) (older : List Packet) (next : ℕ) (text written given : List ℕ) (steps : List RunStep) (s : State)
+        → IsNotify head → head.seqnum ≡ next → up.Spells devid (up.Submit head []) text
+        → JointBy (λ ups downs t. Quiet None older next ups downs t) devid written given steps s
+        → JointBy (λ ups downs t. Quiet (Some head) older (next + 1) ups downs t) devid (written ++ text) given steps s }
+    ensures written { (devid : ℕ) (head : SubmitHead) (tag : ℕ) (notify : Option SubmitHead) (older : List Packet) (next : ℕ) (text written given : List ℕ) (steps : List RunStep) (s : State)
+        → IsClass head (ReadStatus tag) → IsStatusTag tag → Fitting head → head.seqnum ≡ next → up.Spells devid (up.Submit head []) text
+        → JointBy (λ ups downs t. Quiet notify older next ups downs t) devid written given steps s
+        → JointBy (λ ups downs t. ReadsStatus (record { head = head; tag = tag; since = s.log; left = older }) true notify None older (next + 1) ups downs t) devid (written ++ text) given steps s }
+    ensures again { (devid : ℕ) (head : SubmitHead) (read : StatusRead) (waits : Bool) (got : Option ℕ) (older : List Packet) (next : ℕ) (text written given : List ℕ) (steps : List RunStep) (s : State)
+        → IsNotify head → head.seqnum ≡ next → up.Spells devid (up.Submit head []) text
+        → JointBy (λ ups downs t. ReadsStatus read waits None got older next ups downs t) devid written given steps s
+        → JointBy (λ ups downs t. ReadsStatus read waits (Some head) got older (next + 1) ups downs t) devid (written ++ text) given steps s }
+    ensures next { (devid : ℕ) (read : StatusRead) (waits : Bool) (notify : Option SubmitHead) (got : Option ℕ) (older : List Packet) (next : ℕ) (written given this more : List ℕ) (message : down.Message) (steps : List RunStep) (s : State)
+        → JointBy (λ ups downs t. ReadsStatus read waits notify got older next ups downs t) devid written given steps s → out_bytes steps ≡ given ++ (this ++ more)
+        → SpellsAnswer (entries_by (while waits read.head) notify) message this → IsNextOfRead read waits notify got older next devid message written given this steps s }
+    ensures bad { (devid : ℕ) (read : StatusRead) (waits : Bool) (notify : Option SubmitHead) (got : Option ℕ) (older : List Packet) (next : ℕ) (written given rest more : List ℕ) (steps : List RunStep) (s : State) (f : Field)
+        → JointBy (λ ups downs t. ReadsStatus read waits notify got older next ups downs t) devid written given steps s → out_bytes steps ≡ given ++ (rest ++ more)
+        → BadAt Urbs (entries_by (while waits read.head) notify) rest f → ⊥ }
+{
+    packets_are_told();
+    status_reads_are_tied();
+    no_submit_is_refused();
+    runs_join();
+    runs_take_in_messages();
+    messages_are_refused_by_what_is_pending();
+    urbs_are_determined();
+    answers_are_determined();
+    bad_fields_are_alone();
+    bad_fields_are_refused();
+    bad_fields_stay();
 }

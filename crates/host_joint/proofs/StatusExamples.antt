@@ -1,0 +1,65 @@
+-- what worked status reads need
+use Rattle.std.proofs.Common.{◌≡◌, ◌∙◌, ℕ, true, false, Option, Some, None, List, [], ◌∷◌, refl, ap, sym, lit<, lit≤, arith}
+use Rattle.usbip_wire.specs.declared.submit.SubmitHead.{SubmitHead}
+use Rattle.usbip_wire.specs.declared.ret_submit.RetSubmitHead.{RetSubmitHead}
+use Rattle.tmc_wire.specs.declared.class_request.ClassRequest.TheVariants.{ReadStatus}
+use Rattle.tmc_wire.specs.ControlTable.{row}
+use Rattle.tmc_law.specs.Endpoint.{Control, ends}
+use Rattle.tmc_law.specs.State.{State, Packet, start}
+use Rattle.tmc_law.specs.Put.{Put, success, stalled}
+use Rattle.tmc_law.specs.WorkedSession.{notify_submit}
+use Rattle.tmc_law.specs.WorkedStatus.{status_submit}
+use Rattle.usbip_wire.specs.Up as up
+use Rattle.host_joint.specs.Requests.{IsClass}
+use Rattle.host_joint.specs.StatusReads.{StatusRead, ReadsStatus, GivesStatus, SaysSuccess, SaysBusy, BringsService, BringsOlder, BringsByte, BringsHalt}
+use Rattle.host_joint.specs.WorkedStatusReads.{first_read}
+
+pub status_is : IsClass status_submit (ReadStatus 5)
+status_is = record {
+  number = refl;
+  way = refl;
+  setup = row ends (ReadStatus 5);
+  asks = record { fits = record { request_type = lit< tt; request = lit< tt; value = lit< tt; index = lit< tt; length = lit< tt }; layout = refl };
+  row = record { fits = lit< tt; is = refl };
+  room = lit≤ tt;
+}
+
+abbrev seq_of : Option SubmitHead → ℕ
+seq_of None = 0
+seq_of (Some head) = head.seqnum
+
+abbrev first_of : List ℕ → ℕ
+first_of [] = 0
+first_of (x ∷ l) = x
+
+pub two_submits : Some (notify_submit 1 8) ≡ Some status_submit → ⊥
+two_submits e = omega (arith, ap seq_of e)
+
+pub first_apart : (x y : ℕ) (k l : List ℕ) → (x ≡ y → ⊥) → x ∷ k ≡ y ∷ l → ⊥
+first_apart x y k l differ e = differ (ap first_of e)
+
+pub no_packet : (packet : Packet) (others : List Packet) → [] ≡ packet ∷ others → ⊥
+no_packet packet others e = cc
+
+pub no_stall : success ≡ stalled → ⊥
+no_stall e = cc
+
+-- the answer to the request is SUCCESS
+pub said : (notify : Option SubmitHead) (got : Option ℕ) (next : ℕ) (ups : List up.Message) (downs : List Put) (s : State) → (notify ≡ Some status_submit → ⊥)
+    → GivesStatus first_read true notify got [] status_submit (record { seqnum = 2; status = success; actual = 3 }) (0x01 ∷ 0x05 ∷ 0x00 ∷ []) next ups downs s → ReadsStatus first_read false notify got [] next ups downs s
+said notify got next ups downs s other (SaysSuccess w same is text behind) = behind
+said notify got next ups downs s other (SaysBusy w same is text some not_yet quiet) = absurd (some refl)
+said notify got next ups downs s other (BringsService byte is fine text behind) = absurd (other is)
+said notify got next ups downs s other (BringsOlder packet others is fine left text behind) = absurd (other is)
+said notify got next ups downs s other (BringsByte byte is fine none g text one behind) = absurd (other is)
+said notify got next ups downs s other (BringsHalt is halted behind) = absurd (other is)
+
+-- no packet with another tag comes
+pub other_tag : (asked : SubmitHead) (answer : RetSubmitHead) (byte next : ℕ) (ups : List up.Message) (downs : List Put) (s : State) → answer.status ≡ success
+    → GivesStatus first_read true (Some (notify_submit 1 8)) None [] asked answer (0x86 ∷ byte ∷ []) next ups downs s → ⊥
+other_tag asked answer byte next ups downs s good (SaysSuccess w same is text behind) = first_apart 0x86 0x01 (byte ∷ []) (0x05 ∷ 0x00 ∷ []) (λ e. omega (arith, e)) text
+other_tag asked answer byte next ups downs s good (SaysBusy w same is text some not_yet quiet) = some refl
+other_tag asked answer byte next ups downs s good (BringsService other is fine text behind) = first_apart 0x86 0x81 (byte ∷ []) (other ∷ []) (λ e. omega (arith, e)) text
+other_tag asked answer byte next ups downs s good (BringsOlder packet others is fine left text behind) = no_packet packet others left
+other_tag asked answer byte next ups downs s good (BringsByte other is fine none g text one behind) = first_apart 0x86 0x85 (byte ∷ []) (other ∷ []) (λ e. omega (arith, e)) text
+other_tag asked answer byte next ups downs s good (BringsHalt is halted behind) = no_stall (sym good ∙ halted)
