@@ -68,3 +68,5 @@ mod Packeting
 mod StatusReading
 mod StatusTied
 mod StatusExamples
+mod StatusRacing
+mod StatusCancelled

@@ -45,11 +45,11 @@ two (x ∷ []) (y ∷ b) u e = absurd (cc)
 two (x ∷ y ∷ a) b u e = absurd (cc)
 
 -- the messages before the last one
-data Ahead (move : Move) (ups front : List up.Message) (last : up.Message) : Type 0 where
+pub data Ahead (move : Move) (ups front : List up.Message) (last : up.Message) : Type 0 where
   IsLast : move ≡ Comes last → ups ≡ [] → front ≡ [] → Ahead move ups front last
   IsAhead : (later : List up.Message) → front ≡ taken move ++ later → ups ≡ later ++ last ∷ [] → Ahead move ups front last
 
-ahead : (move : Move) (ups front : List up.Message) (last : up.Message) → taken move ++ ups ≡ front ++ last ∷ [] → Ahead move ups front last
+pub ahead : (move : Move) (ups front : List up.Message) (last : up.Message) → taken move ++ ups ≡ front ++ last ∷ [] → Ahead move ups front last
 ahead move ups front last is = by (one_taken move)
   where
     comes : (message : up.Message) (l : List up.Message) → move ≡ Comes message → message ∷ ups ≡ l ++ last ∷ [] → front ≡ l → Ahead move ups front last
@@ -61,7 +61,7 @@ ahead move ups front last is = by (one_taken move)
     by (inl none) = IsAhead front (ap (λ (l : List up.Message). l ++ front) (sym none)) (ap (λ (l : List up.Message). l ++ ups) (sym none) ∙ is)
     by (inr came) = comes came.0 front came.1 (ap (λ (m : Move). taken m ++ ups) (sym came.1) ∙ is) refl
 
-lines_front : (asked : Endpoint → List SubmitHead) (u : UnlinkHead) (front : List up.Message) (downs : List Put) (s : State) → Lines asked (u ∷ []) (front ++ up.Unlink u ∷ []) downs s → Lines asked [] front downs s
+pub lines_front : (asked : Endpoint → List SubmitHead) (u : UnlinkHead) (front : List up.Message) (downs : List Put) (s : State) → Lines asked (u ∷ []) (front ++ up.Unlink u ∷ []) downs s → Lines asked [] front downs s
 lines_front asked u front downs s lines = record {
   submits = λ e. subst (λ (l : List Sent). LeftBy (asked e) (events_of e downs) (heads (queue_of e s) ++ sent_heads l)) (sent-append e front (up.Unlink u ∷ []) ∙ append-nil (sent_to e front)) (lines.submits e);
   unlinked = let none = two (unlinked_by downs) (unlinks_in front) u (lines.unlinked ∙ ap (λ (l : List UnlinkHead). unlinked_by downs ++ l) (unlinks-append front (up.Unlink u ∷ []))) in
@@ -72,7 +72,7 @@ no_unlink : (a b : List UnlinkHead) → [] ≡ a ++ b → (a ≡ []) × (b ≡ [
 no_unlink [] b e = (refl, sym e)
 no_unlink (x ∷ a) b e = absurd (cc)
 
-fitting_front : (front : List up.Message) (u : UnlinkHead) → AllFitting (front ++ up.Unlink u ∷ []) → AllFitting front
+pub fitting_front : (front : List up.Message) (u : UnlinkHead) → AllFitting (front ++ up.Unlink u ∷ []) → AllFitting front
 fitting_front [] u h = tt
 fitting_front (up.Submit x transferred ∷ front) u h = (h.0, fitting_front front u h.1)
 fitting_front (up.Unlink x ∷ front) u h = fitting_front front u h

@@ -138,7 +138,7 @@ polled_once n since s t stands log none = record {
   was_read = refl;
 }
 
-clash : {B : Type 0} (b : Bool) → b ≡ false → b ≡ true → B
+pub clash : {B : Type 0} (b : Bool) → b ≡ false → b ≡ true → B
 clash b off on = let e : false ≡ true = sym off ∙ on in absurd (cc)
 
 -- it was not read yet, and now it is
@@ -225,7 +225,7 @@ answered read b code setup served state downs puts is asks made put empty =
       ap (λ (p : List Put). packets_in (events_of InterruptIn p)) alone ∙ ap (λ (l : List Event). packets_in l) (other_event InterruptIn read.head _ _ [] 0 is.number refl),
     )
 
-serves : (read : StatusRead) (b waits : Bool) (got : Option ℕ) (older : List Packet) (ups : List up.Message) (downs puts : List Put) (s t : State) (setup : Setup) (submit : Pending) (served : Served) → OnlyClass read.head (ReadStatus read.tag)
+pub serves : (read : StatusRead) (b waits : Bool) (got : Option ℕ) (older : List Packet) (ups : List up.Message) (downs puts : List Put) (s t : State) (setup : Setup) (submit : Pending) (served : Served) → OnlyClass read.head (ReadStatus read.tag)
     → IsStatusTag read.tag → Stands s.log s.standing → AllAnswers IsUsual puts → Asks (arrived read.head []) setup → submit ≡ record (arrived read.head []) { polled = b } → waits ≡ true → sent_to Control ups ≡ [] → events_of Control downs ≡ []
     → puts ≡ control_answer (record (arrived read.head []) { polled = b }) setup served.layout ∷ served.behind → t ≡ served.state → status.ReadsStatus read.tag submit (record s { control = [] }) served
     → (h : StatusHeld read waits got older ups downs s) → h.polled ≡ b → StatusHeld read waits got older ups (downs ++ puts) t
@@ -316,7 +316,7 @@ none_pend read waits got older ups downs puts s t is pend h = by h.request
 
 -- ---- all moves
 
-status_goes : (read : StatusRead) (waits : Bool) (got : Option ℕ) (older : List Packet) (ups : List up.Message) (downs puts : List Put) (s t : State) (move : Move) → OnlyClass read.head (ReadStatus read.tag) → IsStatusTag read.tag
+pub status_goes : (read : StatusRead) (waits : Bool) (got : Option ℕ) (older : List Packet) (ups : List up.Message) (downs puts : List Put) (s t : State) (move : Move) → OnlyClass read.head (ReadStatus read.tag) → IsStatusTag read.tag
     → Stands s.log s.standing → IsSound s → NoBulk (taken move ++ ups) → AllFitting (taken move ++ ups) → move ≢ Unplug → AllAnswers IsUsual puts → Leads s move puts t → Adds (MayLog s move) s t
     → StatusHeld read waits got older (taken move ++ ups) downs s → StatusHeld read waits got older ups (downs ++ puts) t
 status_goes read waits got older ups downs puts s t (Comes (up.Submit x transferred)) is tagged stands sound none fit plugged usual h adds held =

@@ -26,7 +26,7 @@ use Rattle.host_joint.specs.Positions.{IsAt, rests}
 use Rattle.host_joint.specs.Requests.{IsClass}
 use Rattle.host_joint.specs.Tie.{asked_of}
 use Rattle.host_joint.specs.Bond.{IsFit, Bond, Bound, Stands, Resting}
-use Rattle.host_joint.specs.StatusReads.{is_good, packets_in, bytes_of, statuses, IsUsual, Brings, NonePolled, OnePolled, StatusRead, StatusAt, StatusComes, StatusPends, StatusPolled, StatusSaid, StatusBusy, StatusOver, ByteAt, ByteUnread, ByteComes, ByteCame, StatusHeld, QuietHeld, none_or_one, asked_by, while, IsNotify, IsEarlier, IsOther, Quiet, ReadsStatus, GivesStatus, SaysSuccess, SaysBusy, BringsService, BringsOlder, BringsByte, BringsHalt, NoneTagged, entries_by, GivesQuiet, QuietService, QuietOlder, QuietHalt}
+use Rattle.host_joint.specs.StatusReads.{is_good, packets_in, bytes_of, statuses, IsUsual, Brings, NonePolled, OnePolled, StatusRead, StatusAt, StatusComes, StatusPends, StatusPolled, StatusSaid, StatusBusy, StatusOver, ByteAt, ByteUnread, ByteComes, ByteCame, StatusHeld, QuietHeld, FreeHeld, none_or_one, asked_by, while, IsNotify, IsEarlier, IsOther, Quiet, ReadsStatus, GivesStatus, SaysSuccess, SaysBusy, BringsService, BringsOlder, BringsByte, BringsHalt, NoneTagged, entries_by, GivesQuiet, QuietService, QuietOlder, QuietHalt}
 use Rattle.host_joint.proofs.Flows.{all_answered}
 use Rattle.host_joint.proofs.Booking.{submit_written, submit_answered, other_line}
 use Rattle.host_joint.proofs.Numbered.{rises_written}
@@ -256,10 +256,11 @@ read_left read notify older next ups downs s r = by h.request h.byte
 -- ---- what it is given
 
 -- the bond behind the answer to one of the two submits
-answered : (Before After : List up.Message → List Put → State → Type 0) (asked later : Endpoint → List SubmitHead) (e : Endpoint) (head : SubmitHead) (a : RetSubmitHead) (transferred : List ℕ) (next : ℕ) (ups : List up.Message) (downs : List Put) (s : State)
-    → head.ep ≡ number_of e → asked e ≡ head ∷ [] → later e ≡ [] → ((d : Endpoint) → d ≢ e → later d ≡ asked d) → Bond Before asked [] next ups (Submitted head a transferred ∷ downs) s → After ups downs s → Bond After later [] next ups downs s
-answered Before After asked later e head a transferred next ups downs s own first none kept bond held =
-    let taken = submit_answered asked [] ups head a transferred downs s e own bond.lines in
+pub answered_by : (Before After : List up.Message → List Put → State → Type 0) (asked later : Endpoint → List SubmitHead) (unlinks : List UnlinkHead) (e : Endpoint) (head : SubmitHead) (a : RetSubmitHead) (transferred : List ℕ) (next : ℕ) (ups : List up.Message) (downs : List Put) (s : State)
+    → head.ep ≡ number_of e → asked e ≡ head ∷ [] → later e ≡ [] → ((d : Endpoint) → d ≢ e → later d ≡ asked d) → Bond Before asked unlinks next ups (Submitted head a transferred ∷ downs) s → After ups downs s
+    → Bond After later unlinks next ups downs s
+answered_by Before After asked later unlinks e head a transferred next ups downs s own first none kept bond held =
+    let taken = submit_answered asked unlinks ups head a transferred downs s e own bond.lines in
     let rest : taken.0 ≡ [] = tail head head taken.0 (sym taken.1 ∙ first) in
     record {
       run = bond.run;
@@ -276,20 +277,28 @@ answered Before After asked later e head a transferred next ups downs s own firs
     tail : (x y : SubmitHead) (l : List SubmitHead) → x ∷ l ≡ y ∷ [] → l ≡ []
     tail x y l e = cc
 
+answered : (Before After : List up.Message → List Put → State → Type 0) (asked later : Endpoint → List SubmitHead) (e : Endpoint) (head : SubmitHead) (a : RetSubmitHead) (transferred : List ℕ) (next : ℕ) (ups : List up.Message) (downs : List Put) (s : State)
+    → head.ep ≡ number_of e → asked e ≡ head ∷ [] → later e ≡ [] → ((d : Endpoint) → d ≢ e → later d ≡ asked d) → Bond Before asked [] next ups (Submitted head a transferred ∷ downs) s → After ups downs s → Bond After later [] next ups downs s
+answered Before After asked later e head a transferred next ups downs s own first none kept bond held = answered_by Before After asked later [] e head a transferred next ups downs s own first none kept bond held
+
 -- it is the submit to its endpoint that is not answered
+pub first_asked_by : (asked : Endpoint → List SubmitHead) (unlinks : List UnlinkHead) (Holds : List up.Message → List Put → State → Type 0) (head : SubmitHead) (a : RetSubmitHead) (transferred : List ℕ) (next : ℕ) (ups : List up.Message) (downs : List Put) (s : State) (e : Endpoint)
+    → head.ep ≡ number_of e → Bond Holds asked unlinks next ups (Submitted head a transferred ∷ downs) s → (rest : List SubmitHead) × (asked e ≡ head ∷ rest)
+first_asked_by asked unlinks Holds head a transferred next ups downs s e own bond = let taken = submit_answered asked unlinks ups head a transferred downs s e own bond.lines in (taken.0, taken.1)
+
 first_asked : (asked : Endpoint → List SubmitHead) (Holds : List up.Message → List Put → State → Type 0) (head : SubmitHead) (a : RetSubmitHead) (transferred : List ℕ) (next : ℕ) (ups : List up.Message) (downs : List Put) (s : State) (e : Endpoint)
     → head.ep ≡ number_of e → Bond Holds asked [] next ups (Submitted head a transferred ∷ downs) s → (rest : List SubmitHead) × (asked e ≡ head ∷ rest)
-first_asked asked Holds head a transferred next ups downs s e own bond = let taken = submit_answered asked [] ups head a transferred downs s e own bond.lines in (taken.0, taken.1)
+first_asked asked Holds head a transferred next ups downs s e own bond = first_asked_by asked [] Holds head a transferred next ups downs s e own bond
 
-one_only : (o : Option SubmitHead) (head : SubmitHead) (rest : List SubmitHead) → none_or_one o ≡ head ∷ rest → o ≡ Some head
+pub one_only : (o : Option SubmitHead) (head : SubmitHead) (rest : List SubmitHead) → none_or_one o ≡ head ∷ rest → o ≡ Some head
 one_only None head rest e = absurd (cc)
 one_only (Some x) head rest e = let same : x ≡ head = cc in ap (λ (y : SubmitHead). Some y) same
 
-while_some : (b : Bool) (head asked : SubmitHead) → while b head ≡ Some asked → (b ≡ true) × (asked ≡ head)
+pub while_some : (b : Bool) (head asked : SubmitHead) → while b head ≡ Some asked → (b ≡ true) × (asked ≡ head)
 while_some true head asked e = let same : head ≡ asked = cc in (refl, sym same)
 while_some false head asked e = absurd (cc)
 
-some_first : {B : Type 0} (head : SubmitHead) (rest : List SubmitHead) → [] ≡ head ∷ rest → B
+pub some_first : {B : Type 0} (head : SubmitHead) (rest : List SubmitHead) → [] ≡ head ∷ rest → B
 some_first head rest e = absurd (cc)
 
 -- an answer at another endpoint brings no packet
@@ -307,7 +316,7 @@ pub data First (l : List Packet) (a : RetSubmitHead) (transferred : List ℕ) (d
   FirstStatus : (tag byte : ℕ) (others : List Packet) → a.status ≡ success → l ≡ StatusPacket tag byte ∷ others → transferred ≡ packet_bytes (StatusPacket tag byte) → Brings others downs s → First l a transferred downs s
   FirstHalt : a.status ≡ stalled → Brings l downs s → First l a transferred downs s
 
-first : (l : List Packet) (head : SubmitHead) (a : RetSubmitHead) (transferred : List ℕ) (downs : List Put) (s : State) → head.ep ≡ 3 → Brings l (Submitted head a transferred ∷ downs) s → First l a transferred downs s
+pub first : (l : List Packet) (head : SubmitHead) (a : RetSubmitHead) (transferred : List ℕ) (downs : List Put) (s : State) → head.ep ≡ 3 → Brings l (Submitted head a transferred ∷ downs) s → First l a transferred downs s
 first l head a transferred downs s own b = by b.usual.0
   where
     given : cond (is_good a.status) (transferred ∷ packets_in (events_of InterruptIn downs)) (packets_in (events_of InterruptIn downs)) ≡ bytes_of b.sent
@@ -338,120 +347,128 @@ first l head a transferred downs s own b = by b.usual.0
         } in
         FirstHalt halted rest
 
-request_kept : (request notify : Option SubmitHead) (d : Endpoint) → d ≢ InterruptIn → asked_by request None d ≡ asked_by request notify d
+pub request_kept : (request notify : Option SubmitHead) (d : Endpoint) → d ≢ InterruptIn → asked_by request None d ≡ asked_by request notify d
 request_kept request notify Control differ = refl
 request_kept request notify BulkOut differ = refl
 request_kept request notify BulkIn differ = refl
 request_kept request notify InterruptIn differ = absurd (differ refl)
 
-notify_left : (request notify : Option SubmitHead) (d : Endpoint) → d ≢ Control → asked_by None notify d ≡ asked_by request notify d
+pub notify_left : (request notify : Option SubmitHead) (d : Endpoint) → d ≢ Control → asked_by None notify d ≡ asked_by request notify d
 notify_left request notify Control differ = absurd (differ refl)
 notify_left request notify BulkOut differ = refl
 notify_left request notify BulkIn differ = refl
 notify_left request notify InterruptIn differ = refl
 
-from_request : (read : StatusRead) (waits : Bool) (notify : Option SubmitHead) (got : Option ℕ) (older : List Packet) (asked : SubmitHead) (a : RetSubmitHead) (transferred : List ℕ) (next : ℕ) (ups : List up.Message) (downs : List Put) (s : State)
-    → asked.ep ≡ 0 → ReadsStatus read waits notify got older next ups (Submitted asked a transferred ∷ downs) s → GivesStatus read waits notify got older asked a transferred next ups downs s
-from_request read waits notify got older asked a transferred next ups downs s own r =
-    let e = first_asked (asked_by (while waits read.head) notify) _ asked a transferred next ups downs s Control own r.bond in
-    let same = while_some waits read.head asked (one_only (while waits read.head) asked e.0 e.1) in
-    by same.0 same.1 (subst (λ (l : List Event). StatusAt read waits h.polled (sent_to Control ups) l s.control) (own_event Control asked a transferred downs own) h.request)
+-- the answer to the request, by what it says
+pub request_given : {Goal : Type 0} (read : StatusRead) (waits : Bool) (got : Option ℕ) (older : List Packet) (asked : SubmitHead) (a : RetSubmitHead) (transferred : List ℕ) (ups : List up.Message) (downs : List Put) (s : State) → asked.ep ≡ 0
+    → StatusHeld read waits got older ups (Submitted asked a transferred ∷ downs) s
+    → (a ≡ record { seqnum = read.head.seqnum; status = success; actual = 3 } → transferred ≡ status_layout STATUS_SUCCESS read.tag → StatusHeld read false got older ups downs s → Goal)
+    → (a ≡ record { seqnum = read.head.seqnum; status = success; actual = 3 } → transferred ≡ status_layout STATUS_INTERRUPT_IN_BUSY read.tag → read.left ≢ [] → NonePolled read.since s.log → FreeHeld older ups downs s → Goal) → Goal
+request_given {Goal} read waits got older asked a transferred ups downs s own h success_is busy_is = by (subst (λ (l : List Event). StatusAt read waits h.polled (sent_to Control ups) l s.control) (own_event Control asked a transferred downs own) h.request)
   where
-    h : StatusHeld read waits got older ups (Submitted asked a transferred ∷ downs) s
-    h = r.bond.held
-
     brings : Brings h.status_packets downs s
     brings = brings_behind h.status_packets asked a transferred downs s own h.brings
 
-    none_behind : (x y : Event) (l : List Event) → x ∷ l ≡ y ∷ [] → l ≡ []
-    none_behind x y l e = cc
-
-    first_is : (w : waits ≡ true) → asked ≡ read.head → asked_by (while waits read.head) notify Control ≡ asked ∷ []
-    first_is w same = ap (λ (b : Bool). none_or_one (while b read.head)) w ∙ ap (λ (x : SubmitHead). x ∷ []) (sym same)
+    behind_one : (x y : Event) (l : List Event) → x ∷ l ≡ y ∷ [] → l ≡ []
+    behind_one x y l e = cc
 
     unread : ByteAt read older got h.polled h.status_packets s.log → h.polled ≡ false → (h.status_packets ≡ older) × NonePolled read.since s.log
     unread (ByteUnread p g is none) not_yet = (is, none)
     unread (ByteComes byte p g is one) not_yet = let e : true ≡ false = sym p ∙ not_yet in absurd (cc)
     unread (ByteCame byte p g none is one) not_yet = let e : true ≡ false = sym p ∙ not_yet in absurd (cc)
 
-    by : waits ≡ true → asked ≡ read.head → StatusAt read waits h.polled (sent_to Control ups) (Gives asked a transferred ∷ events_of Control downs) s.control → GivesStatus read waits notify got older asked a transferred next ups downs s
-    by w same (StatusComes x p come none free) = no_event _ _ none
-    by w same (StatusPends x p come none pends) = no_event _ _ none
-    by w same (StatusPolled x p come none pends) = no_event _ _ none
-    by w same (StatusOver x p come none free) = no_event _ _ none
-    by w same (StatusSaid x p come one free) =
+    by : StatusAt read waits h.polled (sent_to Control ups) (Gives asked a transferred ∷ events_of Control downs) s.control → Goal
+    by (StatusComes x p come none free) = no_event _ _ none
+    by (StatusPends x p come none pends) = no_event _ _ none
+    by (StatusPolled x p come none pends) = no_event _ _ none
+    by (StatusOver x p come none free) = no_event _ _ none
+    by (StatusSaid x p come one free) =
         let is = one_event asked read.head a _ transferred (status_layout STATUS_SUCCESS read.tag) _ one in
-        SaysSuccess w same is.0 is.1 (record {
-          asks = r.asks;
-          tagged = r.tagged;
-          before = r.before;
-          earlier = r.earlier;
-          other = r.other;
-          bond = answered _ (λ ups downs s. StatusHeld read false got older ups downs s) (asked_by (while waits read.head) notify) (asked_by None notify) Control asked a transferred next ups downs s own (first_is w same) refl
-              (notify_left (while waits read.head) notify) r.bond
-              (record { rest = h.rest; polled = h.polled; request = StatusOver refl p come (none_behind _ _ _ one) free; status_packets = h.status_packets; brings = brings; byte = h.byte; fewer = h.fewer });
-        })
-    by w same (StatusBusy x p come one free some) =
+        success_is is.0 is.1 (record { rest = h.rest; polled = h.polled; request = StatusOver refl p come (behind_one _ _ _ one) free; status_packets = h.status_packets; brings = brings; byte = h.byte; fewer = h.fewer })
+    by (StatusBusy x p come one free some) =
         let is = one_event asked read.head a _ transferred (status_layout STATUS_INTERRUPT_IN_BUSY read.tag) _ one in
         let not_yet = unread h.byte p in
-        SaysBusy w same is.0 is.1 some not_yet.1 (record {
-          earlier = r.earlier;
-          bond = answered _ (λ ups downs s. QuietHeld older ups downs s) (asked_by (while waits read.head) notify) (asked_by None notify) Control asked a transferred next ups downs s own (first_is w same) refl
-              (notify_left (while waits read.head) notify) r.bond (record { rest = h.rest; brings = subst (λ (l : List Packet). Brings l downs s) not_yet.0 brings });
-        })
+        busy_is is.0 is.1 some not_yet.1
+        (record { sent = come; queue = free; events = behind_one _ _ _ one; quiet = record { rest = h.rest; brings = subst (λ (l : List Packet). Brings l downs s) not_yet.0 brings } })
+
+-- an answer on Interrupt-IN, by what it brings
+pub notify_given : {Goal : Type 0} (read : StatusRead) (waits : Bool) (got : Option ℕ) (older : List Packet) (asked : SubmitHead) (a : RetSubmitHead) (transferred : List ℕ) (ups : List up.Message) (downs : List Put) (s : State) → asked.ep ≡ 3
+    → StatusHeld read waits got older ups (Submitted asked a transferred ∷ downs) s
+    → ((byte : ℕ) → a.status ≡ success → transferred ≡ packet_bytes (ServicePacket byte) → StatusHeld read waits got older ups downs s → Goal)
+    → ((packet : Packet) (others : List Packet) → a.status ≡ success → older ≡ packet ∷ others → transferred ≡ packet_bytes packet → StatusHeld read waits got others ups downs s → Goal)
+    → ((byte : ℕ) → a.status ≡ success → older ≡ [] → got ≡ None → transferred ≡ packet_bytes (StatusPacket read.tag byte) → OnePolled read.head.seqnum byte read.since s.log → StatusHeld read waits (Some byte) [] ups downs s → Goal)
+    → (a.status ≡ stalled → StatusHeld read waits got older ups downs s → Goal) → Goal
+notify_given {Goal} read waits got older asked a transferred ups downs s own h service old_one its_byte halt = by (first h.status_packets asked a transferred downs s own h.brings)
+  where
+    request : StatusAt read waits h.polled (sent_to Control ups) (events_of Control downs) s.control
+    request = subst (λ (l : List Event). StatusAt read waits h.polled (sent_to Control ups) l s.control) (other_event Control asked a transferred downs 3 own refl) h.request
+
+    behind : (has : Option ℕ) (left l : List Packet) → Brings l downs s → ByteAt read left has h.polled l s.log → (read.left ≡ [] → left ≡ []) → StatusHeld read waits has left ups downs s
+    behind has left l brings byte fewer = record { rest = h.rest; polled = h.polled; request = request; status_packets = l; brings = brings; byte = byte; fewer = fewer }
+
+    fewer_left : (packet : Packet) (others : List Packet) → older ≡ packet ∷ others → read.left ≡ [] → others ≡ []
+    fewer_left packet others is none = let e : [] ≡ packet ∷ others = sym (h.fewer none) ∙ is in absurd (cc)
+
+    came : (tag byte : ℕ) (others : List Packet) → a.status ≡ success → h.status_packets ≡ StatusPacket tag byte ∷ others → transferred ≡ packet_bytes (StatusPacket tag byte) → Brings others downs s
+        → ByteAt read older got h.polled h.status_packets s.log → Goal
+    came tag byte others good line text brings (ByteUnread p g all none) =
+        let left : older ≡ StatusPacket tag byte ∷ others = sym all ∙ line in
+        old_one (StatusPacket tag byte) others good left text (behind got others others brings (ByteUnread p g refl none) (fewer_left (StatusPacket tag byte) others left))
+    came tag byte others good line text brings (ByteComes own_byte p g all one) = which older refl (sym all ∙ line)
+      where
+        which : (l : List Packet) → older ≡ l → older ++ StatusPacket read.tag own_byte ∷ [] ≡ StatusPacket tag byte ∷ others → Goal
+        which [] none e =
+            let only : StatusPacket read.tag own_byte ∷ [] ≡ StatusPacket tag byte ∷ others = ap (λ (x : List Packet). x ++ StatusPacket read.tag own_byte ∷ []) (sym none) ∙ e in
+            let same : StatusPacket read.tag own_byte ≡ StatusPacket tag byte = cc in
+            let none_left : others ≡ [] = cc in
+            its_byte own_byte good none g (text ∙ ap (λ (x : Packet). packet_bytes x) (sym same)) one (behind (Some own_byte) [] others brings (ByteCame own_byte p refl refl none_left one) (λ k. refl))
+        which (x ∷ l) some e =
+            let all_same : x ∷ (l ++ StatusPacket read.tag own_byte ∷ []) ≡ StatusPacket tag byte ∷ others = ap (λ (y : List Packet). y ++ StatusPacket read.tag own_byte ∷ []) (sym some) ∙ e in
+            let same : x ≡ StatusPacket tag byte = cc in
+            let rest : others ≡ l ++ StatusPacket read.tag own_byte ∷ [] = cc in
+            old_one x l good some (text ∙ ap (λ (y : Packet). packet_bytes y) (sym same)) (behind got l others brings (ByteComes own_byte p g rest one) (fewer_left x l some))
+    came tag byte others good line text brings (ByteCame own_byte p g none all one) = let e : [] ≡ StatusPacket tag byte ∷ others = sym all ∙ line in absurd (cc)
+
+    by : First h.status_packets a transferred downs s → Goal
+    by (FirstService byte good text brings) = service byte good text (behind got older h.status_packets brings h.byte h.fewer)
+    by (FirstStatus tag byte others good line text brings) = came tag byte others good line text brings h.byte
+    by (FirstHalt halted brings) = halt halted (behind got older h.status_packets brings h.byte h.fewer)
+
+from_request : (read : StatusRead) (waits : Bool) (notify : Option SubmitHead) (got : Option ℕ) (older : List Packet) (asked : SubmitHead) (a : RetSubmitHead) (transferred : List ℕ) (next : ℕ) (ups : List up.Message) (downs : List Put) (s : State)
+    → asked.ep ≡ 0 → ReadsStatus read waits notify got older next ups (Submitted asked a transferred ∷ downs) s → GivesStatus read waits notify got older asked a transferred next ups downs s
+from_request read waits notify got older asked a transferred next ups downs s own r =
+    let e = first_asked (asked_by (while waits read.head) notify) _ asked a transferred next ups downs s Control own r.bond in
+    let same = while_some waits read.head asked (one_only (while waits read.head) asked e.0 e.1) in
+    request_given read waits got older asked a transferred ups downs s own r.bond.held
+    (λ is text held. SaysSuccess same.0 same.1 is text (record { asks = r.asks; tagged = r.tagged; before = r.before; earlier = r.earlier; other = r.other; bond = behind (λ ups downs s. StatusHeld read false got older ups downs s) same.0 same.1 held }))
+    (λ is text some none held. SaysBusy same.0 same.1 is text some none (record { earlier = r.earlier; bond = behind (λ ups downs s. QuietHeld older ups downs s) same.0 same.1 held.quiet }))
+  where
+    behind : (After : List up.Message → List Put → State → Type 0) → waits ≡ true → asked ≡ read.head → After ups downs s → Bond After (asked_by None notify) [] next ups downs s
+    behind After w same held =
+        answered _ After (asked_by (while waits read.head) notify) (asked_by None notify) Control asked a transferred next ups downs s own (ap (λ (b : Bool). none_or_one (while b read.head)) w ∙ ap (λ (x : SubmitHead). x ∷ []) (sym same)) refl
+        (notify_left (while waits read.head) notify) r.bond held
 
 from_notify : (read : StatusRead) (waits : Bool) (notify : Option SubmitHead) (got : Option ℕ) (older : List Packet) (asked : SubmitHead) (a : RetSubmitHead) (transferred : List ℕ) (next : ℕ) (ups : List up.Message) (downs : List Put) (s : State)
     → asked.ep ≡ 3 → ReadsStatus read waits notify got older next ups (Submitted asked a transferred ∷ downs) s → GivesStatus read waits notify got older asked a transferred next ups downs s
 from_notify read waits notify got older asked a transferred next ups downs s own r =
     let e = first_asked (asked_by (while waits read.head) notify) _ asked a transferred next ups downs s InterruptIn own r.bond in
-    by (one_only notify asked e.0 e.1) (first h.status_packets asked a transferred downs s own h.brings)
+    let is = one_only notify asked e.0 e.1 in
+    notify_given read waits got older asked a transferred ups downs s own r.bond.held
+    (λ byte good text held. BringsService byte is good text (behind got older is held))
+    (λ packet others good left text held. BringsOlder packet others is good left text (behind got others is held))
+    (λ byte good none g text one held. BringsByte byte is good none g text one (behind (Some byte) [] is held))
+    (λ halted held. BringsHalt is halted (behind got older is held))
   where
-    h : StatusHeld read waits got older ups (Submitted asked a transferred ∷ downs) s
-    h = r.bond.held
-
-    request : StatusAt read waits h.polled (sent_to Control ups) (events_of Control downs) s.control
-    request = subst (λ (l : List Event). StatusAt read waits h.polled (sent_to Control ups) l s.control) (other_event Control asked a transferred downs 3 own refl) h.request
-
-    behind : (has : Option ℕ) (left l : List Packet) → notify ≡ Some asked → Brings l downs s → ByteAt read left has h.polled l s.log → (read.left ≡ [] → left ≡ []) → ReadsStatus read waits None has left next ups downs s
-    behind has left l is brings byte fewer = record {
+    behind : (has : Option ℕ) (left : List Packet) → notify ≡ Some asked → StatusHeld read waits has left ups downs s → ReadsStatus read waits None has left next ups downs s
+    behind has left is held = record {
       asks = r.asks;
       tagged = r.tagged;
       before = r.before;
       earlier = tt;
       other = tt;
       bond = answered _ (λ ups downs s. StatusHeld read waits has left ups downs s) (asked_by (while waits read.head) notify) (asked_by (while waits read.head) None) InterruptIn asked a transferred next ups downs s own
-          (ap (λ (o : Option SubmitHead). none_or_one o) is) refl (request_kept (while waits read.head) notify) r.bond
-          (record { rest = h.rest; polled = h.polled; request = request; status_packets = l; brings = brings; byte = byte; fewer = fewer });
+          (ap (λ (o : Option SubmitHead). none_or_one o) is) refl (request_kept (while waits read.head) notify) r.bond held;
     }
-
-    fewer_left : (packet : Packet) (others : List Packet) → older ≡ packet ∷ others → read.left ≡ [] → others ≡ []
-    fewer_left packet others is none = let e : [] ≡ packet ∷ others = sym (h.fewer none) ∙ is in absurd (cc)
-
-    came : (tag byte : ℕ) (others : List Packet) → notify ≡ Some asked → a.status ≡ success → h.status_packets ≡ StatusPacket tag byte ∷ others → transferred ≡ packet_bytes (StatusPacket tag byte) → Brings others downs s
-        → ByteAt read older got h.polled h.status_packets s.log → GivesStatus read waits notify got older asked a transferred next ups downs s
-    came tag byte others is good line text brings (ByteUnread p g all none) =
-        let left : older ≡ StatusPacket tag byte ∷ others = sym all ∙ line in
-        BringsOlder (StatusPacket tag byte) others is good left text (behind got others others is brings (ByteUnread p g refl none) (fewer_left (StatusPacket tag byte) others left))
-    came tag byte others is good line text brings (ByteComes own_byte p g all one) = which older refl (sym all ∙ line)
-      where
-        which : (l : List Packet) → older ≡ l → older ++ StatusPacket read.tag own_byte ∷ [] ≡ StatusPacket tag byte ∷ others → GivesStatus read waits notify got older asked a transferred next ups downs s
-        which [] none e =
-            let only : StatusPacket read.tag own_byte ∷ [] ≡ StatusPacket tag byte ∷ others = ap (λ (x : List Packet). x ++ StatusPacket read.tag own_byte ∷ []) (sym none) ∙ e in
-            let same : StatusPacket read.tag own_byte ≡ StatusPacket tag byte = cc in
-            let none_left : others ≡ [] = cc in
-            BringsByte own_byte is good none g (text ∙ ap (λ (x : Packet). packet_bytes x) (sym same)) one
-            (behind (Some own_byte) [] others is brings (ByteCame own_byte p refl refl none_left one) (λ k. refl))
-        which (x ∷ l) some e =
-            let all_same : x ∷ (l ++ StatusPacket read.tag own_byte ∷ []) ≡ StatusPacket tag byte ∷ others = ap (λ (y : List Packet). y ++ StatusPacket read.tag own_byte ∷ []) (sym some) ∙ e in
-            let same : x ≡ StatusPacket tag byte = cc in
-            let rest : others ≡ l ++ StatusPacket read.tag own_byte ∷ [] = cc in
-            BringsOlder x l is good some (text ∙ ap (λ (y : Packet). packet_bytes y) (sym same)) (behind got l others is brings (ByteComes own_byte p g rest one) (fewer_left x l some))
-    came tag byte others is good line text brings (ByteCame own_byte p g none all one) = let e : [] ≡ StatusPacket tag byte ∷ others = sym all ∙ line in absurd (cc)
-
-    by : notify ≡ Some asked → First h.status_packets a transferred downs s → GivesStatus read waits notify got older asked a transferred next ups downs s
-    by is (FirstService byte good text brings) = BringsService byte is good text (behind got older h.status_packets is brings h.byte h.fewer)
-    by is (FirstStatus tag byte others good line text brings) = came tag byte others is good line text brings h.byte
-    by is (FirstHalt halted brings) = BringsHalt is halted (behind got older h.status_packets is brings h.byte h.fewer)
 
 pub status_given : (read : StatusRead) (waits : Bool) (notify : Option SubmitHead) (got : Option ℕ) (older : List Packet) (asked : SubmitHead) (a : RetSubmitHead) (transferred : List ℕ) (next : ℕ) (ups : List up.Message) (downs : List Put) (s : State)
     → ReadsStatus read waits notify got older next ups (Submitted asked a transferred ∷ downs) s → GivesStatus read waits notify got older asked a transferred next ups downs s

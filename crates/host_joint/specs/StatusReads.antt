@@ -1,7 +1,9 @@
 -- a status read: READ_STATUS_BYTE, and the packet on Interrupt-IN in which the status byte comes (USB488 1.0, sections 3.4 and 4.3.1)
 use Rattle.std.specs.Prelude.{◌≡◌, ◌≢◌, ◌⊎◌, ℕ, ◌==◌, ◌<◌, ◌≤◌, Bool, true, false, if◌then◌else◌, ℤ, pos, negsuc, Option, Some, None, List, [], ◌∷◌, ◌++◌}
 use Rattle.usbip_wire.specs.declared.submit.SubmitHead.{SubmitHead}
+use Rattle.usbip_wire.specs.declared.unlink.UnlinkHead.{UnlinkHead}
 use Rattle.usbip_wire.specs.declared.ret_submit.RetSubmitHead.{RetSubmitHead}
+use Rattle.usbip_wire.specs.declared.ret_unlink.RetUnlinkHead.{RetUnlinkHead}
 use Rattle.usbip_wire.specs.declared.urb.Dir.TheVariants.{In}
 use Rattle.tmc_base.specs.declared.run_step.RunStep.{RunStep}
 use Rattle.usbip_wire.specs.declared.dirs.Outstanding.{Outstanding}
@@ -15,7 +17,7 @@ use Rattle.instr_plain.specs.Standing.{Standing, polled_byte}
 use Rattle.instr_plain.specs.Log as log
 use Rattle.tmc_law.specs.Endpoint.{Endpoint, Control, BulkOut, BulkIn, InterruptIn, number_of}
 use Rattle.tmc_law.specs.State.{State, Pending, Packet, StatusPacket, ServicePacket, arrived}
-use Rattle.tmc_law.specs.Put.{Put, Submitted, Unlinked, success, stalled}
+use Rattle.tmc_law.specs.Put.{Put, Submitted, Unlinked, unlink_answer, success, stalled, unlinked}
 use Rattle.tmc_law.specs.Status.{IsStatusTag, status_layout, packet_bytes}
 use Rattle.tmc_law.specs.AnswerFits.{AllAnswers}
 use Rattle.tmc_law.specs.Laws.{message_of}
@@ -245,3 +247,75 @@ pub record IsNextOfRead (read : StatusRead) (waits : Bool) (notify : Option Subm
       → JointBy (λ ups downs t. ReadsStatus read still other has left next ups downs t) devid written (given ++ this) steps s
   pub quiet : (other : Option SubmitHead) (left : List Packet) → Quiet other left next ups downs s
       → JointBy (λ ups downs t. Quiet other left next ups downs t) devid written (given ++ this) steps s
+
+-- ---- a status read whose request is unlinked
+
+-- Where the unlink of a request is; the answer to it stands among the others: `Held` is what holds without it, and `Gone` what does where it hit.
+pub data UnlinkAt (Held Gone : List up.Message → List Put → State → Type 0) (unlink : UnlinkHead) (ups : List up.Message) (downs : List Put) (s : State) : Type 0 where
+  -- it is on its way, the last of the messages
+  UnlinkOnItsWay : (front : List up.Message) → ups ≡ front ++ up.Unlink unlink ∷ [] → Held front downs s → UnlinkAt Held Gone unlink ups downs s
+  -- it hit, which its answer says, with status -104
+  UnlinkDidHit : (before behind : List Put) → downs ≡ before ++ unlink_answer unlink unlinked ∷ behind → Gone ups (before ++ behind) s → UnlinkAt Held Gone unlink ups downs s
+  -- the request was answered before, and it missed, which its answer says, with status 0
+  UnlinkDidMiss : (before behind : List Put) → downs ≡ before ++ unlink_answer unlink success ∷ behind → Held ups (before ++ behind) s → UnlinkAt Held Gone unlink ups downs s
+
+-- nothing of a request is on its way, pending or answered on the way back
+pub record FreeHeld (older : List Packet) (ups : List up.Message) (downs : List Put) (s : State) : Type 0 where
+  pub sent : sent_to Control ups ≡ []
+  pub queue : s.control ≡ []
+  pub events : events_of Control downs ≡ []
+  pub quiet : QuietHeld older ups downs s
+
+-- the request was unlinked before the status byte was read for it
+pub record GoneRead (read : StatusRead) (waits : Bool) (got : Option ℕ) (older : List Packet) (ups : List up.Message) (downs : List Put) (s : State) : Type 0 where
+  pub waited : waits ≡ true
+  pub nothing : got ≡ None
+  pub unread : NonePolled read.since s.log
+  pub free : FreeHeld older ups downs s
+
+-- a host in a status read whose request it unlinked, while that was not answered to it
+pub record CancelledRead (read : StatusRead) (unlink : UnlinkHead) (waits : Bool) (notify : Option SubmitHead) (got : Option ℕ) (older : List Packet) (next : ℕ) (ups : List up.Message) (downs : List Put) (s : State) : Type 0 where
+  pub asks : IsClass read.head (ReadStatus read.tag)
+  pub tagged : IsStatusTag read.tag
+  pub before : read.head.seqnum < next
+  pub earlier : IsEarlier notify next
+  pub other : IsOther notify read.head
+  pub names : unlink.target ≡ read.head.seqnum
+  pub bond : Bond (λ ups downs s. UnlinkAt (λ ups downs s. StatusHeld read waits got older ups downs s) (λ ups downs s. GoneRead read waits got older ups downs s) unlink ups downs s)
+      (asked_by (while waits read.head) notify) (unlink ∷ []) next ups downs s
+
+-- one whose request was answered with INTERRUPT_IN_BUSY all the same, while the unlink is not
+pub record LateRead (unlink : UnlinkHead) (notify : Option SubmitHead) (older : List Packet) (next : ℕ) (ups : List up.Message) (downs : List Put) (s : State) : Type 0 where
+  pub earlier : IsEarlier notify next
+  pub target : ℕ
+  pub names : unlink.target ≡ target
+  pub other : (head : SubmitHead) → notify ≡ Some head → head.seqnum ≢ target
+  pub bond : Bond (λ ups downs s. UnlinkAt (λ ups downs s. FreeHeld older ups downs s) (λ ups downs s. ⊥) unlink ups downs s) (asked_by None notify) (unlink ∷ []) next ups downs s
+
+-- the answer to a submit that comes next, and what is left behind it
+pub data GivesCancelled (read : StatusRead) (unlink : UnlinkHead) (waits : Bool) (notify : Option SubmitHead) (got : Option ℕ) (older : List Packet) (asked : SubmitHead) (answer : RetSubmitHead) (transferred : List ℕ) (next : ℕ) (ups : List up.Message) (downs : List Put) (s : State) : Type 0 where
+  -- the request is answered with SUCCESS, as without the unlink, which missed
+  CancelSuccess : waits ≡ true → asked ≡ read.head → answer ≡ record { seqnum = read.head.seqnum; status = success; actual = 3 } → transferred ≡ status_layout STATUS_SUCCESS read.tag
+      → CancelledRead read unlink false notify got older next ups downs s → GivesCancelled read unlink waits notify got older asked answer transferred next ups downs s
+  -- so it is with INTERRUPT_IN_BUSY
+  CancelBusy : waits ≡ true → asked ≡ read.head → answer ≡ record { seqnum = read.head.seqnum; status = success; actual = 3 } → transferred ≡ status_layout STATUS_INTERRUPT_IN_BUSY read.tag
+      → read.left ≢ [] → NonePolled read.since s.log → LateRead unlink notify older next ups downs s → GivesCancelled read unlink waits notify got older asked answer transferred next ups downs s
+  -- a packet comes, or Interrupt-IN is halted
+  CancelService : (byte : ℕ) → notify ≡ Some asked → answer.status ≡ success → transferred ≡ packet_bytes (ServicePacket byte)
+      → CancelledRead read unlink waits None got older next ups downs s → GivesCancelled read unlink waits notify got older asked answer transferred next ups downs s
+  CancelOlder : (packet : Packet) (others : List Packet) → notify ≡ Some asked → answer.status ≡ success → older ≡ packet ∷ others → transferred ≡ packet_bytes packet
+      → CancelledRead read unlink waits None got others next ups downs s → GivesCancelled read unlink waits notify got older asked answer transferred next ups downs s
+  CancelByte : (byte : ℕ) → notify ≡ Some asked → answer.status ≡ success → older ≡ [] → got ≡ None → transferred ≡ packet_bytes (StatusPacket read.tag byte)
+      → OnePolled read.head.seqnum byte read.since s.log → CancelledRead read unlink waits None (Some byte) [] next ups downs s
+      → GivesCancelled read unlink waits notify got older asked answer transferred next ups downs s
+  CancelHalt : notify ≡ Some asked → answer.status ≡ stalled → CancelledRead read unlink waits None got older next ups downs s
+      → GivesCancelled read unlink waits notify got older asked answer transferred next ups downs s
+
+-- the answer to the unlink that comes next
+pub data UnlinkOver (read : StatusRead) (unlink : UnlinkHead) (waits : Bool) (notify : Option SubmitHead) (got : Option ℕ) (older : List Packet) (answer : RetUnlinkHead) (next : ℕ) (ups : List up.Message) (downs : List Put) (s : State) : Type 0 where
+  -- it hit: the status byte was not read, nor will be
+  OverHit : waits ≡ true → answer ≡ record { seqnum = unlink.seqnum; status = unlinked } → got ≡ None → NonePolled read.since s.log → Quiet notify older next ups downs s
+      → UnlinkOver read unlink waits notify got older answer next ups downs s
+  -- it missed: the request was answered before
+  OverMissed : waits ≡ false → answer ≡ record { seqnum = unlink.seqnum; status = success } → ReadsStatus read false notify got older next ups downs s
+      → UnlinkOver read unlink waits notify got older answer next ups downs s

@@ -1,7 +1,10 @@
--- an example status read, from power-on
+-- an example status read, from power-on, and one whose request is unlinked
 use Rattle.std.specs.Prelude.{[], ◌∷◌, ◌++◌, List}
-use Rattle.tmc_law.specs.State.{State, start}
-use Rattle.tmc_law.specs.WorkedSession.{notify_submit}
+use Rattle.tmc_law.specs.State.{State, start, arrived}
+use Rattle.tmc_law.specs.Put.{Unlinked, unlinked}
+use Rattle.tmc_law.specs.Step.{Comes}
+use Rattle.tmc_law.specs.Run.{Entry}
+use Rattle.tmc_law.specs.WorkedSession.{notify_submit, unlink, submits, step}
 use Rattle.tmc_law.specs.WorkedStatus.{status_submit, status_log}
 use Rattle.usbip_wire.specs.Up as up
 use Rattle.host_joint.specs.StatusReads.{StatusRead}
@@ -16,3 +19,14 @@ both_sent = up.Submit (notify_submit 1 8) [] ∷ up.Submit status_submit [] ∷ 
 -- the device behind it
 abbrev pub status_given : State
 status_given = record start { log = status_log }
+
+-- the unlink finds the request pending
+abbrev pub stopping_status : List Entry
+stopping_status =
+    submits (notify_submit 1 8) []
+    ∷ submits status_submit []
+    ∷ step (Comes (up.Unlink (unlink 3 2))) (Unlinked (unlink 3 2) (record { seqnum = 3; status = unlinked }) ∷ [])
+    ∷ []
+
+abbrev pub stopped_status : State
+stopped_status = record start { interrupt_in = arrived (notify_submit 1 8) [] ∷ [] }

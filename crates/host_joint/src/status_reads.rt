@@ -10,12 +10,14 @@ ghost use Rattle.usbip_wire.specs.Down as down;
 ghost use Rattle.usbip_wire.specs.Down.{SpellsAnswer};
 ghost use Rattle.usbip_wire.specs.DownFed.{BadAt};
 ghost use Rattle.usbip_wire.specs.declared.ret_submit.RetSubmitHead.{RetSubmitHead};
+ghost use Rattle.usbip_wire.specs.declared.ret_unlink.RetUnlinkHead.{RetUnlinkHead};
 ghost use Rattle.usbip_wire.specs.declared.submit.SubmitHead.{SubmitHead};
+ghost use Rattle.usbip_wire.specs.declared.unlink.UnlinkHead.{UnlinkHead};
 ghost use Rattle.usbip_wire.specs.Up as up;
 ghost use Rattle.tmc_wire.specs.declared.class_request.ClassRequest.TheVariants.{ReadStatus};
 ghost use Rattle.tmc_law.specs.State.{State, Packet, StatusPacket};
 ghost use Rattle.tmc_law.specs.Endpoint.{InterruptIn, number_of};
-ghost use Rattle.tmc_law.specs.Put.{Put, Submitted, success};
+ghost use Rattle.tmc_law.specs.Put.{Put, Submitted, Unlinked, success};
 ghost use Rattle.tmc_law.specs.Status.{IsStatusTag};
 ghost use Rattle.tmc_law.specs.Run.{Entry, Runs, inputs, outputs};
 ghost use Rattle.host_joint.specs.Lines.{Fitting};
@@ -24,7 +26,7 @@ ghost use Rattle.host_joint.specs.Asking.{StaysPlugged};
 ghost use Rattle.host_joint.specs.Bond.{Stands, Resting, Bound};
 ghost use Rattle.host_joint.specs.Joint.{TellsPlugged, JointBy};
 ghost use Rattle.host_joint.specs.Unplugged.{Until};
-ghost use Rattle.host_joint.specs.StatusReads.{statuses, OnePolled, StatusRead, IsNotify, Quiet, ReadsStatus, GivesStatus, GivesQuiet, NoneTagged, while, entries_by, IsNextOfRead};
+ghost use Rattle.host_joint.specs.StatusReads.{statuses, OnePolled, StatusRead, IsNotify, Quiet, ReadsStatus, GivesStatus, GivesQuiet, NoneTagged, while, entries_by, IsNextOfRead, CancelledRead, LateRead, GivesCancelled, UnlinkOver};
 
 use crate::no_submit_is_refused;
 use instr_plain::one_response;
@@ -159,4 +161,43 @@ pub fn status_reads_are_read()
     bad_fields_are_alone();
     bad_fields_are_refused();
     bad_fields_stay();
+}
+
+/// A host may unlink a READ_STATUS_BYTE that is not answered. The two stay tied under each run of a device that is not unplugged, and until then under
+/// any. If the answer to the request comes first, it is as without the unlink, and then the answer to the unlink has status 0. If the answer to
+/// the unlink does, its status is -104: the status byte was not read for it, nor will be, and no packet comes of it. Packets and halts of Interrupt-IN
+/// are told meanwhile as before.
+pub fn status_reads_are_cancelled()
+    ensures unlink { (read : StatusRead) (unlink : UnlinkHead) (notify : Option SubmitHead) (got : Option ℕ) (older : List Packet) (next : ℕ) (ups : List up.Message) (downs : List Put) (s : State)
+        → unlink.target ≡ read.head.seqnum → ReadsStatus read true notify got older next ups downs s
+        → CancelledRead read unlink true notify got older (next + 1) (ups ++ up.Unlink unlink ∷ []) downs s }
+    ensures stays { (read : StatusRead) (unlink : UnlinkHead) (waits : Bool) (notify : Option SubmitHead) (got : Option ℕ) (older : List Packet) (run : List Entry) (next : ℕ) (ups : List up.Message) (downs : List Put) (s t : State)
+        → Runs s run t → StaysPlugged run → CancelledRead read unlink waits notify got older next (inputs run ++ ups) downs s
+        → CancelledRead read unlink waits notify got older next ups (downs ++ outputs run) t }
+    ensures until { (read : StatusRead) (unlink : UnlinkHead) (waits : Bool) (notify : Option SubmitHead) (got : Option ℕ) (older : List Packet) (run : List Entry) (next : ℕ) (ups : List up.Message) (downs : List Put) (s t : State) → Runs s run t
+        → Until (λ ups downs t. CancelledRead read unlink waits notify got older next ups downs t) (inputs run ++ ups) downs s
+        → Until (λ ups downs t. CancelledRead read unlink waits notify got older next ups downs t) ups (downs ++ outputs run) t }
+    ensures answer { (read : StatusRead) (unlink : UnlinkHead) (waits : Bool) (notify : Option SubmitHead) (got : Option ℕ) (older : List Packet) (asked : SubmitHead) (answer : RetSubmitHead) (transferred : List ℕ) (next : ℕ) (ups : List up.Message) (downs : List Put) (s : State)
+        → CancelledRead read unlink waits notify got older next ups (Submitted asked answer transferred ∷ downs) s
+        → GivesCancelled read unlink waits notify got older asked answer transferred next ups downs s }
+    ensures over { (read : StatusRead) (unlink : UnlinkHead) (waits : Bool) (notify : Option SubmitHead) (got : Option ℕ) (older : List Packet) (asked : UnlinkHead) (answer : RetUnlinkHead) (next : ℕ) (ups : List up.Message) (downs : List Put) (s : State)
+        → CancelledRead read unlink waits notify got older next ups (Unlinked asked answer ∷ downs) s
+        → UnlinkOver read unlink waits notify got older answer next ups downs s }
+    ensures late { (unlink : UnlinkHead) (notify : Option SubmitHead) (older : List Packet) (run : List Entry) (next : ℕ) (ups : List up.Message) (downs : List Put) (s t : State)
+        → Runs s run t → StaysPlugged run → LateRead unlink notify older next (inputs run ++ ups) downs s → LateRead unlink notify older next ups (downs ++ outputs run) t }
+    ensures late_over { (unlink : UnlinkHead) (notify : Option SubmitHead) (older : List Packet) (asked : UnlinkHead) (answer : RetUnlinkHead) (next : ℕ) (ups : List up.Message) (downs : List Put) (s : State)
+        → LateRead unlink notify older next ups (Unlinked asked answer ∷ downs) s
+        → (answer ≡ record { seqnum = unlink.seqnum; status = success }) × Quiet notify older next ups downs s }
+{
+    setups_have_one_meaning();
+    pending_submits_are_sound();
+    steps_act();
+    runs_join();
+    the_log_grows();
+    headers_are_read_again();
+    numbers_rise();
+    answers_fit();
+    halts_have_causes();
+    a_step_logs_at_most_once();
+    one_response();
 }

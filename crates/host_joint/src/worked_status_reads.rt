@@ -1,25 +1,25 @@
 //! An example status read. Each function does nothing.
 
-ghost use Rattle.std.specs.Prelude.{ℕ, true, Some, None, List, [], ◌∷◌, ◌++◌, take};
+ghost use Rattle.std.specs.Prelude.{ℕ, true, false, Some, None, List, [], ◌∷◌, ◌++◌, take};
 ghost use Rattle.usbip_wire.specs.Up as up;
 ghost use Rattle.usbip_wire.specs.Down as down;
 ghost use Rattle.tmc_law.specs.State.{State, StatusPacket, start};
-ghost use Rattle.tmc_law.specs.Put.{Put, success};
+ghost use Rattle.tmc_law.specs.Put.{Put, Unlinked, success};
 ghost use Rattle.tmc_law.specs.Run.{Runs, SpellsPut};
-ghost use Rattle.tmc_law.specs.WorkedSession.{devid, notify_submit, answered};
+ghost use Rattle.tmc_law.specs.WorkedSession.{devid, notify_submit, unlink, answered};
 ghost use Rattle.tmc_law.specs.WorkedTold.{takes_in, puts_out};
 ghost use Rattle.host_joint.specs.Joint.{JointBy};
-ghost use Rattle.tmc_law.specs.WorkedStatus.{status_submit, status_asked, answer_first, packet_first, status_log};
+ghost use Rattle.tmc_law.specs.WorkedStatus.{status_submit, status_asked, answer_first, packet_first, unlink_behind_poll, status_log};
 ghost use Rattle.host_joint.specs.Bond.{Stands, Resting, Bound};
-ghost use Rattle.host_joint.specs.StatusReads.{OnePolled, Quiet, ReadsStatus, IsNextOfRead};
-ghost use Rattle.host_joint.specs.WorkedStatusReads.{first_read, both_sent, status_given};
+ghost use Rattle.host_joint.specs.StatusReads.{NonePolled, OnePolled, Quiet, ReadsStatus, IsNextOfRead, CancelledRead};
+ghost use Rattle.host_joint.specs.WorkedStatusReads.{first_read, both_sent, status_given, stopping_status, stopped_status};
 
 use crate::{
     joints_begin, packets_are_told, remote_tickets_are_read, remote_tickets_are_tied,
-    status_reads_are_read, status_reads_are_tied, ties_begin,
+    status_reads_are_cancelled, status_reads_are_read, status_reads_are_tied, ties_begin,
 };
 use tmc_law::laws::runs_join;
-use tmc_law::worked::a_status_comes_before_or_behind;
+use tmc_law::worked::{a_polled_request_is_answered, a_status_comes_before_or_behind};
 
 /// A host that writes a submit to Interrupt-IN and READ_STATUS_BYTE at power-on is tied. Whether the answer or the packet comes first, the byte that the
 /// packet brings is the status byte that was read once for it, and at the end the host stands at rest. None reads a packet with another tag.
@@ -77,4 +77,19 @@ pub fn worked_status_reads_are_read()
     status_reads_are_read();
     runs_join();
     a_status_comes_before_or_behind();
+}
+
+/// READ_STATUS_BYTE is unlinked. Where the unlink hit, the status byte was not read; where it was read before, the request is answered, and the unlink
+/// missed. No host is told of a miss while its request is not answered.
+pub fn worked_status_reads_are_cancelled()
+    ensures unlinked { CancelledRead first_read (unlink 3 2) true (Some (notify_submit 1 8)) None [] 4 (both_sent ++ up.Unlink (unlink 3 2) ∷ []) [] start }
+    ensures hit { Runs start stopping_status stopped_status × NonePolled [] stopped_status.log × Quiet (Some (notify_submit 1 8)) [] 4 [] [] stopped_status }
+    ensures missed { Runs start (status_asked ++ unlink_behind_poll) status_given
+        × ReadsStatus first_read false (Some (notify_submit 1 8)) None [] 4 [] (answered (notify_submit 1 8) success 2 (0x85 ∷ 0x00 ∷ []) ∷ []) status_given }
+    ensures mistaken { (next : ℕ) (ups : List up.Message) (downs : List Put) (s : State)
+        → CancelledRead first_read (unlink 3 2) true (Some (notify_submit 1 8)) None [] next ups (Unlinked (unlink 3 2) (record { seqnum = 3; status = success }) ∷ downs) s → ⊥ }
+{
+    worked_status_reads_are_tied();
+    status_reads_are_cancelled();
+    a_polled_request_is_answered();
 }
