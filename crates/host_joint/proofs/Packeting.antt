@@ -1,5 +1,5 @@
 -- the packets on Interrupt-IN, and the entries of the log, under each move
-use Rattle.std.proofs.Common.{◌≡◌, ◌≢◌, ◌∙◌, ◌⊎◌, inl, inr, ℕ, Bool, true, false, cond, not, ◌&&◌, eqb, ℤ, Some, None, List, [], ◌∷◌, ◌++◌, length, map, refl, ap, sym, subst, append_assoc, append-nil}
+use Rattle.std.proofs.Common.{◌≡◌, ◌≢◌, ◌∙◌, ◌⊎◌, inl, inr, ℕ, Bool, true, false, cond, not, ◌&&◌, eqb, ℤ, List, [], ◌∷◌, ◌++◌, length, map, refl, ap, sym, subst, append_assoc, append-nil}
 use Rattle.std.proofs.lemmas.Bool.{eq-eqb}
 use Rattle.usbip_wire.specs.declared.submit.SubmitHead.{SubmitHead}
 use Rattle.usbip_wire.specs.declared.urb.Dir.{Dir}
@@ -10,7 +10,7 @@ use Rattle.instr_plain.specs.declared.log.LogEntry.{LogEntry}
 use Rattle.instr_plain.specs.declared.log.LogEntry.TheVariants as entry
 use Rattle.tmc_law.specs.Endpoint.{Endpoint, Control, BulkOut, BulkIn, InterruptIn, number_of}
 use Rattle.tmc_law.specs.State.{State, Pending, Packet, StatusPacket, ServicePacket}
-use Rattle.tmc_law.specs.Put.{Put, Submitted, Unlinked, answer_of, success, stalled, returned}
+use Rattle.tmc_law.specs.Put.{Put, answer_of, success, stalled, returned}
 use Rattle.tmc_law.specs.Halts.{all_ended, HaltsItself, DoesHalt}
 use Rattle.tmc_law.specs.Queues.{Arrives, Queued, TurnedAway}
 use Rattle.tmc_law.specs.BulkOut as out
@@ -22,7 +22,7 @@ use Rattle.tmc_law.specs.LogStep.{MayLog, Adds, LogsNothing, LogsOne}
 use Rattle.tmc_law.specs.AnswerFits.{AllAnswers, IsAnswer, ToPending, ToArriving, ToUnlink, StatusBy}
 use Rattle.tmc_law.specs.Acts.{FitsAt}
 use Rattle.tmc_law.specs.Reached.{AllFit}
-use Rattle.tmc_law.specs.Step.{Move, Comes, Refuses, Take, Exec, Begin, Fill, Answer, Pend, Poll, Notify, Halt, Unplug, Leads}
+use Rattle.tmc_law.specs.Step.{Move, Comes, Refuses, Take, Exec, Begin, Fill, Answer, Pend, Poll, Notify, Halt, Unplug}
 use Rattle.host_joint.specs.Lines.{Event, Gives, Drops, events_of}
 use Rattle.host_joint.specs.StatusReads.{is_good, packets_in, bytes_of, statuses, IsUsual, Brings, NoPoll, NonePolled, OnePolled}
 use Rattle.host_joint.proofs.Flows.{events-append}

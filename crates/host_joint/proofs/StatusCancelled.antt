@@ -1,5 +1,5 @@
 -- a host in a status read whose request it unlinked: what it is given
-use Rattle.std.proofs.Common.{◌≡◌, ◌≢◌, ◌∙◌, ℕ, Bool, true, false, cond, eqb, Option, Some, None, List, [], ◌∷◌, ◌++◌, refl, ap, sym, subst}
+use Rattle.std.proofs.Common.{◌≡◌, ◌≢◌, ◌∙◌, ℕ, Bool, true, false, Option, Some, None, List, [], ◌∷◌, ◌++◌, refl, ap, sym, subst}
 use Rattle.std.proofs.lemmas.Bool.{ne_eqb, eq-eqb}
 use Rattle.usbip_wire.specs.declared.submit.SubmitHead.{SubmitHead}
 use Rattle.usbip_wire.specs.declared.unlink.UnlinkHead.{UnlinkHead}
@@ -9,9 +9,9 @@ use Rattle.usbip_wire.specs.Up as up
 use Rattle.tmc_law.specs.Endpoint.{Endpoint, Control, BulkOut, BulkIn, InterruptIn, number_of}
 use Rattle.tmc_law.specs.State.{State, Packet, queue_of}
 use Rattle.tmc_law.specs.Put.{Put, Submitted, Unlinked, unlink_answer, success, unlinked}
-use Rattle.host_joint.specs.Lines.{Sent, sent_to, sent_heads, heads, Event, Gives, events_of, without, LeftBy, unlinks_in, unlinked_by, Lines, EmptyLine, Fitting}
+use Rattle.host_joint.specs.Lines.{sent_to, sent_heads, heads, events_of, without, LeftBy, unlinks_in, unlinked_by, Lines, EmptyLine, Fitting}
 use Rattle.host_joint.specs.Bond.{Bond}
-use Rattle.host_joint.specs.StatusReads.{StatusRead, StatusAt, StatusComes, StatusPends, StatusPolled, StatusSaid, StatusBusy, StatusOver, StatusHeld, QuietHeld, none_or_one, asked_by, while, IsOther, Quiet, ReadsStatus, UnlinkAt, UnlinkOnItsWay, UnlinkDidHit, UnlinkDidMiss, FreeHeld, GoneRead, CancelledRead, LateRead, GivesCancelled, CancelSuccess, CancelBusy, CancelService, CancelOlder, CancelByte, CancelHalt, UnlinkOver, OverHit, OverMissed}
+use Rattle.host_joint.specs.StatusReads.{StatusRead, StatusAt, StatusComes, StatusPends, StatusPolled, StatusSaid, StatusBusy, StatusOver, StatusHeld, QuietHeld, none_or_one, asked_by, while, IsOther, Quiet, UnlinkAt, UnlinkOnItsWay, UnlinkDidHit, UnlinkDidMiss, FreeHeld, GoneRead, CancelledRead, LateRead, GivesCancelled, CancelSuccess, CancelBusy, CancelService, CancelOlder, CancelByte, CancelHalt, UnlinkOver, OverHit, OverMissed}
 use Rattle.host_joint.proofs.Flows.{unlinked-append, unlinks-append, all_answered}
 use Rattle.host_joint.proofs.Hosting.{own_event, other_event}
 use Rattle.host_joint.proofs.Recovering.{no_event}
@@ -63,8 +63,13 @@ from_request read unlink waits notify got older asked a transferred next ups dow
     still race = record { asks = r.asks; tagged = r.tagged; before = r.before; earlier = r.earlier; other = r.other; names = r.names; bond = behind (λ ups downs s. Race read unlink false got older ups downs s) race }
 
     late : UnlinkAt (λ ups downs s. FreeHeld older ups downs s) (λ ups downs s. ⊥) unlink ups downs s → LateRead unlink notify older next ups downs s
-    late race = record { earlier = r.earlier; target = read.head.seqnum; names = r.names; other = own_number notify read.head r.other;
-        bond = behind (λ ups downs s. UnlinkAt (λ ups downs s. FreeHeld older ups downs s) (λ ups downs s. ⊥) unlink ups downs s) race }
+    late race = record {
+      earlier = r.earlier;
+      target = read.head.seqnum;
+      names = r.names;
+      other = own_number notify read.head r.other;
+      bond = behind (λ ups downs s. UnlinkAt (λ ups downs s. FreeHeld older ups downs s) (λ ups downs s. ⊥) unlink ups downs s) race;
+    }
 
     missed : (before after : List Put) → StatusHeld read waits got older ups (before ++ after) s → Parts (Submitted asked a transferred) (unlink_answer unlink success) downs before after
         → GivesCancelled read unlink waits notify got older asked a transferred next ups downs s
@@ -211,8 +216,11 @@ over_bond Before After request notify unlink asked a next ups downs s none kept 
     record {
       run = bond.run;
       reached = bond.reached;
-      lines = record { submits = λ e. subst (λ (l : List SubmitHead). LeftBy l (events_of e downs) (heads (queue_of e s) ++ sent_heads (sent_to e ups)))
-          (ap (λ (u : UnlinkHead). without u.target (asked_by request notify e)) both.0 ∙ left e) (taken.2.submits e); unlinked = sym both.1 };
+      lines = record {
+        submits = λ e. subst (λ (l : List SubmitHead). LeftBy l (events_of e downs) (heads (queue_of e s) ++ sent_heads (sent_to e ups)))
+            (ap (λ (u : UnlinkHead). without u.target (asked_by request notify e)) both.0 ∙ left e) (taken.2.submits e);
+        unlinked = sym both.1;
+      };
       fitting = bond.fitting;
       order = bond.order;
       fits = bond.fits.1;
@@ -302,8 +310,11 @@ late_over unlink notify older asked a next ups downs s r = by r.bond.held
     missed before after h (PartsFirst is rest none) =
         let own : FreeHeld older ups downs s = subst (λ (l : List Put). FreeHeld older ups l s) (ap (λ (l : List Put). l ++ after) none ∙ sym rest) h in (
           same_unlinked asked unlink a _ is,
-          record { earlier = r.earlier; bond = over_bond _ (λ ups downs s. QuietHeld older ups downs s) None notify unlink asked a next ups downs s refl
-              (without_other notify unlink.target (λ x found e. r.other x found (e ∙ r.names))) r.bond own.quiet },
+          record {
+            earlier = r.earlier;
+            bond = over_bond _ (λ ups downs s. QuietHeld older ups downs s) None notify unlink asked a next ups downs s refl
+                (without_other notify unlink.target (λ x found e. r.other x found (e ∙ r.names))) r.bond own.quiet;
+          },
         )
     missed before after h (PartsLater more is rest) = none_more more unlink _ after (unlinks_in ups) (ap (λ (l : List Put). unlinked_by l ++ unlinks_in ups) (sym rest) ∙ both.1)
 

@@ -4,14 +4,14 @@ use Rattle.usbip_wire.specs.declared.submit.SubmitHead.{SubmitHead}
 use Rattle.usbip_wire.specs.declared.ret_submit.RetSubmitHead.{RetSubmitHead}
 use Rattle.tmc_wire.specs.declared.class_request.ClassRequest.TheVariants.{ReadStatus}
 use Rattle.tmc_wire.specs.ControlTable.{row}
-use Rattle.tmc_law.specs.Endpoint.{Control, ends}
-use Rattle.tmc_law.specs.State.{State, Packet, start}
+use Rattle.tmc_law.specs.Endpoint.{ends}
+use Rattle.tmc_law.specs.State.{State, Packet}
 use Rattle.tmc_law.specs.Put.{Put, success, stalled}
 use Rattle.tmc_law.specs.WorkedSession.{notify_submit}
 use Rattle.tmc_law.specs.WorkedStatus.{status_submit}
 use Rattle.usbip_wire.specs.Up as up
 use Rattle.host_joint.specs.Requests.{IsClass}
-use Rattle.host_joint.specs.StatusReads.{StatusRead, ReadsStatus, GivesStatus, SaysSuccess, SaysBusy, BringsService, BringsOlder, BringsByte, BringsHalt}
+use Rattle.host_joint.specs.StatusReads.{ReadsStatus, GivesStatus, SaysSuccess, SaysBusy, BringsService, BringsOlder, BringsByte, BringsHalt}
 use Rattle.host_joint.specs.WorkedStatusReads.{first_read}
 
 pub status_is : IsClass status_submit (ReadStatus 5)

@@ -1,9 +1,7 @@
 -- a status read whose request is unlinked, under each step of a device
-use Rattle.std.proofs.Common.{◌≡◌, ◌≢◌, ◌∙◌, ◌⊎◌, inl, inr, ℕ, ◌+◌, ◌<◌, Bool, true, false, cond, eqb, Option, Some, None, List, [], ◌∷◌, ◌++◌, refl, ap, sym, subst, append_assoc, append-nil, arith}
-use Rattle.std.proofs.lemmas.Bool.{ne_eqb, eq-eqb}
+use Rattle.std.proofs.Common.{◌≡◌, ◌≢◌, ◌∙◌, inl, ℕ, ◌+◌, Bool, true, false, cond, eqb, Option, Some, None, List, [], ◌∷◌, ◌++◌, refl, ap, sym, subst, append_assoc, append-nil, arith}
 use Rattle.usbip_wire.specs.declared.submit.SubmitHead.{SubmitHead}
 use Rattle.usbip_wire.specs.declared.unlink.UnlinkHead.{UnlinkHead}
-use Rattle.usbip_wire.specs.declared.ret_unlink.RetUnlinkHead.{RetUnlinkHead}
 use Rattle.usbip_wire.specs.Up as up
 use Rattle.usb_setup.specs.declared.setup.Setup.{Setup}
 use Rattle.tmc_wire.specs.declared.class_request.ClassRequest.TheVariants.{ReadStatus}
@@ -11,8 +9,8 @@ use Rattle.tmc_wire.specs.ClassStatus.{STATUS_SUCCESS}
 use Rattle.instr_plain.specs.declared.log.LogEntry.{LogEntry}
 use Rattle.instr_plain.specs.Log.{Stands}
 use Rattle.tmc_law.specs.Endpoint.{Endpoint, Control, BulkOut, BulkIn, InterruptIn}
-use Rattle.tmc_law.specs.State.{State, Pending, Packet, start, arrived, queue_of, pending, Avoids}
-use Rattle.tmc_law.specs.Put.{Put, Submitted, Unlinked, unlink_answer, success, unlinked}
+use Rattle.tmc_law.specs.State.{State, Pending, Packet, arrived, queue_of, pending, Avoids}
+use Rattle.tmc_law.specs.Put.{Put, unlink_answer, success, unlinked}
 use Rattle.tmc_law.specs.Queues.{Unlinks, Hits, Polled, Misses}
 use Rattle.tmc_law.specs.Control.{Asks, control_answer}
 use Rattle.tmc_law.specs.Aborts.{Served}
@@ -21,19 +19,18 @@ use Rattle.tmc_law.specs.Status.{IsStatusTag, status_layout}
 use Rattle.tmc_law.specs.LogStep.{MayLog, Adds}
 use Rattle.tmc_law.specs.AnswerFits.{AllAnswers}
 use Rattle.tmc_law.specs.Numbers.{AllBelow, Rises, numbers}
-use Rattle.tmc_law.specs.Step.{Move, Comes, Refuses, Take, Exec, Begin, Fill, Answer, Pend, Poll, Notify, Halt, Unplug, Leads, Steps}
+use Rattle.tmc_law.specs.Step.{Move, Comes, Refuses, Take, Exec, Begin, Fill, Answer, Pend, Poll, Notify, Halt, Unplug, Leads}
 use Rattle.tmc_law.specs.Run.{Entry, Runs, taken, inputs, outputs}
-use Rattle.host_joint.specs.Lines.{Sent, sent_to, sent_heads, heads, Event, Gives, Drops, events_of, without, LeftBy, unlinks_in, unlinked_by, Lines, AllFitting, InOrder}
+use Rattle.host_joint.specs.Lines.{Sent, sent_to, sent_heads, heads, Event, Gives, Drops, events_of, LeftBy, unlinks_in, unlinked_by, Lines, AllFitting}
 use Rattle.host_joint.specs.Asking.{StaysPlugged}
 use Rattle.host_joint.specs.Positions.{IsAt, rests}
 use Rattle.host_joint.specs.Requests.{NoBulk, IsClass}
-use Rattle.host_joint.specs.Bond.{Bond}
-use Rattle.host_joint.specs.StatusReads.{statuses, IsUsual, Brings, NonePolled, StatusRead, StatusAt, StatusComes, StatusPends, StatusPolled, StatusSaid, StatusBusy, StatusOver, ByteAt, ByteUnread, ByteComes, ByteCame, StatusHeld, QuietHeld, none_or_one, asked_by, while, IsEarlier, IsOther, Quiet, ReadsStatus, UnlinkAt, UnlinkOnItsWay, UnlinkDidHit, UnlinkDidMiss, FreeHeld, GoneRead, CancelledRead, LateRead}
+use Rattle.host_joint.specs.StatusReads.{statuses, IsUsual, Brings, NonePolled, StatusRead, StatusAt, StatusComes, StatusPends, StatusPolled, StatusSaid, StatusBusy, StatusOver, ByteAt, ByteUnread, ByteComes, ByteCame, StatusHeld, none_or_one, asked_by, while, IsEarlier, IsOther, ReadsStatus, UnlinkAt, UnlinkOnItsWay, UnlinkDidHit, UnlinkDidMiss, FreeHeld, GoneRead, CancelledRead, LateRead}
 use Rattle.host_joint.proofs.Queues.{IsSound, avoids_queue}
-use Rattle.host_joint.proofs.Flows.{events-append, unlinked-append}
+use Rattle.host_joint.proofs.Flows.{unlinked-append}
 use Rattle.host_joint.proofs.Running.{sound}
-use Rattle.host_joint.proofs.Tying.{TieLaws, none_unlinked, in_order}
-use Rattle.host_joint.proofs.Booking.{unlink_written, unlink_answered}
+use Rattle.host_joint.proofs.Tying.{TieLaws, none_unlinked}
+use Rattle.host_joint.proofs.Booking.{unlink_written}
 use Rattle.host_joint.proofs.Numbered.{below_next}
 use Rattle.host_joint.proofs.Cancelling.{fitting_more, order_more, numbers_same}
 use Rattle.host_joint.proofs.Bonding.{Keeps, bond_run}

@@ -1,5 +1,5 @@
 -- a status read under each step of a device
-use Rattle.std.proofs.Common.{◌≡◌, ◌≢◌, ◌∙◌, ℕ, Bool, true, false, Option, Some, None, List, [], ◌∷◌, ◌++◌, length, refl, ap, sym, subst, append_assoc, append-nil}
+use Rattle.std.proofs.Common.{◌≡◌, ◌≢◌, ◌∙◌, ℕ, Bool, true, false, Option, None, List, [], ◌∷◌, ◌++◌, refl, ap, sym, subst, append_assoc}
 use Rattle.usbip_wire.specs.declared.submit.SubmitHead.{SubmitHead}
 use Rattle.usbip_wire.specs.Up as up
 use Rattle.usb_setup.specs.declared.setup.Setup.{Setup}
@@ -10,9 +10,9 @@ use Rattle.instr_plain.specs.declared.log.LogEntry.{LogEntry}
 use Rattle.instr_plain.specs.declared.log.LogEntry.TheVariants as entry
 use Rattle.instr_plain.specs.Standing.{polled_byte}
 use Rattle.instr_plain.specs.Log.{Stands}
-use Rattle.tmc_law.specs.Endpoint.{Endpoint, Control, BulkOut, BulkIn, InterruptIn}
-use Rattle.tmc_law.specs.State.{State, Pending, Packet, StatusPacket, ServicePacket, Running, Nothing, start, arrived}
-use Rattle.tmc_law.specs.Put.{Put, Submitted, success}
+use Rattle.tmc_law.specs.Endpoint.{Control, BulkOut, BulkIn, InterruptIn}
+use Rattle.tmc_law.specs.State.{State, Pending, Packet, StatusPacket, Running, Nothing, arrived}
+use Rattle.tmc_law.specs.Put.{Put, success}
 use Rattle.tmc_law.specs.Class as class
 use Rattle.tmc_law.specs.Class.{Serves, StaysPending}
 use Rattle.tmc_law.specs.Control.{Asks, control_answer}
@@ -22,9 +22,9 @@ use Rattle.tmc_law.specs.Status.{Polls, DoesPoll, IsStatusTag, is_status, status
 use Rattle.tmc_law.specs.Logging.{is_queued}
 use Rattle.tmc_law.specs.LogStep.{MayLog, Adds}
 use Rattle.tmc_law.specs.AnswerFits.{AllAnswers}
-use Rattle.tmc_law.specs.Step.{Move, Comes, Refuses, Take, Exec, Begin, Fill, Answer, Pend, Poll, Notify, Halt, Unplug, Leads, Steps}
-use Rattle.tmc_law.specs.Run.{Entry, Runs, taken}
-use Rattle.host_joint.specs.Lines.{Sent, sent_to, Event, Gives, events_of, unlinks_in, Lines, AllFitting, InOrder}
+use Rattle.tmc_law.specs.Step.{Move, Comes, Refuses, Take, Exec, Begin, Fill, Answer, Pend, Poll, Notify, Halt, Unplug, Leads}
+use Rattle.tmc_law.specs.Run.{taken}
+use Rattle.host_joint.specs.Lines.{Sent, sent_to, Event, Gives, events_of, unlinks_in, Lines, AllFitting}
 use Rattle.host_joint.specs.Positions.{IsAt, rests}
 use Rattle.host_joint.specs.Requests.{NoBulk, IsClass}
 use Rattle.host_joint.specs.StatusReads.{packets_in, statuses, IsUsual, Brings, NonePolled, OnePolled, StatusRead, StatusAt, StatusComes, StatusPends, StatusPolled, StatusSaid, StatusBusy, StatusOver, ByteAt, ByteUnread, ByteComes, ByteCame, StatusHeld, QuietHeld, asked_by, while}
@@ -33,7 +33,7 @@ use Rattle.host_joint.proofs.Flows.{events-append, all_answered}
 use Rattle.host_joint.proofs.Running.{sound}
 use Rattle.host_joint.proofs.Tying.{TieLaws}
 use Rattle.host_joint.proofs.Bonding.{Keeps, none_linked}
-use Rattle.host_joint.proofs.Resting.{LeavesControl, rest_goes, rest_is, no_take, no_fill, rests_closed}
+use Rattle.host_joint.proofs.Resting.{rest_goes, rest_is, no_take, no_fill, rests_closed}
 use Rattle.host_joint.proofs.Requesting as asking
 use Rattle.host_joint.proofs.Requesting.{Meaning, only_class, OnlyClass, Apart, Came, CameHere, CameElsewhere, came, events_same, one_sent, no_sent, one_pending, answer_event, other_event, no_answer, no_pend, no_first_poll}
 use Rattle.host_joint.proofs.Packeting.{Streams, still, brings_more, brings_same, all_usual, none_out, logs_same, statuses-append, queued_some, Others, others, none_goes, one_goes, poll-append}

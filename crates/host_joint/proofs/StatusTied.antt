@@ -1,5 +1,5 @@
 -- a host in a status read: what it writes, and what it is given
-use Rattle.std.proofs.Common.{◌≡◌, ◌≢◌, ◌∙◌, ◌⊎◌, inl, inr, ℕ, ◌+◌, ◌<◌, ◌≤◌, Bool, true, false, cond, eqb, ℤ, Option, Some, None, List, [], ◌∷◌, ◌++◌, length, refl, ap, sym, subst, append-nil, arith}
+use Rattle.std.proofs.Common.{◌≡◌, ◌≢◌, ◌∙◌, ◌⊎◌, inl, inr, ℕ, ◌+◌, ◌≤◌, Bool, true, false, cond, eqb, ℤ, Option, Some, None, List, [], ◌∷◌, ◌++◌, length, refl, ap, sym, subst, append-nil, arith}
 use Rattle.std.proofs.lemmas.Bool.{eq-eqb, ne_eqb}
 use Rattle.usbip_wire.specs.declared.submit.SubmitHead.{SubmitHead}
 use Rattle.usbip_wire.specs.declared.ret_submit.RetSubmitHead.{RetSubmitHead}
@@ -11,7 +11,6 @@ use Rattle.usbip_wire.specs.RetSubmit.{SpellsRetSubmit}
 use Rattle.usbip_wire.specs.Dirs.{find, submit_of}
 use Rattle.tmc_wire.specs.declared.class_request.ClassRequest.TheVariants.{ReadStatus}
 use Rattle.tmc_wire.specs.ClassStatus.{STATUS_SUCCESS, STATUS_INTERRUPT_IN_BUSY}
-use Rattle.instr_plain.specs.declared.log.LogEntry.{LogEntry}
 use Rattle.tmc_law.specs.Endpoint.{Endpoint, Control, BulkOut, BulkIn, InterruptIn, number_of}
 use Rattle.tmc_law.specs.State.{State, queue_of, Packet, StatusPacket, ServicePacket}
 use Rattle.tmc_law.specs.Put.{Put, Submitted, Unlinked, success, stalled}
@@ -19,7 +18,7 @@ use Rattle.tmc_law.specs.Status.{IsStatusTag, status_layout, packet_bytes}
 use Rattle.tmc_law.specs.AnswerFits.{AllAnswers}
 use Rattle.tmc_law.specs.Queues.{pending_most}
 use Rattle.tmc_law.specs.Run.{Entry, Runs, inputs, outputs}
-use Rattle.host_joint.specs.Lines.{Sent, sent_to, Event, Gives, events_of, unlinks_in, unlinked_by, LeftBy, heads, sent_heads, Lines, EmptyLine, Fitting, AllFitting, NoneNumbered}
+use Rattle.host_joint.specs.Lines.{Sent, sent_to, Event, Gives, events_of, unlinks_in, unlinked_by, LeftBy, heads, sent_heads, Lines, Fitting, NoneNumbered}
 use Rattle.host_joint.specs.Unlinking.{AllHeads, Rising, IsNamed, AreApart, total_of}
 use Rattle.host_joint.specs.Asking.{StaysPlugged}
 use Rattle.host_joint.specs.Positions.{IsAt, rests}
@@ -34,7 +33,7 @@ use Rattle.host_joint.proofs.Hosting.{own_event, other_event}
 use Rattle.host_joint.proofs.Tying.{TieLaws, none_unlinked}
 use Rattle.host_joint.proofs.Writing.{fitting_more}
 use Rattle.host_joint.proofs.Requesting.{Meaning}
-use Rattle.host_joint.proofs.Bonding.{bond_run, none_linked}
+use Rattle.host_joint.proofs.Bonding.{bond_run}
 use Rattle.host_joint.proofs.Recovering.{order_more, coming, no_event, one_event}
 use Rattle.host_joint.proofs.Joining.{IsKept, Never, plugged-append, plugged_front}
 use Rattle.host_joint.proofs.UntilJoined.{Spelled}
@@ -223,8 +222,11 @@ read_ends read notify byte older next ups downs s r = by h.byte
     by (ByteCame other p g none is one) =
         let same : other ≡ byte = cc in (
           subst (λ (b : ℕ). OnePolled read.head.seqnum b read.since s.log) same one,
-          record { earlier = r.earlier; bond = bond_to _ (λ ups downs s. QuietHeld [] ups downs s) (asked_by None notify) (asked_by None notify) next ups downs s (λ e. refl) r.bond
-              (record { rest = h.rest; brings = subst (λ (l : List Packet). Brings l downs s) is h.brings }) },
+          record {
+            earlier = r.earlier;
+            bond = bond_to _ (λ ups downs s. QuietHeld [] ups downs s) (asked_by None notify) (asked_by None notify) next ups downs s (λ e. refl) r.bond
+                (record { rest = h.rest; brings = subst (λ (l : List Packet). Brings l downs s) is h.brings });
+          },
         )
 
 pub read_left : (read : StatusRead) (notify : Option SubmitHead) (older : List Packet) (next : ℕ) (ups : List up.Message) (downs : List Put) (s : State) → ReadsStatus read false notify None older next ups downs s
@@ -240,8 +242,11 @@ read_left read notify older next ups downs s r = by h.request h.byte
     left (ByteComes byte p g is one) was = (
       byte,
       one,
-      record { earlier = r.earlier; bond = bond_to _ (λ ups downs s. QuietHeld (older ++ StatusPacket read.tag byte ∷ []) ups downs s) (asked_by None notify) (asked_by None notify) next ups downs s (λ e. refl) r.bond
-          (record { rest = h.rest; brings = subst (λ (l : List Packet). Brings l downs s) is h.brings }) },
+      record {
+        earlier = r.earlier;
+        bond = bond_to _ (λ ups downs s. QuietHeld (older ++ StatusPacket read.tag byte ∷ []) ups downs s) (asked_by None notify) (asked_by None notify) next ups downs s (λ e. refl) r.bond
+            (record { rest = h.rest; brings = subst (λ (l : List Packet). Brings l downs s) is h.brings });
+      },
     )
 
     by : StatusAt read false h.polled (sent_to Control ups) (events_of Control downs) s.control → ByteAt read older None h.polled h.status_packets s.log

@@ -1,5 +1,5 @@
 -- an example status read, from power-on, and one whose request is unlinked
-use Rattle.std.specs.Prelude.{[], ◌∷◌, ◌++◌, List}
+use Rattle.std.specs.Prelude.{[], ◌∷◌, List}
 use Rattle.tmc_law.specs.State.{State, start, arrived}
 use Rattle.tmc_law.specs.Put.{Unlinked, unlinked}
 use Rattle.tmc_law.specs.Step.{Comes}

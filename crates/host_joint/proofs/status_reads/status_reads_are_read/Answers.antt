@@ -1,7 +1,5 @@
-use Rattle.std.proofs.Common.{ℕ, ◌+◌, true, Bool, Option, Some, None, List, [], ◌∷◌, ◌++◌}
+use Rattle.std.proofs.Common.{◌+◌, true, Some, None, []}
 use Rattle.usbip_wire.specs.Up as up
-use Rattle.usbip_wire.specs.declared.submit.SubmitHead.{SubmitHead}
-use Rattle.tmc_law.specs.State.{Packet}
 use Rattle.host_joint.specs.Asking.{StaysPlugged}
 use Rattle.host_joint.specs.Bond.{Bound, Stands, Resting}
 use Rattle.host_joint.specs.StatusReads.{StatusRead, ReadsStatus, Quiet, while, entries_by}

@@ -1,4 +1,4 @@
-use Rattle.std.proofs.Common.{◌≡◌, ◌∙◌, ℕ, true, false, Bool, Some, None, List, [], ◌∷◌, ◌++◌, refl, ap, sym}
+use Rattle.std.proofs.Common.{◌≡◌, ℕ, true, false, Some, None, List, [], ◌∷◌, ◌++◌, refl, ap, sym}
 use Rattle.usbip_wire.specs.declared.ret_unlink.RetUnlinkHead.{RetUnlinkHead}
 use Rattle.usbip_wire.specs.Up as up
 use Rattle.tmc_law.specs.Endpoint.{Control, InterruptIn}
@@ -46,7 +46,8 @@ hit (OverMissed w is read) = absurd (no_wait w)
 pub returns-clause-hit : goal.returns-clause-hit
 returns-clause-hit c =
     let went = c.status_reads_are_cancelled.ensures.stays first_read (unlink 3 2) true (Some (notify_submit 1 8)) None [] stopping_status 4 [] [] start stopped_status stops ((λ e. cc), ((λ e. cc), ((λ e. cc), tt))) (returns-clause-unlinked c) in
-    (stops, hit (c.status_reads_are_cancelled.ensures.over first_read (unlink 3 2) true (Some (notify_submit 1 8)) None [] (unlink 3 2) (record { seqnum = 3; status = unlinked }) 4 [] [] stopped_status went))
+    let over = hit (c.status_reads_are_cancelled.ensures.over first_read (unlink 3 2) true (Some (notify_submit 1 8)) None [] (unlink 3 2) (record { seqnum = 3; status = unlinked }) 4 [] [] stopped_status went) in
+    (stops, over.0, over.1)
 
 abbrev behind_answer : List Put
 behind_answer = Unlinked (unlink 3 2) (record { seqnum = 3; status = success }) ∷ answered (notify_submit 1 8) success 2 (0x85 ∷ 0x00 ∷ []) ∷ []

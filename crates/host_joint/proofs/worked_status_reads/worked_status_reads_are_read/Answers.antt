@@ -1,6 +1,5 @@
-use Rattle.std.proofs.Common.{◌≡◌, ◌∙◌, ℕ, true, List, [], ◌∷◌, ◌++◌, take, drop, Some, None, refl, ap, sym, subst, append_assoc, append-nil, lit≤}
+use Rattle.std.proofs.Common.{◌≡◌, ◌∙◌, ℕ, true, List, [], ◌∷◌, ◌++◌, take, drop, Some, None, refl, ap, sym, subst, append-nil, lit≤}
 use Rattle.usbip_wire.specs.declared.ret_submit.RetSubmitHead.{RetSubmitHead}
-use Rattle.usbip_wire.specs.declared.submit.SubmitHead.{SubmitHead}
 use Rattle.usbip_wire.specs.Up as up
 use Rattle.usbip_wire.specs.Down as down
 use Rattle.tmc_law.specs.Endpoint.{Control}

@@ -1,8 +1,8 @@
-use Rattle.std.proofs.Common.{◌≡◌, ℕ, true, false, Some, None, List, [], ◌∷◌, ◌++◌, refl, lit≤, arith}
+use Rattle.std.proofs.Common.{true, false, Some, None, [], ◌∷◌, ◌++◌, refl, lit≤}
 use Rattle.usbip_wire.specs.Up as up
 use Rattle.tmc_law.specs.Endpoint.{Control}
-use Rattle.tmc_law.specs.State.{State, start}
-use Rattle.tmc_law.specs.Put.{Put, success}
+use Rattle.tmc_law.specs.State.{start}
+use Rattle.tmc_law.specs.Put.{success}
 use Rattle.tmc_law.specs.WorkedSession.{notify_submit, answered}
 use Rattle.tmc_law.specs.WorkedStatus.{status_submit, status_asked, answer_first, packet_first}
 use Rattle.host_joint.specs.WorkedStatusReads.{first_read, status_given}
