@@ -24,8 +24,8 @@ use crate::replay::replay;
 use crate::script::read_bytes;
 use crate::status::Status;
 use event_text::{
-    LineFault, LineWhat, Script, event_scripts_are_determined, put_shown,
-    read_script, scripts_are_determined,
+    LineFault, LineWhat, Script, event_scripts_are_determined, put_shown, read_script,
+    scripts_are_determined,
 };
 use instr_plain::one_response;
 use std::alloc::Global;

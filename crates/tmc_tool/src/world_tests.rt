@@ -114,12 +114,13 @@ const UNPLUGGED: Row<'_> = Row {
     ],
 };
 
-/// Asks that are refused, and one with the greatest first number that is not.
+/// No event.
 const NONE: Row<'_> = Row {
     script: "",
     parts: &["hub running\nservice 0 -\nup 0\ndown 0\n"],
 };
 
+/// Asks that are refused, and one with the greatest first number that is not.
 const NO_LIMIT: Row<'_> = Row {
     script: "ask 0 0 2a4f50433f",
     parts: &["event 1 refused BadLimit\nhub running\nservice 0 -\nup 0\ndown 0\n"],
