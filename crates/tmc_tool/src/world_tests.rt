@@ -25,7 +25,7 @@ fn stand_in(text: &[u8], parts: &[&str]) -> bool {
 /// What stands behind the first place of a part.
 fn behind<'a>(text: &'a [u8], part: &[u8]) -> Option<&'a [u8]> {
     let at = (0..text.len()).find(|at| text[*at..].starts_with(part))?;
-    text[at..].get(part.len()..)
+    text.get(at..)?.get(part.len()..)
 }
 
 #[test]
