@@ -1,5 +1,5 @@
 -- how `ask` ends
-use Rattle.std.proofs.Common.{◌≡◌, ◌⊎◌, inl, inr, ⊎_elim, ℕ, ◌<◌, ◌≤◌, Bool, List, [], ◌∷◌, length, refl, subst, arith}
+use Rattle.std.proofs.Common.{◌≡◌, ◌⊎◌, inl, inr, ⊎_elim, ℕ, ◌<◌, ◌≤◌, Bool, List, [], length, subst, arith}
 use Rattle.std.proofs.lemmas.Bool.{cases_lt}
 use Rattle.tmc_base.specs.Source.{GivesFirst, HasEnded}
 use Rattle.tmc_base.specs.Reading.{Last, NoRead, AtEnd}
@@ -7,17 +7,14 @@ use Rattle.event_text.specs.declared.line_fault.LineWhat.{LineWhat}
 use Rattle.event_text.specs.declared.line_fault.LineWhat.TheVariants.{Words, EmptyMessage, LongMessage, NotYet}
 use Rattle.tmc_tool.specs.declared.status.Status.{Status}
 use Rattle.tmc_tool.specs.declared.command.Command.TheVariants.{Ask}
-use Rattle.tmc_tool.specs.Command.{words_of}
+use Rattle.tmc_tool.specs.Command.{Names}
 use Rattle.tmc_tool.specs.Line.{IsFirstLine, IsAsked, IsQuestion, IsRefused, line_most}
 use Rattle.tmc_tool.specs.Judged.{IsWrong}
-use Rattle.tmc_tool.specs.Tool.{Outside, ReadsLine, ReadsAll, ReadsSome, Ends, PrintsReport, PrintsRefusal}
+use Rattle.tmc_tool.specs.Told.{AskedOnce}
+use Rattle.tmc_tool.specs.Tool.{Outside, ReadsLine, ReadsAll, ReadsSome, Ends, Prints, PrintsRefusal}
 use Rattle.tmc_tool.proofs.FirstLine.{line_size}
-use Rattle.tmc_tool.proofs.Ending.{made_ends, memory_ends, some_read, refused_ends}
-
--- a list without elements
-empty : (xs : List ℕ) → length xs ≡ 0 → xs ≡ []
-empty [] e = refl
-empty (x ∷ xs) e = absurd (omega (arith, e))
+use Rattle.tmc_tool.proofs.Lines.{empty}
+use Rattle.tmc_tool.proofs.Ending.{printed_ends, some_read, refused_ends}
 
 -- what was read of a source, as a call of `read_up_to` tells it
 pub record Reads (reads : Last → List ℕ → Type 0) (bytes : List ℕ) (before after : Outside) : Type 0 where
@@ -41,32 +38,31 @@ reads_line reads bytes before after read = record {
 
 -- what is wrong with a line is why its bytes are refused
 refused_by : (bytes message behind : List ℕ) (line : ℕ) (what : LineWhat) → IsFirstLine bytes message behind → IsWrong message behind line what → IsRefused bytes line what
-refused_by bytes message behind line Words first wrong = (wrong.0, (message, behind, wrong.1.0, first, wrong.1.1, wrong.1.2))
+refused_by bytes message behind line Words first wrong = (wrong.0, (message, behind, first, wrong.1, wrong.2))
 refused_by bytes message behind line EmptyMessage first wrong = (wrong.0, (behind, subst (λ m. IsFirstLine bytes m behind) wrong.1 first))
 refused_by bytes message behind line LongMessage first wrong = (wrong.0, (message, behind, first, wrong.1))
 refused_by bytes message behind line NotYet first wrong = (wrong.0, (message, behind, first, wrong.1, wrong.2, wrong.3))
 refused_by bytes message behind line what first wrong = absurd wrong
 
-pub refusal_ends : (reads : Last → List ℕ → Type 0) (writes : Bool → List ℕ → Type 0) (before after : Outside) (bytes message behind : List ℕ) (line : ℕ) (what : LineWhat) (result : Status)
-    → Reads reads bytes before after → IsFirstLine bytes message behind → IsWrong message behind line what
-    → PrintsRefusal writes line what result before.put before.write_faults after.put after.write_faults → Ends reads writes (words_of Ask) result before after
-refusal_ends reads writes before after bytes message behind line what result read first wrong printed =
-    refused_ends reads writes Ask before after bytes line what result (reads_line reads bytes before after read) read.counts
+pub refusal_ends : (reads : Last → List ℕ → Type 0) (writes : Bool → List ℕ → Type 0) (words : List (List ℕ)) (limit : ℕ) (before after : Outside) (bytes message behind : List ℕ) (line : ℕ) (what : LineWhat) (result : Status)
+    → Names words (Ask limit) → Reads reads bytes before after → IsFirstLine bytes message behind → IsWrong message behind line what
+    → PrintsRefusal writes line what result before.put before.write_faults after.put after.write_faults → Ends reads writes words result before after
+refusal_ends reads writes words limit before after bytes message behind line what result names read first wrong printed =
+    refused_ends reads writes words (Ask limit) before after bytes line what result names (reads_line reads bytes before after read) read.counts
     (refused_by bytes message behind line what first wrong) printed
 
-pub report_ends : (reads : Last → List ℕ → Type 0) (writes : Bool → List ℕ → Type 0) (before after : Outside) (bytes message behind response : List ℕ) (result : Status)
-    → Reads reads bytes before after → IsFirstLine bytes message behind → length behind ≡ 0 → IsAsked message response
-    → PrintsReport writes message response result before.put before.write_faults after.put after.write_faults → Ends reads writes (words_of Ask) result before after
-report_ends reads writes before after bytes message behind response result read first alone asked (inl written) =
+pub answer_ends : (reads : Last → List ℕ → Type 0) (writes : Bool → List ℕ → Type 0) (words : List (List ℕ)) (limit : ℕ) (before after : Outside) (bytes message behind : List ℕ) (result : Status)
+    → Names words (Ask limit) → Reads reads bytes before after → IsFirstLine bytes message behind → length behind ≡ 0 → IsAsked message
+    → Prints writes (AskedOnce limit message) result before.put before.write_faults after.put after.write_faults → Ends reads writes words result before after
+answer_ends reads writes words limit before after bytes message behind result names read first alone asked printed =
     let line : IsFirstLine bytes message [] = subst (λ b. IsFirstLine bytes message b) (empty behind alone) first in
     let short : length bytes < line_most = omega (arith, line_size bytes message line, asked.short) in
-    let question : IsQuestion bytes message response = record { line = line; asked = asked } in
+    let question : IsQuestion bytes message = record { line = line; asked = asked } in
     let all : ReadsAll reads bytes before after = record { first = read.first; ended = read.ended short; run = read.short_run short; counts = read.counts } in
-    made_ends reads writes Ask before after bytes written.0 result all (written.1 bytes question) written.2
-report_ends reads writes before after bytes message behind response result read first alone asked (inr wanting) =
-    memory_ends reads writes Ask before after result (some_read reads Ask before after bytes (reads_line reads bytes before after read)) read.counts wanting
+    printed_ends reads writes words (Ask limit) before after bytes result (AskedOnce limit message) names all (reads_line reads bytes before after read)
+    (λ text is. record { message = message; question = question; asked = is }) printed
 
 -- memory was wanting for the response of a line
-pub wanting_ends : (reads : Last → List ℕ → Type 0) (bytes : List ℕ) (before after : Outside) → Reads reads bytes before after
-    → ReadsSome reads (words_of Ask) NoRead ⊎ ReadsSome reads (words_of Ask) AtEnd
-wanting_ends reads bytes before after read = some_read reads Ask before after bytes (reads_line reads bytes before after read)
+pub wanting_ends : (reads : Last → List ℕ → Type 0) (words : List (List ℕ)) (limit : ℕ) (bytes : List ℕ) (before after : Outside) → Names words (Ask limit) → Reads reads bytes before after
+    → ReadsSome reads words NoRead ⊎ ReadsSome reads words AtEnd
+wanting_ends reads words limit bytes before after names read = some_read reads words (Ask limit) before after bytes names (reads_line reads bytes before after read)

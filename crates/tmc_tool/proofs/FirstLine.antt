@@ -60,29 +60,22 @@ line_size bytes message line =
     line.cut
 
 -- a line that can be asked is not refused
-pub not_refused : OneAnswer → (bytes message response : List ℕ) (line : ℕ) (what : LineWhat) → IsQuestion bytes message response → IsRefused bytes line what → ⊥
-not_refused one bytes message response line Words question refused =
+pub not_refused : OneAnswer → (bytes message : List ℕ) (line : ℕ) (what : LineWhat) → IsQuestion bytes message → IsRefused bytes line what → ⊥
+not_refused one bytes message line Words question refused =
     let r = refused.1 in
-    let same = same_line bytes message r.0 [] r.1 question.line r.3 in
-    omega (arith, r.5, ap length same.1)
-not_refused one bytes message response line EmptyMessage question refused =
+    let same = same_line bytes message r.0 [] r.1 question.line r.2 in
+    omega (arith, r.4, ap length same.1)
+not_refused one bytes message line EmptyMessage question refused =
     let r = refused.1 in
     let same = same_line bytes message [] [] r.0 question.line r.1 in
     omega (arith, question.asked.some, ap length same.0)
-not_refused one bytes message response line LongMessage question refused =
+not_refused one bytes message line LongMessage question refused =
     let r = refused.1 in
     let same = same_line bytes message r.0 [] r.1 question.line r.2 in
     omega (arith, r.3, question.asked.short, ap length same.0)
-not_refused one bytes message response line NotYet question refused =
+not_refused one bytes message line NotYet question refused =
     let r = refused.1 in
     let same = same_line bytes message r.0 [] r.1 question.line r.2 in
-    ⊎_elim
-    (λ long. omega (arith, long, question.asked.short, ap length same.0))
-    (λ other.
-    let agree : response ≡ other.0 = one message response other.0 question.asked.responds (subst (λ m. Responds m other.0) (sym same.0) other.1) in
-    ⊎_elim
-    (λ none. omega (arith, question.asked.answered, ap length (agree ∙ none)))
-    (λ long. omega (arith, question.asked.whole, ap length agree, long))
-    other.2)
-    r.5
-not_refused one bytes message response line what question refused = absurd refused
+    let none : question.asked.response ≡ [] = one message question.asked.response [] question.asked.responds (subst (λ m. Responds m []) (sym same.0) r.5) in
+    omega (arith, question.asked.answered, ap length none)
+not_refused one bytes message line what question refused = absurd refused

@@ -1,9 +1,13 @@
-pub mod Transfers
 pub mod Lines
 pub mod FirstLine
 pub mod Words
 pub mod Ending
 pub mod AskEnding
+pub mod ScriptEnding
 pub mod Causes
 pub mod Limits
 pub mod Runs
+pub mod Going
+pub mod Holding
+pub mod Asking
+pub mod Replaying

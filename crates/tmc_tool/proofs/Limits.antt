@@ -6,6 +6,9 @@ use Rattle.usbip_wire.specs.declared.urb.Dir.{Dir}
 use Rattle.event_text.specs.declared.line_fault.LineWhat.{LineWhat}
 use Rattle.event_text.specs.declared.line_fault.LineWhat.TheVariants.{TooLong, TooMany}
 use Rattle.event_text.specs.Script.{lines_most, line_most, judged, later_words, first_words, Say}
+use Rattle.event_text.specs.declared.event.Script.{Script}
+use Rattle.event_text.specs.EventLine.{line_words, place_behind}
+use Rattle.event_text.specs.EventScript.{IsEventScript, SayInTurn}
 use Rattle.event_text.specs.Shown.{ShownOf}
 use Rattle.event_text.specs.Way.{way_of}
 use Rattle.event_text.specs.Words.{IsInside, lines_of, words_of}
@@ -227,6 +230,29 @@ shown_keeps way source text shown =
     2 script.others shown.lines (omega arith) script.said in
     let all : KeepsLimits source = subst (λ xs. (length xs ≤ lines_most) × AllByRecursion IsShortLine xs) (sym script.cut) (omega (arith, rest.0), (head.1, rest.1)) in
     all
+
+-- lines that say something each, behind what was said before
+turns_keep : {P A : Type 0} → (S : P → ℕ → List (List ℕ) → List A → Type 0)
+    → ((place : P) (number : ℕ) (line : List ℕ) (lines : List (List ℕ)) → S place number (line ∷ lines) [] → ⊥)
+    → ((place : P) (number : ℕ) (line : List ℕ) (lines : List (List ℕ)) (one : A) (said : List A) → S place number (line ∷ lines) (one ∷ said)
+    → (number ≤ lines_most) × (length line ≤ line_most) × ((next : P) × S next (number + 1) lines said))
+    → (place : P) (number : ℕ) (lines : List (List ℕ)) (said : List A) → number ≤ lines_most + 1 → S place number lines said
+    → (number + length lines ≤ lines_most + 1) × AllByRecursion IsShortLine lines
+turns_keep S none first place number [] said few say = (omega (arith, few), tt)
+turns_keep S none first place number (line ∷ lines) [] few say = absurd (none place number line lines say)
+turns_keep S none first place number (line ∷ lines) (one ∷ said) few say =
+    let here = first place number line lines one said say in
+    let rest = turns_keep S none first here.2.0 (number + 1) lines said (omega (arith, here.0)) here.2.1 in
+    (omega (arith, rest.0), (here.1, rest.1))
+
+-- so of a script of events
+pub script_keeps : (source : List ℕ) (script : Script) → IsEventScript source script → KeepsLimits source
+script_keeps source script is =
+    let all = turns_keep SayInTurn (λ place number line lines none. none)
+    (λ place number line lines one said say.
+    let here = judged_keeps number line (line_words place) one say.0 in (here.0, here.1, (place_behind one, say.1)))
+    _ 1 (lines_of source) is.said (omega arith) is.says in
+    (omega (arith, all.0), all.1)
 
 -- ---- what is read
 

@@ -1,8 +1,8 @@
 pub mod Command
-pub mod Exchange
-pub mod Report
 pub mod Line
 pub mod Judged
 pub mod Refusal
+pub mod Told
+pub mod Going
 pub mod Tool
 pub mod Script

@@ -5,20 +5,16 @@ use Rattle.instr_plain.specs.Standing.{power_on}
 use Rattle.instr_plain.specs.Exec.{Exec}
 use Rattle.event_text.specs.declared.line_fault.LineWhat.{LineWhat}
 use Rattle.event_text.specs.declared.line_fault.LineWhat.TheVariants.{Words, EmptyMessage, LongMessage, NotYet}
-use Rattle.tmc_tool.specs.declared.ask_limits.TheConstants.{MESSAGE_MOST, TRANSFER_MOST}
-use Rattle.tmc_tool.specs.Exchange.{ask_limit}
+use Rattle.tmc_tool.specs.declared.ask_limits.TheConstants.{MESSAGE_MOST}
 
 -- the first line of the bytes without its NL, and what stands behind the NL
 pub record IsFirstLine (bytes message behind : List ℕ) : Type 0 where
   pub pure : Contains message 10 → ⊥
   pub cut : ((bytes ≡ message) × (behind ≡ [])) ⊎ (bytes ≡ message ++ 10 ∷ behind)
 
--- the longest program message, and the longest that goes in one transfer
+-- the longest program message
 abbrev pub message_most : ℕ
 message_most = MESSAGE_MOST
-
-abbrev pub transfer_most : ℕ
-transfer_most = TRANSFER_MOST
 
 -- one byte more than the longest message and its NL: so many bytes tell what is wrong with a line, or that something
 -- stands behind it
@@ -29,35 +25,29 @@ line_most = MESSAGE_MOST + 2
 abbrev pub Responds : List ℕ → List ℕ → Type 0
 Responds message response = (state : Plain) × Exec power_on message state response
 
--- the message goes in one transfer, and its response comes in one read
-pub record IsAsked (message response : List ℕ) : Type 0 where
+-- the message has bytes, and no more than a message may have, and from power-on it is answered
+pub record IsAsked (message : List ℕ) : Type 0 where
   pub some : 0 < length message
-  pub short : length message ≤ transfer_most
+  pub short : length message ≤ message_most
+  pub response : List ℕ
   pub responds : Responds message response
   pub answered : 0 < length response
-  pub whole : length response ≤ ask_limit
 
 -- the bytes are one line, and its message can be asked
-pub record IsQuestion (bytes message response : List ℕ) : Type 0 where
+pub record IsQuestion (bytes message : List ℕ) : Type 0 where
   pub line : IsFirstLine bytes message []
-  pub asked : IsAsked message response
-
--- a message that is no fault of the line, and cannot be asked yet
-abbrev pub IsNotYet : List ℕ → Type 0
-IsNotYet message =
-    (transfer_most < length message)
-    ⊎ ((response : List ℕ) × Responds message response × ((response ≡ []) ⊎ (ask_limit < length response)))
+  pub asked : IsAsked message
 
 -- the first line of the bytes is refused, by what is wrong with it, or the second for what stands in it; nothing else is
--- wrong with them
+-- wrong with them. A message that is answered with no response cannot be asked yet.
 abbrev pub IsRefused : List ℕ → (line : ℕ) → LineWhat → Type 0
 IsRefused bytes line EmptyMessage = (line ≡ 1) × ((behind : List ℕ) × IsFirstLine bytes [] behind)
 IsRefused bytes line LongMessage =
     (line ≡ 1) × ((message behind : List ℕ) × IsFirstLine bytes message behind × (message_most < length message))
 IsRefused bytes line NotYet =
     (line ≡ 1)
-    × ((message behind : List ℕ) × IsFirstLine bytes message behind × (0 < length message) × (length message ≤ message_most) × IsNotYet message)
+    × ((message behind : List ℕ) × IsFirstLine bytes message behind × (0 < length message) × (length message ≤ message_most) × Responds message [])
 IsRefused bytes line Words =
     (line ≡ 2)
-    × ((message behind response : List ℕ) × IsFirstLine bytes message behind × IsAsked message response × (0 < length behind))
+    × ((message behind : List ℕ) × IsFirstLine bytes message behind × IsAsked message × (0 < length behind))
 IsRefused bytes line what = ⊥

@@ -5,17 +5,18 @@ use Rattle.tmc_base.specs.Source.{GivesFirst, HasEnded}
 use Rattle.tmc_base.specs.Sink.{PutsFront, put_after}
 use Rattle.tmc_base.specs.Reading.{Last, NoRead, AtEnd, AtFault}
 use Rattle.event_text.specs.declared.line_fault.LineWhat.{LineWhat}
-use Rattle.event_text.specs.Shown as script
+use Rattle.event_text.specs.declared.event.Script.{Script}
+use Rattle.event_text.specs.EventScript.{IsEventScript, IsRefusedEvent}
+use Rattle.event_text.specs.Shown as showing
 use Rattle.tmc_tool.specs.declared.status.Status.{Status}
 use Rattle.tmc_tool.specs.declared.status.Status.TheVariants.{Printed, Usage, Refused, SourceFault, SinkFault, NoMemory}
-use Rattle.tmc_tool.specs.Exchange.{Crosses, ask_limit}
 use Rattle.tmc_tool.specs.declared.command.Command.{Command}
-use Rattle.tmc_tool.specs.declared.command.Command.TheVariants.{Ask, Show}
-use Rattle.tmc_tool.specs.Command.{words_of, IsCommand}
+use Rattle.tmc_tool.specs.declared.command.Command.TheVariants.{Ask, Replay, Show}
+use Rattle.tmc_tool.specs.Command.{Names, IsCommand}
 use Rattle.tmc_tool.specs.Line.{IsQuestion, IsRefused, line_most}
 use Rattle.tmc_tool.specs.Refusal.{refusal}
 use Rattle.tmc_tool.specs.Script.{PassesLimit, IsBounded}
-use Rattle.tmc_tool.specs.Report.{Told, Asked, Settled, Exec as exec_entry, Took, Reports}
+use Rattle.tmc_tool.specs.Told.{AskedOnce, Replayed}
 
 -- the number that a status is to the shell
 abbrev pub code_of : Status → ℕ
@@ -50,7 +51,8 @@ pub record ReadsAll (reads : Last → List ℕ → Type 0) (bytes : List ℕ) (b
   pub run : reads AtEnd bytes
   pub counts : after.read_faults ≡ before.read_faults
 
--- these bytes were read for `show`: the first of the source, and all of them or, by the last read, more than a script has
+-- these bytes were read for `replay` and for `show`: the first of the source, and all of them or, by the last read, more than a
+-- script has
 pub record ReadsScript (reads : Last → List ℕ → Type 0) (bytes : List ℕ) (before after : Outside) : Type 0 where
   pub first : GivesFirst bytes before.left after.left
   pub enough : (HasEnded after.left × reads AtEnd bytes) ⊎ (PassesLimit bytes × reads NoRead bytes)
@@ -65,13 +67,14 @@ pub record ReadsNothing (reads : Last → List ℕ → Type 0) (before after : O
 
 -- no more was read than the command may read
 abbrev pub MayRead : Command → List ℕ → Type 0
-MayRead Ask bytes = length bytes ≤ line_most
+MayRead (Ask limit) bytes = length bytes ≤ line_most
+MayRead Replay bytes = IsBounded bytes
 MayRead (Show way) bytes = IsBounded bytes
 
 -- the words are a command's, and it read no more than it may, by reads behind which this stands
 abbrev pub ReadsSome : (reads : Last → List ℕ → Type 0) → List (List ℕ) → Last → Type 0
 ReadsSome reads words last =
-    (command : Command) × (words ≡ words_of command) × (bytes : List ℕ) × MayRead command bytes × reads last bytes
+    (command : Command) × Names words command × (bytes : List ℕ) × MayRead command bytes × reads last bytes
 
 -- nothing was put: no write was made
 pub record PutsNothing (writes : Bool → List ℕ → Type 0) (before after : Outside) : Type 0 where
@@ -85,55 +88,50 @@ pub record Puts (writes : Bool → List ℕ → Type 0) (text : List ℕ) (befor
   pub run : writes true text
   pub counts : after.write_faults ≡ before.write_faults
 
--- what is told of one ask of this message, answered with this response
-abbrev pub told_of : (message response sent taken : List ℕ) → Told
-told_of message response sent taken = record {
-  tickets = record { session = 0; limit = ask_limit; last = 1; message = message; bytes = response } ∷ [];
-  book = Asked 1 ∷ Settled 1 ∷ [];
-  log = exec_entry 1 message ∷ Took (length response) ∷ [];
-  up = sent;
-  down = taken;
-}
-
--- this text is the true report of asking these bytes: they are one line whose message the plain instrument answers from
--- power-on, message and response cross the link, and the report tells exactly these bytes
-pub record Answers (bytes text : List ℕ) : Type 0 where
+-- this text is the report of asking these bytes: they are one line, and its message was asked
+pub record Answers (limit : ℕ) (bytes text : List ℕ) : Type 0 where
   pub message : List ℕ
-  pub response : List ℕ
-  pub sent : List ℕ
-  pub taken : List ℕ
-  pub question : IsQuestion bytes message response
-  pub crossed : Crosses message response sent taken
-  pub reported : Reports (told_of message response sent taken) text
+  pub question : IsQuestion bytes message
+  pub asked : AskedOnce limit message text
+
+-- this text is the report of the script that these bytes are: its events were applied, all of them and no others
+pub record Replays (bytes text : List ℕ) : Type 0 where
+  pub script : Script
+  pub is : IsEventScript bytes script
+  pub replayed : Replayed script text
 
 -- the command makes this text of exactly these bytes
 abbrev pub Makes : Command → (bytes text : List ℕ) → Type 0
-Makes Ask bytes text = Answers bytes text
-Makes (Show way) bytes text = script.ShownOf way bytes text
+Makes (Ask limit) bytes text = Answers limit bytes text
+Makes Replay bytes text = Replays bytes text
+Makes (Show way) bytes text = showing.ShownOf way bytes text
 
 -- the command takes these bytes
 abbrev pub Takes : Command → List ℕ → Type 0
-Takes Ask bytes = (message : List ℕ) × (response : List ℕ) × IsQuestion bytes message response
-Takes (Show way) bytes = (text : List ℕ) × script.ShownOf way bytes text
+Takes (Ask limit) bytes = (message : List ℕ) × IsQuestion bytes message
+Takes Replay bytes = (script : Script) × IsEventScript bytes script
+Takes (Show way) bytes = (text : List ℕ) × showing.ShownOf way bytes text
 
 -- the command refuses these bytes: this line, counted from 1, for what is wrong with it
 abbrev pub Refuses : Command → List ℕ → (line : ℕ) → LineWhat → Type 0
-Refuses Ask bytes line what = IsRefused bytes line what
-Refuses (Show way) bytes line what = script.IsRefused way bytes line what
+Refuses (Ask limit) bytes line what = IsRefused bytes line what
+Refuses Replay bytes line what = IsRefusedEvent bytes line what
+Refuses (Show way) bytes line what = showing.IsRefused way bytes line what
 
 -- these bytes were read: the first of the source, and enough of them for the command to refuse them
 abbrev pub ReadsEnough : (reads : Last → List ℕ → Type 0) → Command → List ℕ → Outside → Outside → Type 0
-ReadsEnough reads Ask bytes before after = ReadsLine reads bytes before after
+ReadsEnough reads (Ask limit) bytes before after = ReadsLine reads bytes before after
+ReadsEnough reads Replay bytes before after = ReadsScript reads bytes before after
 ReadsEnough reads (Show way) bytes before after = ReadsScript reads bytes before after
 
 -- the text that is due with a status, by the words and by what was read
 abbrev pub Due : (reads : Last → List ℕ → Type 0) → List (List ℕ) → Outside → Outside → Status → List ℕ → Type 0
 Due reads words before after Printed text =
-    (command : Command) × (words ≡ words_of command)
+    (command : Command) × Names words command
     × (bytes : List ℕ) × ReadsAll reads bytes before after × Makes command bytes text
 Due reads words before after Usage text = (IsCommand words → ⊥) × ReadsNothing reads before after × (text ≡ codes "usage\n")
 Due reads words before after Refused text =
-    (command : Command) × (words ≡ words_of command)
+    (command : Command) × Names words command
     × (bytes : List ℕ) × (line : ℕ) × (what : LineWhat)
     × ReadsEnough reads command bytes before after × Refuses command bytes line what × (text ≡ refusal line what)
 Due reads words before after SourceFault text = ⊥
@@ -171,11 +169,10 @@ abbrev pub WritesNone : (writes : Bool → List ℕ → Type 0) → Status → O
 WritesNone writes result old_put old_faults new_put new_faults =
     (result ≡ NoMemory) × (new_put ≡ old_put) × (new_faults ≡ old_faults) × writes true []
 
--- the report of a message and its response was written, or a front of it, or memory was wanting
-abbrev pub PrintsReport : (writes : Bool → List ℕ → Type 0) → (message response : List ℕ) → Status → Option (List ℕ) → ℕ → Option (List ℕ) → ℕ → Type 0
-PrintsReport writes message response result old_put old_faults new_put new_faults =
-    ((text : List ℕ) × ((bytes : List ℕ) → IsQuestion bytes message response → Answers bytes text)
-    × Writes writes Printed text result old_put old_faults new_put new_faults)
+-- a text of this kind was written, or a front of it, or memory was wanting
+abbrev pub Prints : (writes : Bool → List ℕ → Type 0) → (Is : List ℕ → Type 0) → Status → Option (List ℕ) → ℕ → Option (List ℕ) → ℕ → Type 0
+Prints writes Is result old_put old_faults new_put new_faults =
+    ((text : List ℕ) × Is text × Writes writes Printed text result old_put old_faults new_put new_faults)
     ⊎ WritesNone writes result old_put old_faults new_put new_faults
 
 -- a refusal was written, or a front of it, or memory was wanting

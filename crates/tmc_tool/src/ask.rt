@@ -1,26 +1,66 @@
 //! The command `ask`.
 
-ghost use Rattle.std.specs.Prelude.{◌≡◌, IfOk, [], List, ℕ, string_bytes};
-ghost use Rattle.tmc_tool.specs.Line.{IsAsked, IsQuestion};
-ghost use Rattle.tmc_tool.specs.Tool.{Answers};
+ghost use Rattle.std.specs.Prelude.{IfOk};
+ghost use Rattle.tmc_world.specs.World.{IsBehind, begun};
+ghost use Rattle.tmc_tool.specs.Command.{IsLimit};
+ghost use Rattle.tmc_tool.specs.Line.{IsAsked};
+ghost use Rattle.tmc_tool.specs.Told.{AskedOnce, asked_once};
+ghost use Rattle.tmc_tool.specs.Going.{HasAsked, LedBy};
 
-use crate::exchange::exchange;
+use crate::replay::said;
 use crate::report::report;
+use event_text::Event;
 use std::alloc::Global;
-use tmc_base::Memory;
+use tmc_base::{Memory, Octets};
+use tmc_world::World;
 
-/// Takes a message and its response over the link, and reports it.
-pub(crate) fn ask(alloc: Global, message: &[u8], response: &[u8]) -> Result<String, Memory>
-    requires { IsAsked message.now response.now }
-    ensures { IfOk result (λ text. (bytes : List ℕ) → IsQuestion bytes message.now response.now → Answers bytes (string_bytes text)) }
+/// The session that asks, the number of the first message, and the depth of the hub.
+const SESSION: u8 = 0;
+
+const FIRST: u32 = 1;
+
+const DEPTH: u8 = 1;
+
+/// Asks a message of a fresh world, for at most `limit` bytes of its response, lets the world come to rest, and reports it.
+pub(crate) fn ask(alloc: Global, limit: u32, message: &[u8]) -> Result<Vec<u8>, Memory>
+    requires limit { IsLimit limit }
+    requires asked { IsAsked message.now }
+    ensures { IfOk result (λ text. AskedOnce limit message.now text.items) }
 {
-    let streams = exchange(alloc, message, response)?;
-    let text = report(
-        alloc,
-        message,
-        response,
-        streams.up.as_slice(),
-        streams.down.as_slice(),
-    )?;
-    Ok(text)
+    let mut world = World::new(alloc, FIRST, DEPTH)?;
+    ask_in(alloc, &mut world, limit, message)
+}
+
+/// Asks a message of a world at power-on, lets it come to rest, and reports it.
+fn ask_in(alloc: Global, world: &mut World, limit: u32, message: &[u8]) -> Result<Vec<u8>, Memory>
+    requires limit { IsLimit limit }
+    requires asked { IsAsked message.now }
+    ensures { IfOk result (λ text. IsBehind 1 1 begun world.old.hub → AskedOnce limit message.now text.items) }
+{
+    ask_and_rest(alloc, world, limit, message)?;
+    report(alloc, &[], world)
+}
+
+/// Asks a message of a world at power-on, and lets it come to rest.
+fn ask_and_rest(alloc: Global, world: &mut World, limit: u32, message: &[u8]) -> Result<(), Memory>
+    requires limit { IsLimit limit }
+    requires asked { IsAsked message.now }
+    ensures { IfOk result (λ _. IsBehind 1 1 begun world.old.hub → LedBy 1 1 begun (asked_once limit message.now) world.new.hub) }
+{
+    ask_of(alloc, world, limit, message)?;
+    said(world.apply(&Event::Rest))?;
+    Ok(())
+}
+
+/// Asks a message of a world.
+fn ask_of(alloc: Global, world: &mut World, limit: u32, message: &[u8]) -> Result<(), Memory>
+    ensures { IfOk result (λ _. HasAsked limit message.now world.old.hub world.new.hub) }
+{
+    let ask = Event::Ask {
+        session: SESSION,
+        limit,
+        message: Octets::from_slice(alloc, message)?,
+    };
+    said(world.apply(&ask))?;
+    Ok(())
 }

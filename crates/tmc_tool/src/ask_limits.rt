@@ -5,15 +5,15 @@ ghost use Rattle.std.specs.Prelude.{◌≡◌};
 /// The longest program message.
 pub const MESSAGE_MOST: usize = 4_096;
 
-/// The longest message that goes in one transfer.
-pub const TRANSFER_MOST: usize = 1_024;
-
-/// The longest response that is asked for.
+/// The longest response that is asked for where the words name no limit.
 pub const ASK_LIMIT: u32 = 4_000;
+
+/// The greatest limit that words may name.
+pub const LIMIT_MOST: u32 = 65_535;
 
 /// The limits by their numbers. The definitions cite a limit by its name.
 pub fn ask_limits_are_the_products()
     ensures message { MESSAGE_MOST ≡ 4096 }
-    ensures transfer { TRANSFER_MOST ≡ 1024 }
     ensures response { ASK_LIMIT ≡ 4000 }
+    ensures limit { LIMIT_MOST ≡ 65535 }
 {}

@@ -4,7 +4,7 @@ ghost use Rattle.std.specs.Prelude.{◌≡◌, ◌≤◌, MatchResult, IfOk, IfE
 ghost use Rattle.tmc_tool.specs.Line.{IsFirstLine, IsAsked, Responds, message_most};
 ghost use Rattle.tmc_tool.specs.Judged.{IsRefusal};
 
-use crate::ask_limits::{ASK_LIMIT, MESSAGE_MOST, TRANSFER_MOST};
+use crate::ask_limits::MESSAGE_MOST;
 use event_text::{LineFault, LineWhat, split_line};
 use instr_plain::Instrument;
 use std::alloc::Global;
@@ -23,11 +23,10 @@ pub(crate) fn first_line(bytes: &[u8]) -> (&[u8], &[u8])
     }
 }
 
-/// The response to a line's message from power-on, where the line is nothing but the message, and the message
-/// can be asked.
-pub(crate) fn answer(alloc: Global, message: &[u8], behind: &[u8]) -> Result<Vec<u8>, LineFault>
-    ensures asked { IfOk result (λ response. IsAsked message.now response.items) }
-    ensures alone { IfOk result (λ response. length behind.now ≡ 0) }
+/// Judges a line: it is nothing but the message, and the message can be asked.
+pub(crate) fn judge(alloc: Global, message: &[u8], behind: &[u8]) -> Result<(), LineFault>
+    ensures asked { IfOk result (λ _. IsAsked message.now) }
+    ensures alone { IfOk result (λ _. length behind.now ≡ 0) }
     ensures refused { IfErr result (IsRefusal message.now behind.now) }
 {
     if message.is_empty() {
@@ -36,20 +35,17 @@ pub(crate) fn answer(alloc: Global, message: &[u8], behind: &[u8]) -> Result<Vec
     if message.len() > MESSAGE_MOST {
         return refuse(1, LineWhat::LongMessage);
     }
-    if message.len() > TRANSFER_MOST {
-        return refuse(1, LineWhat::NotYet);
-    }
     let response = respond(alloc, message)?;
-    if response.is_empty() || response.len() > ASK_LIMIT as usize {
+    if response.is_empty() {
         return refuse(1, LineWhat::NotYet);
     }
     if !behind.is_empty() {
         return refuse(2, LineWhat::Words);
     }
-    Ok(response)
+    Ok(())
 }
 
-fn refuse(line: u32, what: LineWhat) -> Result<Vec<u8>, LineFault>
+fn refuse(line: u32, what: LineWhat) -> Result<(), LineFault>
     ensures { result ≡ Err (LineFault.At line what) }
 {
     Err(LineFault::At { line, what })

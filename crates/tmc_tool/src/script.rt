@@ -1,4 +1,4 @@
-//! The script that `show` reads.
+//! The bytes of a script, as `show` and `replay` read them.
 
 ghost use Rattle.std.specs.Prelude.{◌≡◌, ◌⊎◌, ◌∷◌, ◌++◌, [], length, true, false, List, ℕ, IfOk, Err};
 ghost use Rattle.std.specs.List.{AllByRecursion};
@@ -95,9 +95,9 @@ fn follow(piece: &[u8], place: Place) -> Place
     at.inside(rest.len() as u64)
 }
 
-/// Reads a script until its source ends, or until a read passes a limit of a script. No read stands behind one that ended
-/// or failed.
-pub(crate) fn read_script<S: Source>(alloc: Global, source: &mut S) -> Result<Vec<u8>, ReadFault>
+/// Reads the bytes of a script until its source ends, or until a read passes a limit of a script. No read stands behind one
+/// that ended or failed.
+pub(crate) fn read_bytes<S: Source>(alloc: Global, source: &mut S) -> Result<Vec<u8>, ReadFault>
     ensures first { IfOk result (λ bytes. GivesFirst bytes.items (S.left source.old) (S.left source.new)) }
     ensures enough { IfOk result (λ bytes. (HasEnded (S.left source.new) × ReadRun S.reads source.old source.new AtEnd bytes.items)
         ⊎ (PassesLimit bytes.items × ReadRun S.reads source.old source.new NoRead bytes.items)) }

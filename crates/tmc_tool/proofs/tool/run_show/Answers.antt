@@ -18,52 +18,52 @@ printed_shown way script source printed new old text same shown empty appended r
     subst (λ t. ShownOf way script t) (sym whole) (subst (λ s. ShownOf way s text) same shown)
 
 pub returns-in-Err-Failed : goal.returns-in-Err-Failed
-returns-in-Err-Failed g c =
+returns-in-Err-Failed g c = λ words names.
     let some = c.in-Err-Failed.ensures.failed_run (ap (λ fault. Err fault) c.in-Err-Failed.field-0-is) in (
-      (Show c.args.way, refl, some.0, some.1, some.2),
+      (Show c.args.way, names, some.0, some.1, some.2),
       c.in-Err-Failed.ensures.failed (ap (λ fault. Err fault) c.in-Err-Failed.field-0-is),
       record { put = refl; run = none; counts = refl },
     )
 
 pub returns-in-Err-Memory : goal.returns-in-Err-Memory
-returns-in-Err-Memory g c =
+returns-in-Err-Memory g c = λ words names.
     let some = c.in-Err-Memory.ensures.memory_run (ap (λ fault. Err fault) c.in-Err-Memory.field-0-is) in (
-      inl (Show c.args.way, refl, some.0, some.1, some.2),
+      inl (Show c.args.way, names, some.0, some.1, some.2),
       c.in-Err-Memory.ensures.memory (ap (λ fault. Err fault) c.in-Err-Memory.field-0-is),
       record { put = refl; run = none; counts = refl },
     )
 
 -- memory was wanting for what is shown
 pub returns : goal.returns
-returns g c =
+returns g c = λ words names.
     let before : Outside = record { left = g.S.Source.left c.args.source.now; read_faults = g.S.Source.faults c.args.source.now; put = g.K.Sink.put c.args.sink.now; write_faults = g.K.Sink.faults c.args.sink.now } in
-    let after : Outside = record { left = g.S.Source.left c.read_script.new.source; read_faults = g.S.Source.faults c.read_script.new.source; put = g.K.Sink.put c.args.sink.now; write_faults = g.K.Sink.faults c.args.sink.now } in
-    let read : ReadsScript (ReadRun g.S.Source.reads c.args.source.now c.read_script.new.source) c.in-Ok.script.items before after =
+    let after : Outside = record { left = g.S.Source.left c.read_bytes.new.source; read_faults = g.S.Source.faults c.read_bytes.new.source; put = g.K.Sink.put c.args.sink.now; write_faults = g.K.Sink.faults c.args.sink.now } in
+    let read : ReadsScript (ReadRun g.S.Source.reads c.args.source.now c.read_bytes.new.source) c.in-Ok.script.items before after =
     record { first = c.in-Ok.ensures.first; enough = c.in-Ok.ensures.enough; bounded = c.in-Ok.ensures.bounded; counts = c.in-Ok.ensures.ok_counts } in
-    (some_read _ (Show c.args.way) before after _ read, c.in-Ok.ensures.ok_counts, record { put = refl; run = none; counts = refl })
+    (some_read _ words (Show c.args.way) before after _ names read, c.in-Ok.ensures.ok_counts, record { put = refl; run = none; counts = refl })
 
 pub returns-in-Ok-put_shown : goal.returns-in-Ok-put_shown
-returns-in-Ok-put_shown g c =
+returns-in-Ok-put_shown g c = λ words names.
     let before : Outside = record { left = g.S.Source.left c.args.source.now; read_faults = g.S.Source.faults c.args.source.now; put = g.K.Sink.put c.args.sink.now; write_faults = g.K.Sink.faults c.args.sink.now } in
-    let after : Outside = record { left = g.S.Source.left c.read_script.new.source; read_faults = g.S.Source.faults c.read_script.new.source; put = g.K.Sink.put c.print.new.sink; write_faults = g.K.Sink.faults c.print.new.sink } in
+    let after : Outside = record { left = g.S.Source.left c.read_bytes.new.source; read_faults = g.S.Source.faults c.read_bytes.new.source; put = g.K.Sink.put c.print.new.sink; write_faults = g.K.Sink.faults c.print.new.sink } in
     let shown = c.in-Ok-put_shown.ensures.shown in
     let made : ShownOf c.args.way c.in-Ok.script.items c.deref-in-Ok-put_shown.result.now =
     printed_shown c.args.way c.in-Ok.script.items c.deref.result.now c.deref-in-Ok-put_shown.result.now c.put_shown.new.out.items c.new-text.result.items shown.0
     c.deref.ensures.value shown.1 c.new-text.ensures.items shown.2 c.deref-in-Ok-put_shown.ensures.value in
-    let ended : HasEnded after.left × ReadRun g.S.Source.reads c.args.source.now c.read_script.new.source AtEnd c.in-Ok.script.items =
+    let ended : HasEnded after.left × ReadRun g.S.Source.reads c.args.source.now c.read_bytes.new.source AtEnd c.in-Ok.script.items =
     ⊎_elim (λ ended. ended) (λ passed. absurd (passed.0 (shown_keeps c.args.way _ _ made))) c.in-Ok.ensures.enough in
-    let read : ReadsAll (ReadRun g.S.Source.reads c.args.source.now c.read_script.new.source) c.in-Ok.script.items before after =
+    let read : ReadsAll (ReadRun g.S.Source.reads c.args.source.now c.read_bytes.new.source) c.in-Ok.script.items before after =
     record { first = c.in-Ok.ensures.first; ended = ended.0; run = ended.1; counts = c.in-Ok.ensures.ok_counts } in
-    made_ends _ (WriteRun g.K.Sink.writes c.args.sink.now c.print.new.sink) (Show c.args.way) before after _ _ _ read made c.print.ensures
+    made_ends _ (WriteRun g.K.Sink.writes c.args.sink.now c.print.new.sink) words (Show c.args.way) before after _ _ _ names read made c.print.ensures
 
 pub returns-in-Err-At : goal.returns-in-Err-At
-returns-in-Err-At g c =
+returns-in-Err-At g c = λ words names.
     let before : Outside = record { left = g.S.Source.left c.args.source.now; read_faults = g.S.Source.faults c.args.source.now; put = g.K.Sink.put c.args.sink.now; write_faults = g.K.Sink.faults c.args.sink.now } in
-    let after : Outside = record { left = g.S.Source.left c.read_script.new.source; read_faults = g.S.Source.faults c.read_script.new.source; put = g.K.Sink.put c.print_refusal.new.sink; write_faults = g.K.Sink.faults c.print_refusal.new.sink } in
-    let read : ReadsScript (ReadRun g.S.Source.reads c.args.source.now c.read_script.new.source) c.in-Ok.script.items before after =
+    let after : Outside = record { left = g.S.Source.left c.read_bytes.new.source; read_faults = g.S.Source.faults c.read_bytes.new.source; put = g.K.Sink.put c.print_refusal.new.sink; write_faults = g.K.Sink.faults c.print_refusal.new.sink } in
+    let read : ReadsScript (ReadRun g.S.Source.reads c.args.source.now c.read_bytes.new.source) c.in-Ok.script.items before after =
     record { first = c.in-Ok.ensures.first; enough = c.in-Ok.ensures.enough; bounded = c.in-Ok.ensures.bounded; counts = c.in-Ok.ensures.ok_counts } in
     let fault : IsRefused c.args.way c.deref.result.now c.in-Err-At.line c.in-Err-At.what =
     subst (λ fault. IsFaultOf c.args.way c.deref.result.now fault) c.in-Err-At.field-0-is c.in-Err-At.ensures.refused in
     let refused : IsRefused c.args.way c.in-Ok.script.items c.in-Err-At.line c.in-Err-At.what =
     subst (λ source. IsRefused c.args.way source c.in-Err-At.line c.in-Err-At.what) c.deref.ensures.value fault in
-    refused_ends _ (WriteRun g.K.Sink.writes c.args.sink.now c.print_refusal.new.sink) (Show c.args.way) before after _ c.in-Err-At.line c.in-Err-At.what _ read read.counts refused (rw (c.in-Err-At.line-is, c.in-Err-At.what-is) at c.print_refusal.ensures)
+    refused_ends _ (WriteRun g.K.Sink.writes c.args.sink.now c.print_refusal.new.sink) words (Show c.args.way) before after _ c.in-Err-At.line c.in-Err-At.what _ names read read.counts refused (rw (c.in-Err-At.line-is, c.in-Err-At.what-is) at c.print_refusal.ensures)

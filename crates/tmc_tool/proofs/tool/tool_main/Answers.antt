@@ -16,12 +16,12 @@ returns-clause-usage g c = λ others calm_sink.
 
 pub returns-clause-refused : goal.returns-clause-refused
 returns-clause-refused g c = λ command named calm_source calm_sink bytes line what told refused.
-    let laws : Laws = record { one = one_answer c.one_response.ensures; either = c.scripts_are_determined.ensures.either } in
+    let laws : Laws = record { one = one_answer c.one_response.ensures; shown = c.scripts_are_determined.ensures.either; replayed = c.event_scripts_are_determined.ensures.either } in
     subst (λ code. (code ≡ 2) ⊎ (code ≡ 5)) (sym c.code.ensures)
     (ends_refused laws _ _ _ command _ _ _ bytes line what c.run.ensures named told refused calm_source calm_sink)
 
 pub returns-clause-printed : goal.returns-clause-printed
 returns-clause-printed g c = λ command named calm_source calm_sink bytes told takes.
-    let laws : Laws = record { one = one_answer c.one_response.ensures; either = c.scripts_are_determined.ensures.either } in
+    let laws : Laws = record { one = one_answer c.one_response.ensures; shown = c.scripts_are_determined.ensures.either; replayed = c.event_scripts_are_determined.ensures.either } in
     subst (λ code. (code ≡ 0) ⊎ (code ≡ 5)) (sym c.code.ensures)
     (ends_printed laws _ _ _ command _ _ _ bytes c.run.ensures named told takes calm_source calm_sink)

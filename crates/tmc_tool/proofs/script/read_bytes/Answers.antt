@@ -4,7 +4,7 @@ use Rattle.tmc_tool.specs.declared.script.Place.TheVariants.{Within}
 use Rattle.tmc_tool.specs.Script.{IsBounded, Stands}
 use Rattle.tmc_tool.proofs.Limits.{at_start, none_bounded}
 use Rattle.tmc_tool.proofs.Runs.{gave_more, gives_more}
-use Rattle.tmc_tool.proofs.script.read_script.Goals as goal
+use Rattle.tmc_tool.proofs.script.read_bytes.Goals as goal
 
 pub pieces-init : goal.pieces-init
 pieces-init g c = record {

@@ -2,7 +2,7 @@ use Rattle.std.proofs.Common.{◌≡◌, ◌^◌, ◌-◌, length}
 use Rattle.tmc_base.specs.Source.{GivesFirst}
 use Rattle.tmc_base.specs.Reading.{Gave}
 use Rattle.tmc_tool.specs.Script.{IsBounded, Stands}
-use Rattle.tmc_tool.proofs.script.read_script.Given as goal
+use Rattle.tmc_tool.proofs.script.read_bytes.Given as goal
 
 abbrev pub invariant-pieces : goal.invariant-pieces
 invariant-pieces g l = record {

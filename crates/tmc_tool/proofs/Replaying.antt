@@ -1,0 +1,25 @@
+-- the events of a script in a fresh world
+use Rattle.std.proofs.Common.{ℕ, List, map, Option, sym, subst, ◌≡◌}
+use Rattle.host_hub.specs.Behind.{HubParts}
+use Rattle.event_text.specs.declared.answer.EventAnswer.{EventAnswer}
+use Rattle.event_text.specs.declared.event.Script.{Script}
+use Rattle.event_text.specs.EventScript.{MayBegin}
+use Rattle.tmc_world.specs.LoopLink.{Looped}
+use Rattle.tmc_world.specs.World.{Worldly, IsBehind, begun}
+use Rattle.tmc_world.specs.WorldSteps.{Answered}
+use Rattle.tmc_tool.specs.Told.{Replayed, Tells}
+use Rattle.tmc_tool.specs.Going.{Went}
+
+pub replayed_so : (script : Script) (answers : List (Option EventAnswer)) (hub : HubParts Looped) (text : List ℕ)
+    → MayBegin script.first script.depth → Went script.first script.depth begun script.events answers hub
+    → ((now : Worldly) → IsBehind script.first script.depth now hub → Tells script.first script.depth now answers text) → Replayed script text
+replayed_so script answers hub text begins went tells = record {
+  run = went.run;
+  events = went.done;
+  reported = record {
+    begins = begins;
+    world = went.new;
+    goes = went.goes;
+    tells = subst (λ (xs : List (Option EventAnswer)). Tells script.first script.depth went.new xs text) (sym went.said) (tells went.new went.behind);
+  };
+}

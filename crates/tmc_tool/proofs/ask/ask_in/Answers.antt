@@ -1,0 +1,8 @@
+use Rattle.std.proofs.lemmas.Result.{IfOk-weaker}
+use Rattle.tmc_tool.proofs.Asking.{reported_so}
+use Rattle.tmc_tool.proofs.ask.ask_in.Goals as goal
+
+pub returns : goal.returns
+returns c =
+    IfOk-weaker c.report.result _ _
+    (λ text tells behind. reported_so c.args.limit c.args.message.now _ text.items (c.in_ok-ask_and_rest.ensures behind) (tells 1 1)) c.report.ensures
