@@ -211,9 +211,10 @@ impl Exchange {
         ends
     }
 
-    /// Bulk-OUT halts, which drops the unfinished message.
+    /// Bulk-OUT halts, which drops the unfinished message and what has come of its next part.
     pub fn drop_part(&mut self)
         ensures halts { (s : State) → Holds s self.old.held → Holds (halts BulkOut s) self.new.held }
+        ensures coming { self.new.coming ≡ [] }
         ensures room { self.new.room ≡ self.old.room }
     {
         if self.ended_by.is_none() {
@@ -222,10 +223,11 @@ impl Exchange {
         }
     }
 
-    /// A clear drops the unfinished message, the one that waits and the unread output.
+    /// A clear drops the unfinished message with what has come of its next part, the one that waits and the unread output.
     pub fn clear(&mut self)
         requires { 0 < self.old.room }
         ensures clears { (s : State) → Holds s self.old.held → Logs entry.Clear (cleared s) (led_to (cleared s) self.new.held) }
+        ensures coming { self.new.coming ≡ [] }
         ensures room { self.new.room + 1 ≡ self.old.room }
     {
         self.message.clear();

@@ -57,7 +57,14 @@ fn gather(exchange: &mut Exchange, transfer: &mut OutTransfer, header: OutHeader
 
 /// The data of a whole transfer are a part of a message: what came of it, or where none is in progress, what the first
 /// Bulk-OUT submit holds.
-fn accept_data(exchange: &mut Exchange, transfer: &OutTransfer, pipes: &Pipes, seqnum: u32, size: usize, eom: bool)
+fn accept_data(
+    exchange: &mut Exchange,
+    transfer: &OutTransfer,
+    pipes: &Pipes,
+    seqnum: u32,
+    size: usize,
+    eom: bool,
+)
     requires room { 0 < exchange.old.room }
     requires none_waits { exchange.old.held.waiting ≡ None }
     requires some { 0 < size }

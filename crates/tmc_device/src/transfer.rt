@@ -21,7 +21,6 @@ pub(crate) struct OutTransfer {
 
 impl Model for OutTransfer {
     ghost use Rattle.std.specs.Prelude.{Option};
-
     ghost use Rattle.tmc_device.specs.Parts.{Opening, opening_of};
 
     ghost Value = { Option Opening };

@@ -1,4 +1,4 @@
-use Rattle.std.proofs.Common.{◌∙◌, List, take, ap, sym, subst}
+use Rattle.std.proofs.Common.{◌∙◌, List, take, ap, sym, subst, arith}
 use Rattle.tmc_wire.specs.Standard.{header_size}
 use Rattle.tmc_wire.specs.Header.{IsOutHeader}
 use Rattle.tmc_law.specs.State.{Pending}
@@ -8,6 +8,11 @@ use Rattle.tmc_device.specs.Parts.{transfer_of}
 use Rattle.tmc_device.specs.Body.{state_of}
 use Rattle.tmc_device.proofs.Judging.{own_transfer, none_taken, judged_on, judged_begun}
 use Rattle.tmc_device.proofs.body.Body.judge.Goals as goal
+
+pub accept-requires : goal.accept-requires
+accept-requires c =
+    let same = own_transfer c.args.self.now.transfer c.args.self.now.exchange.coming c.in-Some.header (sym c.header.ensures.header ∙ c.in-Some.is) in
+    let wants = (c.requires.sound.order.wanting _ same).1 in omega (arith, wants)
 
 pub returns-in-Some : goal.returns-in-Some
 returns-in-Some c submit behind stood value =
