@@ -21,6 +21,7 @@ pub mod Texts
 pub mod EventsDetermined
 pub mod EventProgress
 pub mod EventAnswered
+pub mod Begins
 pub mod Decoding
 pub mod Spelled
 pub mod Numbered

@@ -1,5 +1,6 @@
 -- the script of events that a text is, and which line of a text is refused
-use Rattle.std.specs.Prelude.{◌≡◌, ⊤, ℕ, ◌+◌, Ok, Err, List, [], ◌∷◌, ◌++◌, length}
+use Rattle.std.specs.Prelude.{◌≡◌, ⊤, ℕ, ◌+◌, ◌≤◌, Ok, Err, List, [], ◌∷◌, ◌++◌, length}
+use Rattle.host_hub.specs.declared.limits.TheConstants.{MAX_DEPTH}
 use Rattle.event_text.specs.declared.event.Event.{Event}
 use Rattle.event_text.specs.declared.event.Script.{Script}
 use Rattle.event_text.specs.declared.event_line.Place.{Place}
@@ -53,6 +54,12 @@ pub record IsEventScript (source : List ℕ) (script : Script) : Type 0 where
   pub said : List Said
   pub says : SayInTurn Start 1 (lines_of source) said
   pub made : script ≡ script_of said
+
+-- a hub may begin with this first number and this depth
+pub record MayBegin (first depth : ℕ) : Type 0 where
+  pub number : 1 ≤ first
+  pub some : 1 ≤ depth
+  pub most : depth ≤ MAX_DEPTH
 
 -- this line, counted from 1, is the first that is refused, with its first fault
 pub record IsRefusedEvent (source : List ℕ) (number : ℕ) (what : LineWhat) : Type 0 where

@@ -4,7 +4,7 @@ ghost use Rattle.std.specs.Prelude.{◌≡◌, ◌⊎◌, ℕ, IfOk, IfErr, Ok, 
 ghost use Rattle.event_text.specs.declared.event.Script.{Script};
 ghost use Rattle.event_text.specs.declared.line_fault.LineFault.TheVariants.{At, Memory};
 ghost use Rattle.event_text.specs.declared.line_fault.LineWhat.{LineWhat};
-ghost use Rattle.event_text.specs.EventScript.{IsEventScript, IsRefusedEvent, IsEventFault};
+ghost use Rattle.event_text.specs.EventScript.{IsEventScript, IsRefusedEvent, IsEventFault, MayBegin};
 ghost use Rattle.event_text.specs.Read.{LineTaken};
 
 use crate::event::{Events, Script};
@@ -16,9 +16,10 @@ use std::alloc::Global;
 
 /// Reads a script of events: `first N` and `depth N`, which may stand before the events, each once and in this order,
 /// and then a line an event. Where `first` or `depth` is left out it is 1. Lines end with NL, which the last may lack;
-/// lines are counted from 1. The first line that is wrong is named with its first fault.
+/// lines are counted from 1. The first line that is wrong is named with its first fault. A hub may begin as a script says.
 pub fn read_script(alloc: Global, source: &[u8]) -> Result<Script, LineFault>
     ensures read { IfOk result (IsEventScript source.now) }
+    ensures begins { IfOk result (λ script. MayBegin script.first script.depth) }
     ensures refused { IfErr result (IsEventFault source.now) }
     ensures all_read { (script : Script) → IsEventScript source.now script → (result ≡ Ok script) ⊎ (result ≡ Err Memory) }
     ensures all_refused { (number : ℕ) (what : LineWhat) → IsRefusedEvent source.now number what
