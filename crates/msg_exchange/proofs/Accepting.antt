@@ -1,15 +1,14 @@
 -- parts of a message take effect
-use Rattle.std.proofs.Common.{◌≡◌, ◌∙◌, ℕ, ◌+◌, Bool, true, false, List, [], ◌++◌, take, drop, Option, Some, None, refl, ap, sym, subst, length, arith}
+use Rattle.std.proofs.Common.{◌≡◌, ◌∙◌, ℕ, ◌+◌, Bool, true, false, List, [], ◌++◌, take, drop, Option, Some, None, ap, arith}
 use Rattle.std.proofs.Math.Seq.{take-add}
 use Rattle.std.proofs.lemmas.List.{length-take, take_all}
-use Rattle.tmc_wire.specs.declared.header.OutHeader.{OutHeader}
 use Rattle.tmc_wire.specs.declared.header.OutHeader.TheVariants.{Message}
 use Rattle.tmc_wire.specs.Transfer.{OutText}
 use Rattle.instr_plain.specs.declared.log.LogEntry.{LogEntry}
 use Rattle.instr_plain.specs.Standing.{Standing}
-use Rattle.tmc_law.specs.State.{State, Transfer, Waiting}
+use Rattle.tmc_law.specs.State.{State, Transfer}
 use Rattle.tmc_law.specs.BulkOut.{Interrupts, TakesEffect, Part, Last}
-use Rattle.msg_exchange.specs.Held.{Held, Kept, Holds, led_to}
+use Rattle.msg_exchange.specs.Held.{Held, led_to}
 use Rattle.msg_exchange.specs.Parts.{part_of, waiting_of, coming_of}
 
 -- the part that is held, and the message that waits

@@ -4,7 +4,7 @@ use Rattle.instr_plain.specs.declared.log.LogEntry.{LogEntry}
 use Rattle.instr_plain.specs.declared.log.LogEntry.TheVariants as entry
 use Rattle.instr_plain.specs.Standing.{Standing}
 use Rattle.instr_plain.specs.Log.{After}
-use Rattle.tmc_law.specs.State.{State, Waiting}
+use Rattle.tmc_law.specs.State.{State}
 use Rattle.tmc_law.specs.BulkOut.{Executes, DoesExecute}
 use Rattle.msg_exchange.specs.Held.{Held, Holds, led_to}
 use Rattle.msg_exchange.proofs.Accepting.{kept}

@@ -1,5 +1,4 @@
 use Rattle.std.proofs.Common.{◌∙◌, ap, sym, subst, take}
-use Rattle.tmc_law.specs.State.{State}
 use Rattle.tmc_law.specs.BulkOut.{Interrupts}
 use Rattle.tmc_wire.specs.Transfer.{OutText}
 use Rattle.msg_exchange.specs.Held.{Kept, led_to}
