@@ -19,6 +19,6 @@ returns-in-None c s whole tag most holds header text =
     let none = none_taken c.args.transfer.now (sym c.header.ensures.header ∙ c.in-None.is) in
     let queue = c.args.pipes.now.bulk_out in
     let part = ap (λ (o : Option Opening). take c.args.size (drop 12 (bytes_of (transfer_of o c.args.exchange.now.coming) queue))) none
-        ∙ sym (part_of (left_of queue) c.args.size (12 + c.args.size) refl)
-        ∙ sym (ap (λ (l : List ℕ). slice_range l 12 (12 + c.args.size)) c.rest_out.ensures) in
+    ∙ sym (part_of (left_of queue) c.args.size (12 + c.args.size) refl)
+    ∙ sym (ap (λ (l : List ℕ). slice_range l 12 (12 + c.args.size)) c.rest_out.ensures) in
     c.accept_part.ensures.takes_effect s whole tag most holds header (subst (λ (l : List ℕ). OutText whole.header l whole.taken) part text)
