@@ -14,9 +14,11 @@ pub record Held : Type 0 where
   pub log : List LogEntry
   pub standing : Standing
 
--- an exchange, as contracts see it: beside that the log entries that there is room for
+-- an exchange, as contracts see it: beside that what has come of the transfer of the next part, behind its header, and how
+-- many log entries there is room for
 pub record Kept : Type 0 where
   pub held : Held
+  pub coming : List ℕ
   pub room : ℕ
 
 -- at power-on

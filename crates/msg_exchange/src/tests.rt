@@ -22,6 +22,17 @@ fn accept(
     Ok(())
 }
 
+/// More of a part comes, where it may.
+fn extend(rt: &impl Abort, exchange: &mut Exchange, bytes: &[u8]) -> Result<(), Fail> {
+    assert!(rt; !exchange.waits());
+    assert!(rt; exchange.part().len() <= 4_096);
+    assert!(rt; exchange.coming().len() <= 4_096);
+    assert!(rt; bytes.len() <= 4_096);
+    assert!(rt; exchange.part().len() + exchange.coming().len() + bytes.len() <= 4_099);
+    exchange.extend_part(bytes);
+    Ok(())
+}
+
 /// A whole message comes and is executed.
 fn execute(rt: &impl Abort, exchange: &mut Exchange, seq: u32, message: &[u8]) -> Result<(), Fail> {
     accept(rt, exchange, seq, message, true)?;
@@ -84,6 +95,28 @@ fn a_message_comes_in_two_parts(rt: HostRuntime) -> Result<(), Fail> {
     } else {
         assert!(rt; false, "the log has another entry");
     }
+    Ok(())
+}
+
+#[test]
+fn a_part_comes_by_and_by(rt: HostRuntime) -> Result<(), Fail> {
+    let mut exchange = Exchange::new(rt.alloc())?;
+    accept(&rt, &mut exchange, 1, b"CONF 4;", false)?;
+    extend(&rt, &mut exchange, b"of another")?;
+    exchange.begin_part();
+    extend(&rt, &mut exchange, b"CONF")?;
+    assert_eq!(rt; exchange.part(), b"CONF 4;".as_slice());
+    extend(&rt, &mut exchange, b"?\0\0\0")?;
+    assert_eq!(rt; exchange.coming(), b"CONF?\0\0\0".as_slice());
+    assert!(rt; !exchange.waits());
+    assert!(rt; exchange.coming().len() >= 5);
+    assert!(rt; exchange.part().len() + 5 <= 4_096);
+    exchange.reserve()?;
+    exchange.end_part(2, 5, true);
+    assert!(rt; exchange.coming().is_empty());
+    assert!(rt; exchange.waits());
+    exchange.run()?;
+    assert_eq!(rt; exchange.unread(), b"4\n".as_slice());
     Ok(())
 }
 

@@ -17,13 +17,13 @@ pub begins : (body : Body) (tag count size : ℕ) (x : Kept) (packets : List Pac
     → body.side ≡ Owed tag size → NoAbortIn (running_of body.running) → 0 < count → count ≤ size → count ≤ length (unread (state_of body))
     → side ≡ Sending (record { tag = tag; size = count; left = bytes }) → bytes ≡ piece_bytes tag count (unread (state_of body))
     → ((s : State) → Holds s body.exchange.held → Logs (entry.Took count) s (led_to s x.held))
-    → packets ≡ with_service body.exchange.held.standing x.held.standing body.packets
+    → x.coming ≡ body.exchange.coming → packets ≡ with_service body.exchange.held.standing x.held.standing body.packets
     → Begins (state_of body) count (state_of (record body { exchange = x; side = side; packets = packets }))
-begins body tag count size x packets side bytes owed none some less there sends is took noticed =
+begins body tag count size x packets side bytes owed none some less there sends is took came noticed =
     DoesBegin tag size owed none some (omega (arith, less, there))
     (subst (λ (v : Side). Logs (entry.Took count) (record (state_of body) { side = v }) (state_of (record body { exchange = x; side = side; packets = packets })))
     (sends ∙ ap (λ (l : List ℕ). Sending (record { tag = tag; size = count; left = l })) is)
-    (logs_is (entry.Took count) (record body { side = side }) x packets
+    (logs_is (entry.Took count) (record body { side = side }) x packets came
     (took (record (state_of body) { side = side }) (record { part = refl; waiting = refl; log = refl; standing = refl })) noticed))
 
 zeros_of : (n : ℕ) → n < 4 → take {A = ℕ} n (0 ∷ 0 ∷ 0 ∷ []) ≡ replicate n 0

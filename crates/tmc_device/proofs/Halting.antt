@@ -1,19 +1,22 @@
 -- an endpoint halts
 use Rattle.std.proofs.Common.{◌≡◌, ◌∙◌, ℕ, ℤ, zero, suc, ◌<◌, true, List, [], ◌∷◌, map, Option, None, refl, ap, arith}
 use Rattle.tmc_law.specs.Endpoint.{Endpoint, Control, BulkOut, BulkIn, InterruptIn}
-use Rattle.tmc_law.specs.State.{State, Pending, Transfer, queue_of, with_queue, with_halt}
+use Rattle.tmc_law.specs.State.{State, Pending, queue_of, with_queue, with_halt}
 use Rattle.tmc_law.specs.Put.{Put, ended, answer_of}
 use Rattle.tmc_law.specs.Halts.{all_ended, without_transfer, halts}
 use Rattle.tmc_law.specs.Reached.{AreFresh, FirstBegins}
 use Rattle.msg_exchange.specs.Held.{Kept, Holds}
 use Rattle.endpoint_pipes.specs.Held as pipes
 use Rattle.tmc_device.specs.declared.body.Body.{Body}
+use Rattle.tmc_device.specs.Parts.{Opening}
 use Rattle.tmc_device.specs.Body.{state_of}
 
 -- a halt of Bulk-OUT drops the transfer and the unfinished message
-pub dropped : (body : Body) (x : Kept) (t : Option Transfer) → t ≡ None → Holds (halts BulkOut (state_of body)) x.held
+pub dropped : (body : Body) (x : Kept) (t : Option Opening) → t ≡ None → Holds (halts BulkOut (state_of body)) x.held
     → state_of (record body { exchange = x; transfer = t }) ≡ without_transfer BulkOut (state_of body)
-dropped body x t none holds = let part = holds.part in let waiting = holds.waiting in let log = holds.log in let standing = holds.standing in cc
+dropped body x t none holds =
+    ap (λ (o : Option Opening). state_of (record body { exchange = x; transfer = o })) none
+    ∙ (let part = holds.part in let waiting = holds.waiting in let log = holds.log in let standing = holds.standing in cc)
 
 -- the queue of an endpoint that is not the control endpoint is emptied, and the endpoint marked
 pub emptied : (body : Body) (e : Endpoint) → (e ≡ Control → ⊥) → (p : pipes.Held) → p ≡ pipes.with_mark e true (pipes.with_list e [] body.pipes)

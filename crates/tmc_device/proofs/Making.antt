@@ -1,5 +1,5 @@
 -- what makes a step
-use Rattle.std.proofs.Common.{◌≡◌, ◌∙◌, ℤ, Bool, true, false, List, [], ◌∷◌, ◌++◌, map, Result, Ok, Err, OnOk, is_err, refl, ap, sym, subst, append-nil}
+use Rattle.std.proofs.Common.{◌≡◌, ◌∙◌, ℕ, ℤ, Bool, true, false, List, [], ◌∷◌, ◌++◌, map, Result, Ok, Err, OnOk, is_err, refl, ap, sym, subst, append-nil}
 use Rattle.tmc_law.specs.Endpoint.{Endpoint, Control, BulkOut, BulkIn, InterruptIn}
 use Rattle.tmc_law.specs.State.{Pending, Packet, Plugged, queue_of}
 use Rattle.tmc_law.specs.Put.{Put, ended}
@@ -11,7 +11,7 @@ use Rattle.msg_exchange.specs.Held.{Kept, Holds, led_to}
 use Rattle.endpoint_pipes.specs.Held.{list_of}
 use Rattle.endpoint_pipes.specs.Part.{queue_from}
 use Rattle.tmc_device.specs.declared.body.Body.{Body}
-use Rattle.tmc_device.specs.Parts.{presence_of}
+use Rattle.tmc_device.specs.Parts.{presence_of, transfer_of}
 use Rattle.tmc_device.specs.Seen.{Seen, Makes}
 use Rattle.tmc_device.specs.Body.{state_of}
 use Rattle.tmc_device.proofs.Halting.{each_ended}
@@ -35,9 +35,11 @@ pub own : (body : Body) → Holds (state_of body) body.exchange.held
 own body = record { part = refl; waiting = refl; log = refl; standing = refl }
 
 -- behind a logged entry, where RQS was noticed
-pub logged : (body : Body) (x : Kept) (packets : List Packet) → packets ≡ with_service body.exchange.held.standing x.held.standing body.packets
+pub logged : (body : Body) (x : Kept) (packets : List Packet) → x.coming ≡ body.exchange.coming → packets ≡ with_service body.exchange.held.standing x.held.standing body.packets
     → state_of (record body { exchange = x; packets = packets }) ≡ led_to (state_of body) x.held
-logged body x packets noticed = ap (λ (l : List Packet). state_of (record body { exchange = x; packets = l })) noticed
+logged body x packets came noticed =
+    ap (λ (l : List Packet). state_of (record body { exchange = x; packets = l })) noticed
+    ∙ ap (λ (l : List ℕ). record (led_to (state_of body) x.held) { transfer = transfer_of body.transfer l }) came
 
 begins_from : (polled : Bool) (list : List Pending) → FirstBegins (queue_from Control polled list) → FirstBegins list
 begins_from true [] h = tt

@@ -32,6 +32,7 @@ use Rattle.tmc_law.specs.Standard.{Standard, ClearHalt, SetConfiguration, SetInt
 use Rattle.tmc_law.specs.Step.{Move, Comes, Refuses, Take, Exec, Begin, Fill, Answer, Pend, Poll, Notify, Halt, Unplug, Leads}
 use Rattle.tmc_law.specs.Run.{Entry, Runs}
 use Rattle.tmc_device.specs.Sound.{IsRequested}
+use Rattle.tmc_device.proofs.Wanting.{twelve}
 
 -- a Bulk-OUT transfer in progress, behind this unfinished message
 pub record UnderWay (part : List ℕ) (transfer : Transfer) : Type 0 where
@@ -141,12 +142,6 @@ polls seq tag s t low own (status.DoesPoll mid logs is) =
     to _ t is (record { under_way = before.under_way; tagged = all-append mid.packets (StatusPacket tag (polled_byte s.standing) ∷ []) before.tagged (low, tt); asked = before.asked })
 
 -- ---- a transfer that grows
-
--- a header has twelve bytes
-twelve : (header : OutHeader) (bytes : List ℕ) → IsOutHeader header bytes → length bytes ≡ header_size
-twelve (Message tag size eom) bytes is = ap (λ (l : List ℕ). length l) is.layout
-twelve (Request tag size) bytes is = ap (λ (l : List ℕ). length l) is.layout
-twelve (Trigger tag) bytes is = omega (arith, ap (λ (l : List ℕ). length l) is.layout, is.eight)
 
 -- the message of a header that is not refused fits
 not_refused : (s : State) (bytes : List ℕ) (header : OutHeader) → ¬ HeaderRefused s bytes → IsOutHeader header (take header_size bytes)

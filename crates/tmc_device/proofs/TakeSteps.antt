@@ -1,5 +1,5 @@
 -- packets that are taken are a step
-use Rattle.std.proofs.Common.{◌≡◌, ◌≢◌, ◌∙◌, ℕ, ◌*◌, ◌^◌, ◌<◌, ◌≤◌, min, List, [], ◌∷◌, ◌++◌, length, take, drop, Option, Some, None, refl, ap, sym, subst, arith}
+use Rattle.std.proofs.Common.{◌≡◌, ◌≢◌, ◌∙◌, ℕ, ◌+◌, ◌*◌, ◌^◌, ◌<◌, ◌≤◌, min, List, [], ◌∷◌, ◌++◌, length, take, drop, Option, Some, None, refl, ap, sym, subst, arith}
 use Rattle.std.proofs.lemmas.List.{length-drop, length-append, take_all}
 use Rattle.tmc_wire.specs.declared.header.OutHeader.{OutHeader}
 use Rattle.usbip_wire.specs.declared.urb.Dir.{Dir}
@@ -13,19 +13,22 @@ use Rattle.tmc_law.specs.State.{State, Pending, Transfer, Plugged, transfer_size
 use Rattle.tmc_law.specs.Put.{ended, success}
 use Rattle.tmc_law.specs.Halts.{halts, halt_answers}
 use Rattle.tmc_law.specs.Packets.{moved_on}
-use Rattle.tmc_law.specs.BulkOut.{packets_of, Empty, Spoiled, Inside, SubmitEnds, TransferEnds, DoesMove, Spoils, TakesEffect}
+use Rattle.tmc_law.specs.BulkOut.{message_most, packets_of, Empty, Spoiled, Inside, SubmitEnds, TransferEnds, DoesMove, Spoils, TakesEffect}
 use Rattle.tmc_law.specs.Step.{Take}
 use Rattle.endpoint_pipes.specs.Held.{Held, with_list}
 use Rattle.endpoint_pipes.specs.Outcome.{first_of, left_of}
 use Rattle.endpoint_pipes.specs.declared.outcome.Pending.{Pending as First}
 use Rattle.tmc_device.specs.Events.{packets_there}
 use Rattle.tmc_device.specs.declared.body.Body.{Body}
-use Rattle.tmc_device.specs.Parts.{Outbox, taken_in, bytes_of}
+use Rattle.msg_exchange.specs.Held as exchange
+use Rattle.msg_exchange.specs.Held.{Kept}
+use Rattle.tmc_device.specs.Parts.{Outbox, Opening, header_in, transfer_of, taken_in, bytes_of}
 use Rattle.tmc_device.specs.Seen.{Makes}
 use Rattle.tmc_device.specs.Sound.{IsSound}
-use Rattle.tmc_device.specs.Body.{state_of, seen_of, whole_of, IsJudged, IsWhole, HasEffect}
+use Rattle.tmc_device.specs.Body.{state_of, seen_of, transfer_in, whole_of, IsJudged, IsWhole, HasEffect}
 use Rattle.tmc_device.proofs.Beside.{effect_beside}
 use Rattle.tmc_device.proofs.Firsts.{IsFirst}
+use Rattle.tmc_device.proofs.Judging.{one_header}
 use Rattle.tmc_device.proofs.Making.{quiet, loud}
 use Rattle.tmc_device.proofs.Wanting.{wanted, whole_text}
 
@@ -34,23 +37,28 @@ not_empty l some same = let zero : length l ≡ 0 = ap length same in omega (ari
 
 -- the transfer that the next packet belongs to
 abbrev pub on : Body → OutHeader → Transfer
-on body header = record { header = header; taken = taken_in body.transfer }
+on body header = record { header = header; taken = taken_in (transfer_in body) }
 
 module _ (body : Body) (submit : Pending) (behind : List Pending) (header : OutHeader) (plugged : (state_of body).presence ≡ Plugged) (free : (state_of body).waiting ≡ None)
     (is : body.pipes.bulk_out ≡ submit ∷ behind) (length_some : 0 < submit.head.length) (judged : IsJudged body submit (Some header)) where
+  -- the transfer goes on with this header, where one is in progress
+  pub goes_with : (other : OutHeader) → header_in body.transfer ≡ Some other → other ≡ header
+  goes_with other same = one_header (state_of body) submit (on body header) body.transfer body.exchange.coming other refl judged.1 same
+
   -- the submit has more
-  pub some_made : (count : ℕ) (p : Held) (t : Option Transfer) → 0 < count → count < packets_of (length submit.left)
+  pub some_made : (count : ℕ) (x : Kept) (p : Held) (t : Option Opening) → 0 < count → count < packets_of (length submit.left)
       → p ≡ record body.pipes { bulk_out = moved_on submit (take (count * 64) submit.left) (drop (count * 64) submit.left) ∷ behind }
-      → t ≡ Some (record { header = header; taken = taken_in body.transfer ++ take (count * 64) submit.left })
-      → Makes (Take count) (seen_of body) (seen_of (record body { pipes = p; transfer = t }))
-  some_made count p t some more left grown =
+      → x.held ≡ body.exchange.held → transfer_of t x.coming ≡ Some (record { header = header; taken = taken_in (transfer_in body) ++ take (count * 64) submit.left })
+      → Makes (Take count) (seen_of body) (seen_of (record body { exchange = x; pipes = p; transfer = t }))
+  some_made count x p t some more left held grown =
       let long = length-drop (count * 64) submit.left in
-      quiet (Take count) (seen_of body) (seen_of (record body { pipes = p; transfer = t })) plugged (
+      quiet (Take count) (seen_of body) (seen_of (record body { exchange = x; pipes = p; transfer = t })) plugged (
         free,
         Inside submit (moved_on submit (take (count * 64) submit.left) (drop (count * 64) submit.left)) behind (on body header)
-            (record { header = header; taken = taken_in body.transfer ++ take (count * 64) submit.left }) is (λ zero. omega (arith, length_some, zero)) some judged.0 judged.1 (DoesMove refl refl)
+            (record { header = header; taken = taken_in (transfer_in body) ++ take (count * 64) submit.left }) is (λ zero. omega (arith, length_some, zero)) some judged.0 judged.1 (DoesMove refl refl)
             (not_empty (drop (count * 64) submit.left) (omega (arith, long, more))) refl
-            (ap (λ (held : Held). state_of (record body { pipes = held; transfer = t })) left
+            (ap (λ (h : exchange.Held). state_of (record body { exchange = record x { held = h }; pipes = p; transfer = t })) held
+            ∙ ap (λ (h : Held). state_of (record body { exchange = record body.exchange { coming = x.coming }; pipes = h; transfer = t })) left
             ∙ ap (λ (o : Option Transfer). record (state_of body) { bulk_out = moved_on submit (take (count * 64) submit.left) (drop (count * 64) submit.left) ∷ behind; transfer = o }) grown),
       )
       refl
@@ -60,70 +68,78 @@ module _ (body : Body) (submit : Pending) (behind : List Pending) (header : OutH
   rest_of count = moved_on submit (take (count * 64) submit.left) (drop (count * 64) submit.left)
 
   abbrev pub rest_grown : ℕ → Transfer
-  rest_grown count = record { header = header; taken = taken_in body.transfer ++ take (count * 64) submit.left }
+  rest_grown count = record { header = header; taken = taken_in (transfer_in body) ++ take (count * 64) submit.left }
 
-  rest_state : (count : ℕ) (p q : Held) (t : Option Transfer) (o : Outbox) → p ≡ record body.pipes { bulk_out = rest_of count ∷ behind } → q ≡ with_list BulkOut behind p
-      → state_of (record body { pipes = q; transfer = t; outputs = o }) ≡ record (state_of body) { bulk_out = behind; transfer = t }
-  rest_state count p q t o left gone =
-      ap (λ (held : Held). state_of (record body { pipes = held; transfer = t; outputs = o })) (gone ∙ ap (λ (held : Held). with_list BulkOut behind held) left)
+  rest_state : (count : ℕ) (x : Kept) (p q : Held) (t : Option Opening) (o : Outbox) → x.held ≡ body.exchange.held → p ≡ record body.pipes { bulk_out = rest_of count ∷ behind }
+      → q ≡ with_list BulkOut behind p
+      → state_of (record body { exchange = x; pipes = q; transfer = t; outputs = o }) ≡ record (state_of body) { bulk_out = behind; transfer = transfer_of t x.coming }
+  rest_state count x p q t o held left gone =
+      ap (λ (h : exchange.Held). state_of (record body { exchange = record x { held = h }; pipes = q; transfer = t; outputs = o })) held
+      ∙ ap (λ (h : Held). state_of (record body { exchange = record body.exchange { coming = x.coming }; pipes = h; transfer = t; outputs = o }))
+      (gone ∙ ap (λ (h : Held). with_list BulkOut behind h) left)
 
   all_taken : (count : ℕ) → count ≡ packets_of (length submit.left) → take (count * 64) submit.left ≡ submit.left
   all_taken count all = take_all (count * 64) submit.left (omega (arith, all))
 
-  pub rest_made : (count : ℕ) (p q : Held) (t : Option Transfer) (o : Outbox) → count ≡ packets_of (length submit.left)
-      → p ≡ record body.pipes { bulk_out = rest_of count ∷ behind } → q ≡ with_list BulkOut behind p → t ≡ Some (record { header = header; taken = taken_in body.transfer ++ submit.left })
-      → o.puts ≡ body.outputs.puts ++ ended success (rest_of count) ∷ [] → length (taken_in body.transfer ++ submit.left) < transfer_size (data_size header)
-      → Makes (Take count) (seen_of body) (seen_of (record body { pipes = q; transfer = t; outputs = o }))
-  rest_made count p q t o all left gone grown put less =
+  pub rest_made : (count : ℕ) (x : Kept) (p q : Held) (t : Option Opening) (o : Outbox) → count ≡ packets_of (length submit.left)
+      → x.held ≡ body.exchange.held → p ≡ record body.pipes { bulk_out = rest_of count ∷ behind } → q ≡ with_list BulkOut behind p
+      → transfer_of t x.coming ≡ Some (record { header = header; taken = taken_in (transfer_in body) ++ submit.left })
+      → o.puts ≡ body.outputs.puts ++ ended success (rest_of count) ∷ [] → length (taken_in (transfer_in body) ++ submit.left) < transfer_size (data_size header)
+      → Makes (Take count) (seen_of body) (seen_of (record body { exchange = x; pipes = q; transfer = t; outputs = o }))
+  rest_made count x p q t o all held left gone grown put less =
       let same = all_taken count all in
-      loud (Take count) (seen_of body) (seen_of (record body { pipes = q; transfer = t; outputs = o })) (ended success (rest_of count) ∷ []) plugged (
+      loud (Take count) (seen_of body) (seen_of (record body { exchange = x; pipes = q; transfer = t; outputs = o })) (ended success (rest_of count) ∷ []) plugged (
         free,
         SubmitEnds submit (rest_of count) behind (on body header) (rest_grown count) is (λ zero. omega (arith, length_some, zero)) all judged.0 judged.1 (DoesMove refl refl)
-            (let long = ap (λ (l : List ℕ). length (taken_in body.transfer ++ l)) same in λ zero. omega (arith, less, long, zero)) refl
-            (rest_state count p q t o left gone
+            (let long = ap (λ (l : List ℕ). length (taken_in (transfer_in body) ++ l)) same in λ zero. omega (arith, less, long, zero)) refl
+            (rest_state count x p q t o held left gone
             ∙ ap (λ (v : Option Transfer). record (state_of body) { bulk_out = behind; transfer = v })
-            (grown ∙ ap (λ (l : List ℕ). Some (record { header = header; taken = taken_in body.transfer ++ l })) (sym same))),
+            (grown ∙ ap (λ (l : List ℕ). Some (record { header = header; taken = taken_in (transfer_in body) ++ l })) (sym same))),
       )
       put
 
-  pub whole_made : (count seqnum : ℕ) (p q : Held) (t : Option Transfer) (o : Outbox) (new : Body) → submit.head.seqnum ≡ seqnum → count ≡ packets_of (length submit.left)
-      → p ≡ record body.pipes { bulk_out = rest_of count ∷ behind } → q ≡ with_list BulkOut behind p
-      → o.puts ≡ body.outputs.puts ++ ended success (rest_of count) ∷ [] → length (taken_in body.transfer ++ submit.left) ≡ transfer_size (data_size header)
-      → t ≡ Some (record { header = header; taken = taken_in body.transfer ++ submit.left }) → HasEffect seqnum header (record body { pipes = q; transfer = t; outputs = o }) new
+  pub whole_made : (count seqnum : ℕ) (x : Kept) (p q : Held) (t : Option Opening) (o : Outbox) (new : Body) → submit.head.seqnum ≡ seqnum → count ≡ packets_of (length submit.left)
+      → x.held ≡ body.exchange.held → p ≡ record body.pipes { bulk_out = rest_of count ∷ behind } → q ≡ with_list BulkOut behind p
+      → o.puts ≡ body.outputs.puts ++ ended success (rest_of count) ∷ [] → length (taken_in (transfer_in body) ++ submit.left) ≡ transfer_size (data_size header)
+      → transfer_of t x.coming ≡ Some (record { header = header; taken = taken_in (transfer_in body) ++ submit.left })
+      → HasEffect seqnum header (record body { exchange = x; pipes = q; transfer = t; outputs = o }) new
       → new.outputs ≡ o
       → Makes (Take count) (seen_of body) (seen_of new)
-  whole_made count seqnum p q t o new number all left gone put whole grown effect same_outputs =
+  whole_made count seqnum x p q t o new number all held left gone put whole grown effect same_outputs =
       let same = all_taken count all in
+      let before = record (state_of (record body { exchange = x; pipes = q; transfer = t; outputs = o })) { transfer = None } in
       loud (Take count) (seen_of body) (seen_of new) (ended success (rest_of count) ∷ []) plugged (
         free,
         TransferEnds submit (rest_of count) behind (on body header) (rest_grown count) is (λ zero. omega (arith, length_some, zero)) all judged.0 judged.1 (DoesMove refl refl)
-            (let long = ap (λ (l : List ℕ). length (taken_in body.transfer ++ l)) same in omega (arith, whole, long))
-            (subst (λ (l : List ℕ). TakesEffect submit.head.seqnum (record { header = header; taken = taken_in body.transfer ++ l }) (record (state_of body) { bulk_out = behind; transfer = None }) (state_of new)) (sym same)
-            (subst (λ (s : State). TakesEffect submit.head.seqnum (record { header = header; taken = taken_in body.transfer ++ submit.left }) (record s { transfer = None }) (state_of new)) (rest_state count p q t o left gone)
-            (subst (λ (n : ℕ). TakesEffect n (record { header = header; taken = taken_in body.transfer ++ submit.left }) (record (state_of (record body { pipes = q; transfer = t; outputs = o })) { transfer = None }) (state_of new)) (sym number)
-            (subst (λ (l : List ℕ). TakesEffect seqnum (record { header = header; taken = l }) (record (state_of (record body { pipes = q; transfer = t; outputs = o })) { transfer = None }) (state_of new))
+            (let long = ap (λ (l : List ℕ). length (taken_in (transfer_in body) ++ l)) same in omega (arith, whole, long))
+            (subst (λ (l : List ℕ). TakesEffect submit.head.seqnum (record { header = header; taken = taken_in (transfer_in body) ++ l }) (record (state_of body) { bulk_out = behind; transfer = None }) (state_of new)) (sym same)
+            (subst (λ (s : State). TakesEffect submit.head.seqnum (record { header = header; taken = taken_in (transfer_in body) ++ submit.left }) (record s { transfer = None }) (state_of new))
+            (rest_state count x p q t o held left gone)
+            (subst (λ (n : ℕ). TakesEffect n (record { header = header; taken = taken_in (transfer_in body) ++ submit.left }) before (state_of new)) (sym number)
+            (subst (λ (l : List ℕ). TakesEffect seqnum (record { header = header; taken = l }) before (state_of new))
             (ap (λ (v : Option Transfer). bytes_of v q.bulk_out) grown) effect))))
             refl,
       )
       (ap (λ (b : Outbox). b.puts) same_outputs ∙ put)
 
   -- what its effect needs
-  pub whole_there : (q : Held) (t : Option Transfer) (o : Outbox) → IsSound (state_of body) → t ≡ Some (record { header = header; taken = taken_in body.transfer ++ submit.left })
-      → length (taken_in body.transfer ++ submit.left) ≡ transfer_size (data_size header) → IsWhole (record body { pipes = q; transfer = t; outputs = o }) header
-  whole_there q t o sound grown whole =
+  pub whole_there : (x : Kept) (q : Held) (t : Option Opening) (o : Outbox) → IsSound (state_of body) → x.held ≡ body.exchange.held
+      → transfer_of t x.coming ≡ Some (record { header = header; taken = taken_in (transfer_in body) ++ submit.left })
+      → length (taken_in (transfer_in body) ++ submit.left) ≡ transfer_size (data_size header) → IsWhole (record body { exchange = x; pipes = q; transfer = t; outputs = o }) header
+  whole_there x q t o sound held grown whole =
       let w = wanted (state_of body) submit behind (on body header) sound is judged.0 judged.1 in record {
         text =
             subst (λ (l : List ℕ). OutText header (take (data_size header) (drop 12 l)) l) (sym (ap (λ (v : Option Transfer). bytes_of v q.bulk_out) grown))
-            (whole_text header (taken_in body.transfer ++ submit.left) w.headed whole);
-        fits = w.place;
+            (whole_text header (taken_in (transfer_in body) ++ submit.left) w.headed whole);
+        fits = subst (λ (h : exchange.Held). length h.part + data_size header ≤ message_most) (sym held) w.place;
       }
 
   -- the same where the submit is a whole transfer
   first_bytes : body.transfer ≡ None → whole_of body ≡ submit.left
-  first_bytes begins = ap (λ (t : Option Transfer). bytes_of t body.pipes.bulk_out) begins ∙ ap left_of is
+  first_bytes begins = ap (λ (t : Option Opening). bytes_of (transfer_of t body.exchange.coming) body.pipes.bulk_out) begins ∙ ap left_of is
 
-  none_before : body.transfer ≡ None → taken_in body.transfer ++ submit.left ≡ submit.left
-  none_before begins = ap (λ (t : Option Transfer). taken_in t ++ submit.left) begins
+  none_before : body.transfer ≡ None → taken_in (transfer_in body) ++ submit.left ≡ submit.left
+  none_before begins = ap (λ (t : Option Opening). taken_in (transfer_of t body.exchange.coming) ++ submit.left) begins
 
   pub first_whole : IsSound (state_of body) → body.transfer ≡ None → length submit.left ≡ transfer_size (data_size header) → IsWhole body header
   first_whole sound begins whole =
@@ -141,8 +157,8 @@ module _ (body : Body) (submit : Pending) (behind : List Pending) (header : OutH
       → Makes (Take count) (seen_of body) (seen_of (record mid { pipes = q; outputs = o }))
   first_made count seqnum mid p q o number all begins whole effect same_outputs left gone put =
       let same = all_taken count all in
-      let bytes : whole_of body ≡ taken_in body.transfer ++ take (count * 64) submit.left =
-      first_bytes begins ∙ sym same ∙ sym (ap (λ (t : Option Transfer). taken_in t ++ take (count * 64) submit.left) begins) in
+      let bytes : whole_of body ≡ taken_in (transfer_in body) ++ take (count * 64) submit.left =
+      first_bytes begins ∙ sym same ∙ sym (ap (λ (t : Option Opening). taken_in (transfer_of t body.exchange.coming) ++ take (count * 64) submit.left) begins) in
       loud (Take count) (seen_of body) (seen_of (record mid { pipes = q; outputs = o })) (ended success (rest_of count) ∷ []) plugged (
         free,
         TransferEnds submit (rest_of count) behind (on body header) (rest_grown count) is (λ zero. omega (arith, length_some, zero)) all judged.0 judged.1 (DoesMove refl refl)
@@ -156,10 +172,10 @@ module _ (body : Body) (submit : Pending) (behind : List Pending) (header : OutH
       )
       (put ∙ ap (λ (b : Outbox). b.puts ++ ended success (rest_of count) ∷ []) same_outputs)
 
-  pub rest_length : IsSound (state_of body) → length (taken_in body.transfer ++ submit.left) ≤ transfer_size (data_size header)
+  pub rest_length : IsSound (state_of body) → length (taken_in (transfer_in body) ++ submit.left) ≤ transfer_size (data_size header)
   rest_length sound =
       let w = wanted (state_of body) submit behind (on body header) sound is judged.0 judged.1 in
-      let rest = w.rest in let long = length-append (taken_in body.transfer) submit.left in omega (arith, rest, long)
+      let rest = w.rest in let long = length-append (taken_in (transfer_in body)) submit.left in omega (arith, rest, long)
 
 pub first_left : (list : List Pending) (n : ℕ) → 0 < n → n < packets_of (length (left_of list)) → IsFirst list
 first_left [] n some more = absurd (omega (arith, some, more))

@@ -1,6 +1,6 @@
 -- what is known of the transfer that a packet belongs to
 use Rattle.std.proofs.Common.{◌≡◌, ◌≢◌, ◌∙◌, ◌⊎◌, inl, inr, ℕ, ◌+◌, ◌-◌, ◌%◌, ◌<◌, ◌≤◌, List, [], ◌∷◌, ◌++◌, length, take, drop, Option, Some, None, refl, ap, sym, subst, arith}
-use Rattle.std.proofs.lemmas.List.{length-replicate, length-take-le, length-drop, take-append-le, take-append-drop}
+use Rattle.std.proofs.lemmas.List.{length-replicate, length-take, length-append, length-take-le, length-drop, take-append-le, take-append-drop}
 use Rattle.usbip_wire.specs.declared.urb.Dir.{Dir}
 use Rattle.usbip_wire.specs.declared.urb.Dir.TheVariants.{Out}
 use Rattle.tmc_wire.specs.declared.header.OutHeader.{OutHeader}
@@ -13,11 +13,17 @@ use Rattle.tmc_law.specs.State.{State, Pending, Transfer, transfer_size}
 use Rattle.tmc_law.specs.BulkOut.{message_most, HeaderRefused, RequestInside, TriggerInside, TooLong, Belongs, InProgress, Begun, Spoils, ByLength, wants}
 use Rattle.tmc_law.specs.Acts.{Sized}
 use Rattle.tmc_law.specs.Reached.{AllFit, GoesOn}
-use Rattle.tmc_device.specs.Parts.{transfer_most}
+use Rattle.msg_exchange.specs.Parts.{alignment_most}
 use Rattle.tmc_device.specs.Sound.{IsSound}
 
 pub size_of : (n : ℕ) → transfer_size n ≡ 12 + (n + (4 - n % 4) % 4)
 size_of n = ap (λ (m : ℕ). 12 + (n + m)) (length-replicate ((4 - n % 4) % 4) 0)
+
+-- a header has twelve bytes
+pub twelve : (header : OutHeader) (bytes : List ℕ) → IsOutHeader header bytes → length bytes ≡ header_size
+twelve (Message tag size eom) bytes is = ap (λ (l : List ℕ). length l) is.layout
+twelve (Request tag size) bytes is = ap (λ (l : List ℕ). length l) is.layout
+twelve (Trigger tag) bytes is = omega (arith, ap (λ (l : List ℕ). length l) is.layout, is.eight)
 
 -- The rest of the submit fits the transfer, the message fits behind the unfinished one, and the transfer begins with its
 -- header.
@@ -88,10 +94,18 @@ wanted s submit behind transfer sound is ok belongs = record {
   headed = the_header s submit transfer sound belongs;
 }
 
--- no transfer that is accepted is longer than the buffer
-pub fits_buffer : (s : State) (submit : Pending) (transfer : Transfer) → IsWanted s submit transfer → length transfer.taken + length submit.left ≤ transfer_most
-fits_buffer s submit transfer w =
-    let rest = w.rest in let place = w.place in let size = size_of (data_size transfer.header) in let most = size_of message_most in omega (arith, rest, place, size, most)
+-- so no part that comes is longer than its place, but for its alignment bytes
+pub fits_place : (s : State) (submit : Pending) (transfer : Transfer) → IsWanted s submit transfer
+    → length s.part + (length transfer.taken + length submit.left) ≤ message_most + (header_size + alignment_most)
+fits_place s submit transfer w =
+    let rest = w.rest in let place = w.place in let size = size_of (data_size transfer.header) in omega (arith, rest, place, size)
+
+-- and it begins with a whole header
+pub long_enough : (s : State) (submit : Pending) (transfer : Transfer) → IsWanted s submit transfer → header_size ≤ length transfer.taken + length submit.left
+long_enough s submit transfer w =
+    let bytes = transfer.taken ++ submit.left in
+    let headed = twelve transfer.header (take header_size bytes) w.headed in
+    omega (arith, headed, length-take header_size bytes, length-append transfer.taken submit.left)
 
 -- the bytes of a whole transfer are its header, its data and its alignment
 pub whole_text : (header : OutHeader) (bytes : List ℕ) → IsOutHeader header (take header_size bytes) → length bytes ≡ transfer_size (data_size header)

@@ -1,7 +1,7 @@
 -- the state of the law, as a device keeps it
 use Rattle.std.specs.Prelude.{◌≡◌, ℕ, ◌+◌, ◌<◌, ◌≤◌, false, List, length, take, drop, Option, Some, None}
 use Rattle.tmc_law.specs.Endpoint.{Control}
-use Rattle.tmc_law.specs.State.{State, Pending}
+use Rattle.tmc_law.specs.State.{State, Pending, Transfer}
 use Rattle.tmc_law.specs.BulkOut.{message_most, Spoils, Belongs, TakesEffect}
 use Rattle.tmc_wire.specs.Standard.{header_size}
 use Rattle.tmc_wire.specs.Transfer.{OutText, data_size}
@@ -10,9 +10,13 @@ use Rattle.tmc_wire.specs.declared.header.OutHeader.{OutHeader}
 use Rattle.endpoint_pipes.specs.Held.{all_of}
 use Rattle.endpoint_pipes.specs.Part.{queue_from}
 use Rattle.tmc_device.specs.declared.body.Body.{Body}
-use Rattle.tmc_device.specs.Parts.{running_of, presence_of, taken_in, bytes_of}
+use Rattle.tmc_device.specs.Parts.{running_of, presence_of, transfer_of, taken_in, bytes_of}
 use Rattle.tmc_device.specs.Seen.{Seen, IsReached}
 use Rattle.tmc_device.specs.Sound.{IsSound}
+
+-- the Bulk-OUT transfer in progress
+abbrev pub transfer_in : Body → Option Transfer
+transfer_in body = transfer_of body.transfer body.exchange.coming
 
 abbrev pub state_of : Body → State
 state_of body = record {
@@ -21,7 +25,7 @@ state_of body = record {
   bulk_in = body.pipes.bulk_in;
   interrupt_in = body.pipes.interrupt_in;
   halted = body.pipes.halted;
-  transfer = body.transfer;
+  transfer = transfer_in body;
   part = body.exchange.held.part;
   waiting = body.exchange.held.waiting;
   side = body.side;
@@ -43,6 +47,7 @@ pub record HasRoom (body : Body) : Type 0 where
 -- memory was taken, and nothing else has changed
 pub record IsPrepared (old new : Body) : Type 0 where
   pub exchange : new.exchange.held ≡ old.exchange.held
+  pub coming : new.exchange.coming ≡ old.exchange.coming
   pub outputs : new.outputs.puts ≡ old.outputs.puts
   pub pipes : new.pipes ≡ old.pipes
   pub polled : new.polled ≡ old.polled
@@ -63,11 +68,11 @@ pub record IsReady (body : Body) : Type 0 where
 abbrev pub IsJudged : Body → Pending → Option OutHeader → Type 0
 IsJudged body submit None = Spoils (state_of body) submit
 IsJudged body submit (Some header) =
-    (¬ Spoils (state_of body) submit) × Belongs (state_of body) submit (record { header = header; taken = taken_in body.transfer })
+    (¬ Spoils (state_of body) submit) × Belongs (state_of body) submit (record { header = header; taken = taken_in (transfer_in body) })
 
 -- the bytes of the transfer that takes effect
 abbrev pub whole_of : Body → List ℕ
-whole_of body = bytes_of body.transfer body.pipes.bulk_out
+whole_of body = bytes_of (transfer_in body) body.pipes.bulk_out
 
 -- They are a whole transfer with this header, and its message fits behind the unfinished one.
 pub record IsWhole (body : Body) (header : OutHeader) : Type 0 where

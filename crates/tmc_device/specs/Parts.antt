@@ -1,9 +1,8 @@
 -- how a device keeps the parts of the law's state that neither its exchange nor its pipes keep
-use Rattle.std.specs.Prelude.{◌≡◌, ℕ, ◌≤◌, Bool, true, false, List, [], ◌∷◌, Option, Some, None}
+use Rattle.std.specs.Prelude.{ℕ, ◌≤◌, Bool, true, false, List, [], ◌∷◌, ◌++◌, Option, Some, None}
 use Rattle.tmc_wire.specs.declared.header.OutHeader.{OutHeader}
 use Rattle.tmc_law.specs.State as law
 use Rattle.tmc_law.specs.Put.{Put, Submitted, Unlinked}
-use Rattle.tmc_law.specs.BulkOut.{message_most}
 use Rattle.endpoint_pipes.specs.Outcome.{left_of}
 use Rattle.tmc_device.specs.declared.running.Running.{Running}
 use Rattle.tmc_device.specs.declared.running.Running.TheVariants as running
@@ -14,15 +13,24 @@ use Rattle.tmc_device.specs.declared.side.Phase.TheVariants as phase
 use Rattle.tmc_device.specs.declared.outputs.Sent.{Sent}
 use Rattle.tmc_device.specs.declared.outputs.Sent.TheVariants as sent
 
--- ---- the Bulk-OUT transfer in progress: its header, and its bytes that were taken
+-- ---- the Bulk-OUT transfer in progress: its header, as it is read and as it came, and what came behind it, which the
+-- exchange keeps
 
-abbrev pub transfer_of : Option OutHeader → List ℕ → Option law.Transfer
-transfer_of None taken = None
-transfer_of (Some header) taken = Some (record { header = header; taken = taken })
+pub record Opening : Type 0 where
+  pub header : OutHeader
+  pub bytes : List ℕ
 
-abbrev pub header_in : Option law.Transfer → Option OutHeader
+abbrev pub opening_of : Option OutHeader → (bytes : List ℕ) → Option Opening
+opening_of None bytes = None
+opening_of (Some header) bytes = Some (record { header = header; bytes = bytes })
+
+abbrev pub header_in : Option Opening → Option OutHeader
 header_in None = None
-header_in (Some transfer) = Some transfer.header
+header_in (Some opening) = Some opening.header
+
+abbrev pub transfer_of : Option Opening → (coming : List ℕ) → Option law.Transfer
+transfer_of None coming = None
+transfer_of (Some opening) coming = Some (record { header = opening.header; taken = opening.bytes ++ coming })
 
 abbrev pub taken_in : Option law.Transfer → List ℕ
 taken_in None = []
@@ -33,15 +41,6 @@ taken_in (Some transfer) = transfer.taken
 abbrev pub bytes_of : Option law.Transfer → List law.Pending → List ℕ
 bytes_of None queue = left_of queue
 bytes_of (Some transfer) queue = transfer.taken
-
--- no transfer is longer than that of the longest message
-abbrev pub transfer_most : ℕ
-transfer_most = law.transfer_size message_most
-
--- a buffer for the longest transfer, which is empty where none is in progress
-pub record IsBuffer (header : Option OutHeader) (taken : List ℕ) (capacity : ℕ) : Type 0 where
-  pub room : transfer_most ≤ capacity
-  pub empty : header ≡ None → taken ≡ []
 
 -- ---- the Bulk-IN transfer in progress
 

@@ -20,7 +20,7 @@ pub(crate) struct Body {
     pub(crate) pipes: Pipes,
     /// Whether the status byte was polled for the first control submit. Says nothing where none is pending.
     pub(crate) polled: bool,
-    /// The Bulk-OUT transfer in progress.
+    /// The Bulk-OUT transfer in progress. What came behind its header is with the exchange.
     pub(crate) transfer: OutTransfer,
     /// The Bulk-IN transfer in progress.
     pub(crate) side: InTransfer,
@@ -42,7 +42,7 @@ impl Body {
             exchange: Exchange::new(alloc)?,
             pipes: Pipes::new(alloc)?,
             polled: false,
-            transfer: OutTransfer::new(alloc)?,
+            transfer: OutTransfer::new(),
             side: InTransfer::new(alloc),
             running: Running::Nothing,
             packets: Packets::new(),

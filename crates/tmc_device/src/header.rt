@@ -14,10 +14,10 @@ use crate::body::Body;
 use crate::endpoints::PACKET_SIZE;
 use crate::transfer::{MESSAGE_MAX, out_len};
 use endpoint_pipes::Pending;
-use tmc_wire::{OutHeader, headers_are_read_again, read_out};
+use tmc_wire::{BULK_HEADER, OutHeader, headers_are_read_again, read_out};
 
 impl Body {
-    ghost use Rattle.tmc_device.specs.Body.{state_of, IsJudged};
+    ghost use Rattle.tmc_device.specs.Body.{state_of, transfer_in, IsJudged};
 
     /// The header of the transfer that the next packet of the first Bulk-OUT submit belongs to; none where its header or its
     /// length is refused.
@@ -38,16 +38,26 @@ impl Body {
 
     /// The header, where the length of the first Bulk-OUT submit suits its transfer.
     fn accept(&self, header: OutHeader, first: &Pending) -> Option<OutHeader>
-        requires { length (taken_in self.now.transfer) ≤ transfer_size (data_size header) }
+        requires { length (taken_in (transfer_in self.now)) ≤ transfer_size (data_size header) }
         ensures { (submit : Submit) → first.now ≡ record { head = submit.head; moved = length submit.moved } →
-            Suits submit (record { header = header; taken = taken_in self.now.transfer }) result }
+            Suits submit (record { header = header; taken = taken_in (transfer_in self.now) }) result }
     {
-        let wanted = out_len(header) - self.transfer.taken().len();
+        let wanted = out_len(header) - self.taken_len();
         let length = first.head.length as usize;
         if first.moved == 0 && misfits(length, wanted) {
             return None;
         }
         Some(header)
+    }
+
+    /// How many bytes of the transfer in progress were taken.
+    pub(crate) fn taken_len(&self) -> usize
+        ensures { result ≡ length (taken_in (transfer_in self.now)) }
+    {
+        match self.transfer.header() {
+            Some(_) => BULK_HEADER + self.exchange.coming().len(),
+            None => 0,
+        }
     }
 
     /// The header at the next packet, where it is accepted.

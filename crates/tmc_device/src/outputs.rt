@@ -128,7 +128,8 @@ impl Outputs {
     /// The first answer is dropped.
     pub(crate) fn drop_first(&mut self)
         requires { 0 < length self.old.puts }
-        ensures { self.new.puts ≡ drop 1 self.old.puts }
+        ensures puts { self.new.puts ≡ drop 1 self.old.puts }
+        ensures room { self.old.room ≤ self.new.room }
     {
         let _first = self.sent.pop_front();
     }

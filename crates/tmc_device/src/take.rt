@@ -1,8 +1,11 @@
-ghost use Rattle.std.specs.Prelude.{◌≡◌, ◌^◌, ℕ, ◌<◌, ◌∷◌, List, length, min, false, None, Some, IsSome};
+ghost use Rattle.std.specs.Prelude.{◌≡◌, ◌^◌, ◌+◌, ℕ, ◌<◌, ◌≤◌, ◌∷◌, ◌++◌, List, length, take, drop, min, false, None, Some, IsSome};
 ghost use Rattle.tmc_law.specs.declared.dev_event.DevEvent.TheVariants as event;
-ghost use Rattle.tmc_wire.specs.Transfer.{data_size};
-ghost use Rattle.tmc_law.specs.State.{Pending as Submit, transfer_size};
-ghost use Rattle.tmc_law.specs.BulkOut.{packets_of as law_packets};
+ghost use Rattle.tmc_wire.specs.Standard.{header_size};
+ghost use Rattle.tmc_wire.specs.Transfer.{OutText, data_size};
+ghost use Rattle.tmc_law.specs.State.{State, Transfer, Pending as Submit, transfer_size};
+ghost use Rattle.tmc_law.specs.BulkOut.{message_most, TakesEffect, packets_of as law_packets};
+ghost use Rattle.msg_exchange.specs.Held.{Holds, led_to};
+ghost use Rattle.msg_exchange.specs.Parts.{alignment_most};
 ghost use Rattle.tmc_law.specs.Logging.{Logs};
 ghost use Rattle.tmc_law.specs.Step.{Take};
 ghost use Rattle.instr_plain.specs.declared.log.LogEntry.TheVariants as entry;
@@ -10,7 +13,7 @@ ghost use Rattle.tmc_wire.specs.declared.header.OutHeader.TheVariants.{Message, 
 ghost use Rattle.endpoint_pipes.specs.Outcome.{first_of, left_of};
 ghost use Rattle.tmc_law.specs.Reached.{AreFew};
 ghost use Rattle.tmc_device.specs.Sound.{IsSound};
-ghost use Rattle.tmc_device.specs.Parts.{bytes_of};
+ghost use Rattle.tmc_device.specs.Parts.{header_in, transfer_of, taken_in, bytes_of};
 ghost use Rattle.tmc_device.specs.Seen.{Makes};
 ghost use Rattle.tmc_device.specs.Events.{Does, packets_there};
 
@@ -20,6 +23,7 @@ use crate::endings::end_first;
 use crate::endpoints::{BULK_OUT, PACKET_SIZE, SUCCESS};
 use crate::transfer::{OutTransfer, out_len};
 use endpoint_pipes::{Pending, Pipes};
+use msg_exchange::Exchange;
 use tmc_wire::{BULK_HEADER, OutHeader};
 
 /// The packets in which so many bytes go, the last one shorter; no bytes are one packet.
@@ -30,13 +34,52 @@ pub(crate) fn packets_of(size: usize) -> usize
     ((size + (PACKET_SIZE - 1)) / PACKET_SIZE).max(1)
 }
 
-/// The bytes of a whole transfer: those that were taken, or where none is in progress, those of the first Bulk-OUT submit.
-fn whole<'a>(transfer: &'a OutTransfer, pipes: &'a Pipes) -> &'a [u8]
-    ensures { result.now ≡ bytes_of transfer.now pipes.now.bulk_out }
+/// More bytes of the transfer with this header; it begins with them where none is in progress.
+fn gather(exchange: &mut Exchange, transfer: &mut OutTransfer, header: OutHeader, bytes: &[u8])
+    requires none_waits { exchange.old.held.waiting ≡ None }
+    requires goes_on { (other : OutHeader) → header_in transfer.old ≡ Some other → other ≡ header }
+    requires begins { header_in transfer.old ≡ None → header_size ≤ length bytes.now }
+    requires fits { length exchange.old.held.part + (length (taken_in (transfer_of transfer.old exchange.old.coming)) + length bytes.now) ≤ message_most + (header_size + alignment_most) }
+    ensures grown { transfer_of transfer.new exchange.new.coming ≡
+        Some (record { header = header; taken = taken_in (transfer_of transfer.old exchange.old.coming) ++ bytes.now }) }
+    ensures held { exchange.new.held ≡ exchange.old.held }
+    ensures room { exchange.new.room ≡ exchange.old.room }
 {
     match transfer.header() {
-        Some(_) => transfer.taken(),
-        None => pipes.rest_out(),
+        Some(_) => exchange.extend_part(bytes),
+        None => {
+            transfer.begin(header, &bytes[..BULK_HEADER]);
+            exchange.begin_part();
+            exchange.extend_part(&bytes[BULK_HEADER..]);
+        }
+    }
+}
+
+/// The data of a whole transfer are a part of a message: what came of it, or where none is in progress, what the first
+/// Bulk-OUT submit holds.
+fn accept_data(
+    exchange: &mut Exchange,
+    transfer: &OutTransfer,
+    pipes: &Pipes,
+    seqnum: u32,
+    size: usize,
+    eom: bool,
+)
+    requires room { 0 < exchange.old.room }
+    requires none_waits { exchange.old.held.waiting ≡ None }
+    requires some { 0 < size }
+    requires whole { header_size + size ≤ length (bytes_of (transfer_of transfer.now exchange.old.coming) pipes.now.bulk_out) }
+    requires fits { length exchange.old.held.part + size ≤ message_most }
+    ensures { (s : State) (whole : Transfer) (tag most : ℕ) → Holds s exchange.old.held → whole.header ≡ Message tag most eom →
+        OutText whole.header (take size (drop header_size (bytes_of (transfer_of transfer.now exchange.old.coming) pipes.now.bulk_out))) whole.taken →
+        TakesEffect seqnum whole s (led_to s exchange.new.held) }
+{
+    match transfer.header() {
+        Some(_) => exchange.end_part(seqnum, size, eom),
+        None => {
+            let data = &pipes.rest_out()[BULK_HEADER..BULK_HEADER + size];
+            exchange.accept_part(seqnum, data, eom);
+        }
     }
 }
 
@@ -112,7 +155,12 @@ impl Body {
         ensures { Makes (Take packets) (seen_of self.old) (seen_of self.new) }
     {
         let size = packets as usize * PACKET_SIZE;
-        self.transfer.extend(header, &self.pipes.rest_out()[..size]);
+        gather(
+            &mut self.exchange,
+            &mut self.transfer,
+            header,
+            &self.pipes.rest_out()[..size],
+        );
         self.pipes.take_out(packets);
     }
 
@@ -145,10 +193,15 @@ impl Body {
         requires judged { (submit : Submit) (behind : List Submit) → self.old.pipes.bulk_out ≡ submit ∷ behind → IsJudged self.old submit (Some header) }
         ensures { Makes (Take packets) (seen_of self.old) (seen_of self.new) }
     {
-        self.transfer.extend(header, self.pipes.rest_out());
+        gather(
+            &mut self.exchange,
+            &mut self.transfer,
+            header,
+            self.pipes.rest_out(),
+        );
         self.pipes.take_out(packets);
         end_first(&mut self.pipes, &mut self.outputs, BULK_OUT, SUCCESS);
-        if self.transfer.taken().len() == out_len(header) {
+        if self.taken_len() == out_len(header) {
             self.take_effect(header, seqnum);
         }
     }
@@ -182,10 +235,14 @@ impl Body {
         ensures outputs { self.new.outputs ≡ self.old.outputs }
     {
         let before = self.exchange.status();
-        let end = BULK_HEADER + size as usize;
-        let transfer = whole(&self.transfer, &self.pipes);
-        self.exchange
-            .accept_part(seqnum, &transfer[BULK_HEADER..end], eom);
+        accept_data(
+            &mut self.exchange,
+            &self.transfer,
+            &self.pipes,
+            seqnum,
+            size as usize,
+            eom,
+        );
         self.packets.notice(before, self.exchange.status());
         self.transfer.clear();
     }

@@ -1,61 +1,55 @@
-ghost use Rattle.std.specs.Prelude.{◌≡◌, ◌+◌, ◌≤◌, ◌++◌, length, Some, None, IfOk};
+ghost use Rattle.std.specs.Prelude.{◌≡◌, ℕ, List, length, Some, None, IfOk};
+ghost use Rattle.tmc_wire.specs.Standard.{header_size};
 ghost use Rattle.tmc_wire.specs.Transfer.{data_size};
 ghost use Rattle.tmc_law.specs.State.{State, transfer_size};
 ghost use Rattle.tmc_law.specs.Aborts.{out_tag};
-ghost use Rattle.tmc_device.specs.Parts.{header_in, taken_in, transfer_most};
+ghost use Rattle.tmc_device.specs.Parts.{Opening, header_in, transfer_of};
 
-use std::alloc::Global;
 use std::marker::Model;
-use tmc_base::Memory;
 use tmc_wire::{BULK_HEADER, OutHeader};
 
 /// The most bytes of a program message.
 pub(crate) const MESSAGE_MAX: usize = 4_096;
 
-/// The bytes of the longest Bulk-OUT transfer. Its message is a multiple of 4, so it has no alignment bytes.
-const TRANSFER_MAX: usize = BULK_HEADER + MESSAGE_MAX;
-
-/// The Bulk-OUT transfer in progress (USBTMC 1.0, section 3.2): its header, and its bytes that were taken.
+/// The header of the Bulk-OUT transfer in progress (USBTMC 1.0, section 3.2), as it is read and as it came. What came behind
+/// it is with the exchange.
 #[derive(Drop)]
 pub(crate) struct OutTransfer {
     header: Option<OutHeader>,
-    taken: Vec<u8>,
+    bytes: [u8; BULK_HEADER],
 }
 
 impl Model for OutTransfer {
-    ghost use Rattle.std.specs.Prelude.{Option, vec_capacity};
-    ghost use Rattle.tmc_law.specs.State.{Transfer};
+    ghost use Rattle.std.specs.Prelude.{Option};
+    ghost use Rattle.tmc_device.specs.Parts.{Opening, opening_of};
 
-    ghost Value = { Option Transfer };
+    ghost Value = { Option Opening };
 
-    ghost use Rattle.tmc_device.specs.Parts.{transfer_of, IsBuffer};
-
-    ghost view = { λ a. transfer_of a.header a.taken.items };
-
-    ghost invariant = { λ a. IsBuffer a.header a.taken.items (vec_capacity a.taken) };
+    ghost view = { λ a. opening_of a.header a.bytes };
 }
 
 impl OutTransfer {
-    /// None is in progress. Takes the memory of the longest transfer.
-    pub(crate) fn new(alloc: Global) -> Result<OutTransfer, Memory>
-        ensures { IfOk result (λ transfer. transfer ≡ None) }
+    /// None is in progress.
+    pub(crate) fn new() -> OutTransfer
+        ensures { result ≡ None }
     {
-        Ok(OutTransfer {
+        OutTransfer {
             header: None,
-            taken: Vec::with_capacity(alloc, TRANSFER_MAX)?,
-        })
+            bytes: [0; BULK_HEADER],
+        }
     }
 
     /// The header of the transfer in progress.
     pub(crate) fn header(&self) -> Option<OutHeader>
-        ensures { result ≡ header_in self.now }
+        ensures header { result ≡ header_in self.now }
+        ensures bytes { (opening : Opening) → self.now ≡ Some opening → length opening.bytes ≡ header_size }
     {
         self.header
     }
 
     /// Its tag, where one is in progress.
     pub(crate) fn tag(&self) -> Option<u8>
-        ensures { (s : State) → s.transfer ≡ self.now → result ≡ out_tag s }
+        ensures { (s : State) (coming : List ℕ) → s.transfer ≡ transfer_of self.now coming → result ≡ out_tag s }
     {
         match self.header? {
             OutHeader::Message { tag, .. }
@@ -64,23 +58,13 @@ impl OutTransfer {
         }
     }
 
-    /// Its bytes that were taken.
-    pub(crate) fn taken(&self) -> &[u8]
-        ensures { result.now ≡ taken_in self.now }
-    {
-        &self.taken
-    }
-
-    /// The transfer with this header has these bytes more; it begins where none is in progress.
-    pub(crate) fn extend(&mut self, header: OutHeader, bytes: &[u8])
-        requires { length (taken_in self.old) + length bytes.now ≤ transfer_most }
-        ensures { self.new ≡ Some (record { header = header; taken = taken_in self.old ++ bytes.now }) }
+    /// A transfer begins with this header.
+    pub(crate) fn begin(&mut self, header: OutHeader, bytes: &[u8])
+        requires { length bytes.now ≡ header_size }
+        ensures { self.new ≡ Some (record { header = header; bytes = bytes.now }) }
     {
         self.header = Some(header);
-        match self.taken.extend_from_slice(bytes) {
-            Ok(()) => (),
-            Err(_) => unreachable!(),
-        }
+        self.bytes.copy_from_slice(bytes);
     }
 
     /// None is in progress any more.
@@ -88,7 +72,6 @@ impl OutTransfer {
         ensures { self.new ≡ None }
     {
         self.header = None;
-        self.taken.clear();
     }
 }
 

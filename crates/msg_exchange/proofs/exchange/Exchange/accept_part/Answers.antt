@@ -1,18 +1,12 @@
-use Rattle.std.proofs.Common.{◌∙◌, ap, sym, subst}
-use Rattle.tmc_law.specs.State.{State}
-use Rattle.tmc_law.specs.BulkOut.{Interrupts}
-use Rattle.msg_exchange.specs.Held.{Kept, led_to}
-use Rattle.msg_exchange.proofs.Accepting.{last_part, later_part}
+use Rattle.std.proofs.Common.{◌∙◌, ◌++◌, ℕ, List, length, take, ap, sym, subst, arith}
+use Rattle.std.proofs.lemmas.List.{take_all}
+use Rattle.tmc_wire.specs.Transfer.{OutText}
+use Rattle.msg_exchange.specs.Held.{Held, Holds}
 use Rattle.msg_exchange.proofs.exchange.Exchange.accept_part.Goals as goal
 
-pub returns-then-eom-clause-takes_effect : goal.returns-then-eom-clause-takes_effect
-returns-then-eom-clause-takes_effect c s transfer tag size holds header text =
-    last_part s transfer tag size c.args.seq c.args.eom c.self.inside.ended_by c.self.inside.message.items c.args.part.now c.extend_from_slice.new.self.items c.self.inside.log.entries c.self.inside.instrument
-    (ap (λ (k : Kept). k.held.waiting) c.self.view_is ∙ c.interrupt_unread.ensures.waiting ∙ c.requires.none_waits) c.in-Ok.ensures.items c.if-eom.true header text
-    (subst (λ (k : Kept). Interrupts s (led_to s k.held)) (sym c.self.view_is) (c.interrupt_unread.ensures.interrupts s holds))
-
-pub returns-else-eom-clause-takes_effect : goal.returns-else-eom-clause-takes_effect
-returns-else-eom-clause-takes_effect c s transfer tag size holds header text =
-    later_part s transfer tag size c.args.seq c.args.eom c.self.inside.ended_by c.self.inside.message.items c.args.part.now c.extend_from_slice.new.self.items c.self.inside.log.entries c.self.inside.instrument
-    (ap (λ (k : Kept). k.held.waiting) c.self.view_is ∙ c.interrupt_unread.ensures.waiting ∙ c.requires.none_waits) c.in-Ok.ensures.items c.if-eom.false header text
-    (subst (λ (k : Kept). Interrupts s (led_to s k.held)) (sym c.self.view_is) (c.interrupt_unread.ensures.interrupts s holds))
+pub returns-clause-takes_effect : goal.returns-clause-takes_effect
+returns-clause-takes_effect c s transfer tag size holds header text =
+    let part = c.args.part.now in
+    let come = c.extend_part.ensures.coming ∙ ap (λ (l : List ℕ). l ++ part) c.begin_part.ensures.coming in
+    c.end_part.ensures.takes_effect s transfer tag size (subst (λ (h : Held). Holds s h) (sym (c.extend_part.ensures.held ∙ c.begin_part.ensures.held)) holds) header
+    (subst (λ (l : List ℕ). OutText transfer.header l transfer.taken) (sym (ap (λ (l : List ℕ). take (length part) l) come ∙ take_all (length part) part (omega arith))) text)

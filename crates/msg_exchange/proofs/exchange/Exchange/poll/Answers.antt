@@ -1,10 +1,8 @@
-use Rattle.std.proofs.Common.{List, [], ◌∷◌, ◌++◌, ◌∙◌, ap, sym, subst}
-use Rattle.instr_plain.specs.declared.log.LogEntry.{LogEntry}
+use Rattle.std.proofs.Common.{[], ◌∷◌, ◌++◌, ◌∙◌, ap, subst}
 use Rattle.instr_plain.specs.declared.log.LogEntry.TheVariants as entry
 use Rattle.instr_plain.specs.Log.{After}
-use Rattle.instr_plain.specs.Standing.{Standing}
 use Rattle.tmc_law.specs.Log.{Entries}
-use Rattle.msg_exchange.specs.Held.{Kept, Held}
+use Rattle.msg_exchange.specs.Held.{Kept}
 use Rattle.msg_exchange.proofs.Logging.{logs_held}
 use Rattle.msg_exchange.proofs.exchange.Exchange.poll.Goals as goal
 

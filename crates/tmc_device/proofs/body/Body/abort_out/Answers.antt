@@ -32,7 +32,7 @@ returns-in-Some c = λ submit behind first.
     let layout : List ℕ = c.in-Some.status ∷ unwrap_or c.tag-current.result 0 ∷ [] in
     record {
       served = record { layout = layout; behind = []; state = s };
-      serves = NotBegun layout (declined_as s.running c.tag-current.result (out_tag s) c.args.tag c.in-Some.status (c.tag-current.ensures s refl) c.in-Some.ensures) refl;
+      serves = NotBegun layout (declined_as s.running c.tag-current.result (out_tag s) c.args.tag c.in-Some.status (c.tag-current.ensures s c.args.self.now.exchange.coming refl) c.in-Some.ensures) refl;
       joins = replied.puts ∙ ap (λ (n : ℕ). old.outputs.puts ++ control_answer submit c.args.asked.now.setup (c.in-Some.status ∷ n ∷ []) ∷ []) c.unwrap_or.ensures;
       is = replied.state;
     }
@@ -46,7 +46,7 @@ returns-in-None c = λ submit behind first.
     let answer = control_answer submit c.args.asked.now.setup (1 ∷ c.args.tag ∷ []) in
     record {
       served = record { layout = 1 ∷ c.args.tag ∷ []; behind = halt_answers BulkOut s; state = record (halts BulkOut s) { running = AbortsOut } };
-      serves = DoesAbort c.in-None.ensures.0 (sym (c.tag-current.ensures s refl) ∙ c.in-None.ensures.1) refl;
+      serves = DoesAbort c.in-None.ensures.0 (sym (c.tag-current.ensures s c.args.self.now.exchange.coming refl) ∙ c.in-None.ensures.1) refl;
       joins = c.halts.ensures.puts
           ∙ (ap (λ (p : List Put). p ++ halt_answers BulkOut (state_of mid)) replied.puts
           ∙ (ap (λ (z : State). (old.outputs.puts ++ answer ∷ []) ++ halt_answers BulkOut z) replied.state

@@ -1,13 +1,23 @@
-use Rattle.std.proofs.Common.{◌∙◌, ◌+◌, None, refl, ap}
-use Rattle.std.specs.List.{slice_range}
+use Rattle.std.proofs.Common.{◌∙◌, None, refl, take, drop, arith}
+use Rattle.std.proofs.lemmas.List.{length-take, length-drop}
+use Rattle.tmc_wire.specs.declared.header.OutHeader.TheVariants.{Message}
 use Rattle.tmc_device.specs.Body.{state_of, whole_of}
-use Rattle.tmc_device.proofs.Effects.{effect_is, part_of, message_is}
+use Rattle.tmc_device.proofs.Effects.{effect_is}
 use Rattle.tmc_device.proofs.body.Body.accept_message.Goals as goal
+
+pub accept_data-requires-clause-whole : goal.accept_data-requires-clause-whole
+accept_data-requires-clause-whole c =
+    let bytes = whole_of c.args.self.now in
+    let counted = c.requires.whole.1.text.counted in
+    omega (arith, counted, length-take c.args.size (drop 12 bytes), length-drop 12 bytes, c.requires.some)
+
+pub accept_data-requires-clause-fits : goal.accept_data-requires-clause-fits
+accept_data-requires-clause-fits c = c.requires.whole.1.fits
 
 pub returns-clause-effect : goal.returns-clause-effect
 returns-clause-effect c tag w =
-    let part = ap (λ l. slice_range l 12 (12 + c.args.size)) c.whole-transfer.ensures ∙ part_of (whole_of c.args.self.now) c.args.size (12 + c.args.size) refl in
-    effect_is c.args.seqnum _ c.args.self.now c.accept_part.new.self c.notice.new.self c.clear.new.self c.clear.ensures
-    (message_is c.args.seqnum tag c.args.size c.args.eom (whole_of c.args.self.now) _ (record (state_of c.args.self.now) { transfer = None }) _ w.text part
-    (λ transfer tag size. c.accept_part.ensures.takes_effect (record (state_of c.args.self.now) { transfer = None }) transfer tag size (record { part = refl; waiting = refl; log = refl; standing = refl })))
-    (c.notice.ensures c.args.self.now.exchange.held.standing c.accept_part.new.self.held.standing c.status-before.ensures c.status.ensures)
+    let old = c.args.self.now in
+    effect_is c.args.seqnum _ old c.accept_data.new.exchange c.notice.new.self c.clear.new.self c.clear.ensures
+    (c.accept_data.ensures (record (state_of old) { transfer = None }) (record { header = Message tag c.args.size c.args.eom; taken = whole_of old }) tag c.args.size
+    (record { part = refl; waiting = refl; log = refl; standing = refl }) refl w.text)
+    (c.notice.ensures old.exchange.held.standing c.accept_data.new.exchange.held.standing c.status-before.ensures c.status.ensures)

@@ -13,7 +13,7 @@ returns c =
     c.extend_reserved-2.new.self.items c.requires.empty header refl refl c.extend_reserved.ensures.items c.give.ensures.given c.extend_reserved-2.ensures.items in
     quiet (Begin c.args.count) _ _ (is_plugged c.args.self.now.unplugged c.requires.ready.plugged) (
       begins c.args.self.now c.args.tag c.args.count c.requires.owed.0 c.give.new.self c.notice.new.self c.send.new.self c.extend_reserved-2.new.self.items
-          c.requires.owed.1 c.requires.no_abort c.requires.some c.requires.owed.2 c.requires.unread c.send.ensures bytes c.give.ensures.took
+          c.requires.owed.1 c.requires.no_abort c.requires.some c.requires.owed.2 c.requires.unread c.send.ensures bytes c.give.ensures.took c.give.ensures.coming
           (c.notice.ensures c.args.self.now.exchange.held.standing c.give.new.self.held.standing c.status-before.ensures c.status.ensures),
       refl,
     ) refl

@@ -11,7 +11,7 @@ pub returns : goal.returns
 returns c =
     let ran : (s : State) → Holds s c.args.self.now.exchange.held → Executes s (led_to s c.run.new.self.held) =
     on_ok ((s : State) → Holds s c.args.self.now.exchange.held → Executes s (led_to s c.run.new.self.held)) c.run.result (cc) c.run.ensures.executes in
-    let is = logged c.args.self.now c.run.new.self c.notice.new.self
+    let is = logged c.args.self.now c.run.new.self c.notice.new.self c.run.ensures.coming
     (c.notice.ensures c.args.self.now.exchange.held.standing c.run.new.self.held.standing c.status-before.ensures c.status.ensures) in
     let plugged = is_plugged c.args.self.now.unplugged c.requires.plugged in (
       search rules,

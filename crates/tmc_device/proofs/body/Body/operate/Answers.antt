@@ -5,6 +5,7 @@ use Rattle.tmc_law.specs.Aborts.{Served}
 use Rattle.tmc_law.specs.Class.{Operates, DoesOperate}
 use Rattle.msg_exchange.specs.Held.{led_to}
 use Rattle.tmc_device.specs.Body.{state_of}
+use Rattle.tmc_device.proofs.Making.{logged}
 use Rattle.tmc_device.proofs.Logged.{own}
 use Rattle.tmc_device.proofs.body.Body.operate.Goals as goal
 
@@ -28,5 +29,6 @@ returns c = λ submit behind first.
       served = served;
       serves = subst (λ (z : State). Operates c.args.act z served) replied.state (DoesOperate to (c.remote.ensures.changes (state_of mid) (own mid)) refl);
       joins = replied.puts;
-      is = ap (λ (p : List Packet). record to { packets = p }) (c.notice.ensures mid.exchange.held.standing c.remote.new.self.held.standing c.status-before.ensures c.status.ensures);
+      is = logged mid c.remote.new.self c.notice.new.self c.remote.ensures.coming
+          (c.notice.ensures mid.exchange.held.standing c.remote.new.self.held.standing c.status-before.ensures c.status.ensures);
     }

@@ -2,6 +2,7 @@ use Rattle.std.proofs.Common.{◌<◌, ◌∙◌, sym, ap, subst, ℕ, List, [],
 use Rattle.tmc_law.specs.State.{Packet, StatusPacket}
 use Rattle.tmc_law.specs.Status.{DoesPoll}
 use Rattle.msg_exchange.specs.Held.{led_to}
+use Rattle.tmc_device.specs.Parts.{transfer_of}
 use Rattle.tmc_device.specs.Body.{state_of}
 use Rattle.tmc_device.proofs.Queueing.{place_behind_service}
 use Rattle.tmc_device.proofs.Logged.{own}
@@ -20,7 +21,8 @@ returns-clause-polls c =
     let to = led_to (state_of old) c.poll-byte.new.self.held in
     let noticed = c.notice.ensures old.exchange.held.standing c.poll-byte.new.self.held.standing c.status-before.ensures c.status.ensures in
     DoesPoll to (c.poll-byte.ensures.polls (state_of old) (own old))
-    (ap (λ (p : List Packet). record to { packets = p })
+    (ap (λ (l : List ℕ). record to { transfer = transfer_of old.transfer l; packets = c.push_status.new.self }) c.poll-byte.ensures.coming
+    ∙ ap (λ (p : List Packet). record to { packets = p })
     (c.push_status.ensures
     ∙ (ap (λ (p : List Packet). p ++ StatusPacket c.args.tag c.poll-byte.result ∷ []) noticed
     ∙ ap (λ (b : ℕ). to.packets ++ StatusPacket c.args.tag b ∷ []) c.poll-byte.ensures.byte)))
