@@ -78,7 +78,7 @@ still_imported took answered old new was (Failed rs front rest f is still good b
 pub works_imported : (a x : List ℕ) (old new : Seen) → old.imported ≡ true → Works a x old new → new.imported ≡ true
 works_imported a x old new was works = still_imported works.took works.answered old new was works.taken
 
-serves_more : (a b x y : List ℕ) (old mid new : Seen) → Serves a x old mid → Serves b y mid new → Serves (a ++ b) (x ++ y) old new
+pub serves_more : (a b x y : List ℕ) (old mid new : Seen) → Serves a x old mid → Serves b y mid new → Serves (a ++ b) (x ++ y) old new
 serves_more a b x y old mid new first second = record {
   run = first.run ++ second.run;
   goes = runs_more first.run second.run (standing old) (standing mid) (standing new) first.goes second.goes;
