@@ -123,19 +123,17 @@ moves_calm s event.FailSend old new is goes calm = absurd goes
 moves_calm s event.FailPoll old new is goes calm = absurd goes
 moves_calm s event.Rest old new is goes calm = absurd goes
 
-AllCalm : List Event → Type 0
+abbrev AllCalm : List Event → Type 0
 AllCalm [] = Unit {0}
 AllCalm (first ∷ others) = IsCalmEvent first × AllCalm others
 
 first_calm : (s : Setting) (move : Event) (events : List Event) (world : Worldly) → AllCalm events → IsFirstOpen s move events world → IsCalmEvent move
-unfolding AllCalm
 first_calm s move [] world all first = absurd first
 first_calm s move (first ∷ others) world all (inl is) = subst IsCalmEvent (sym is.0) all.0
 first_calm s move (first ∷ others) world all (inr later) = first_calm s move others world all.1 later.1
 
 moves_are_calm : AllCalm moves
-unfolding AllCalm
-moves_are_calm = (tt, tt, tt, tt, tt, tt, tt, tt, tt)
+moves_are_calm = (tt, (tt, (tt, (tt, (tt, (tt, (tt, (tt, tt))))))))
 
 rests_calm : (s : Setting) (made : List Event) (old new : Worldly) → RestsBy s made old new → AreCalmActs old.link.acts → AreCalmActs new.link.acts
 rests_calm s [] old new rests calm = calm_of old new (ap (λ (w : Worldly). w.link.acts) rests.2) calm
