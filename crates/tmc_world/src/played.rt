@@ -38,7 +38,7 @@ pub(crate) struct Played {
     pub(crate) taken: Vec<u8>,
     /// The response of ticket 1.
     pub(crate) response: Vec<u8>,
-    /// The outcome of each ticket, and the length of its response.
+    /// The outcome of each of the first three tickets, and the length of its response.
     pub(crate) outcomes: Vec<(Outcome, usize)>,
     pub(crate) end: Option<End>,
     /// How many entries the log has.
@@ -65,11 +65,22 @@ const STEPS: [DevEvent; 6] = [
 /// A world of first number and depth 1 goes through these rows.
 pub(crate) fn play(alloc: Global, rows: &[Row<'_>]) -> Result<Played, Memory> {
     let mut world = World::new(alloc, 1, 1)?;
+    play_in(alloc, &mut world, rows)
+}
+
+/// A world goes through these rows, and shows what became of it.
+fn play_in(alloc: Global, world: &mut World, rows: &[Row<'_>]) -> Result<Played, Memory> {
+    let answers = answers_of(alloc, world, rows)?;
+    shown(alloc, world, answers)
+}
+
+/// What became of each row.
+fn answers_of(alloc: Global, world: &mut World, rows: &[Row<'_>]) -> Result<Vec<Applied>, Memory> {
     let mut answers = Vec::new(alloc);
     for row in rows {
-        answers.push(goes(alloc, &mut world, *row)?)?;
+        answers.push(goes(alloc, world, *row)?)?;
     }
-    shown(alloc, world, answers)
+    Ok(answers)
 }
 
 /// The event of a row.
@@ -113,31 +124,47 @@ fn goes(alloc: Global, world: &mut World, row: Row<'_>) -> Result<Applied, Memor
 }
 
 /// What the world shows.
-fn shown(alloc: Global, mut world: World, answers: Vec<Applied>) -> Result<Played, Memory> {
-    let mut played = Played {
+fn shown(alloc: Global, world: &mut World, answers: Vec<Applied>) -> Result<Played, Memory> {
+    let sent = copied(alloc, world.hub().link().sent())?;
+    let taken = copied(alloc, world.hub().link().taken())?;
+    let response = response_of(alloc, world)?;
+    let outcomes = outcomes_of(alloc, world)?;
+    Ok(Played {
         answers,
-        sent: Vec::new(alloc),
-        taken: Vec::new(alloc),
-        response: Vec::new(alloc),
-        outcomes: Vec::new(alloc),
+        sent,
+        taken,
+        response,
+        outcomes,
         end: world.hub().end(),
         entries: world.log().entries().len(),
         turned: world.hub().turned(),
-        still: false,
-    };
-    played.sent.extend_from_slice(world.hub().link().sent())?;
-    played.taken.extend_from_slice(world.hub().link().taken())?;
+        still: is_still(world),
+    })
+}
+
+fn copied(alloc: Global, bytes: &[u8]) -> Result<Vec<u8>, Memory> {
+    let mut copy = Vec::new(alloc);
+    copy.extend_from_slice(bytes)?;
+    Ok(copy)
+}
+
+/// The response of ticket 1. Where there is no such ticket, it is empty.
+fn response_of(alloc: Global, world: &World) -> Result<Vec<u8>, Memory> {
+    match world.hub().outcome(1) {
+        Some(view) => copied(alloc, view.bytes),
+        None => Ok(Vec::new(alloc)),
+    }
+}
+
+/// The outcomes of the first three tickets.
+fn outcomes_of(alloc: Global, world: &World) -> Result<Vec<(Outcome, usize)>, Memory> {
+    let mut outcomes = Vec::new(alloc);
     for ticket in 1..4 {
-        let Some(view) = world.hub().outcome(ticket) else {
-            break;
-        };
-        played.outcomes.push((view.outcome, view.bytes.len()))?;
-        if ticket == 1 {
-            played.response.extend_from_slice(view.bytes)?;
+        if let Some(view) = world.hub().outcome(ticket) {
+            outcomes.push((view.outcome, view.bytes.len()))?;
         }
     }
-    played.still = is_still(&mut world);
-    Ok(played)
+    Ok(outcomes)
 }
 
 /// Whether no move is enabled; else one was made.
