@@ -8,10 +8,12 @@ use Rattle.tmc_device.specs.Seen.{is_closed}
 use Rattle.usbip_export.specs.declared.fed.Fed.{Fed}
 use Rattle.usbip_export.specs.declared.fed.Fed.TheVariants as fed
 use Rattle.usbip_export.specs.Seen.{Seen, standing, closed_by, IsCaughtUp}
-use Rattle.usbip_export.specs.Serving.{Works}
+use Rattle.usbip_export.specs.Serving.{Works, WorksBy}
+use Rattle.usbip_export.specs.Steps.{AreArrivals}
 use Rattle.usbip_export.specs.Events.{Drives}
 use Rattle.tmc_world.specs.Crossing.{Crossing, IsOpen, IsShut, IsSound, HasFed, Hears}
-use Rattle.tmc_world.proofs.Joining.{works_imported, works_on, stays_shut, was_open}
+use Rattle.tmc_world.proofs.Joining.{works_imported, stays_shut, was_open}
+use Rattle.tmc_world.proofs.Quiet.{arrivals_on}
 
 pub open_shut : (node : Seen) → IsOpen node → IsShut node → ⊥
 open_shut node opened shut = clash (sym shut ∙ opened) where
@@ -59,18 +61,18 @@ sound_on old new sound works sent fed spelled = record {
 }
 
 -- the node was fed these bytes, or none
-pub hears_on : (bytes : List ℕ) (old mid new : Seen) (late spelled : Bool) → old.imported ≡ true → (IsOpen old → Works bytes [] old mid)
-    → (IsShut old → mid ≡ old) → Works [] [] mid new → (spelled ≡ true → IsOpen new → IsCaughtUp new) → late ≡ not spelled → Hears bytes old new late
+pub hears_on : (bytes : List ℕ) (old mid new : Seen) (late spelled : Bool) → old.imported ≡ true → (IsOpen old → WorksBy AreArrivals bytes [] old mid)
+    → (IsShut old → mid ≡ old) → WorksBy AreArrivals [] [] mid new → (spelled ≡ true → IsOpen new → IsCaughtUp new) → late ≡ not spelled → Hears bytes old new late
 hears_on bytes old mid new late spelled was works same rest caught is = record {
-  opened = λ opened. works_on bytes old mid new was (works opened) rest;
-  shut = λ shut. subst (λ (s : Seen). Works [] [] s new) (same shut) rest;
+  opened = λ opened. arrivals_on bytes old mid new was (works opened) rest;
+  shut = λ shut. subst (λ (s : Seen). WorksBy AreArrivals [] [] s new) (same shut) rest;
   caught_up = λ unlate opened. caught (not_false spelled (sym is ∙ unlate)) opened;
 }
 
 pub sound_sent : (bytes : List ℕ) (old new : Crossing) (shut : Bool) → IsSound old → Hears bytes old.node new.node new.late → shut ≡ is_closed (standing old.node).presence
     → new.sent ≡ old.sent ++ bytes → new.fed ≡ (if shut then old.fed else length new.sent) → (new.late ≡ false → new.node.puts ≡ []) → IsSound new
 sound_sent bytes old new true sound hears is sent fed spelled =
-    let works = hears.shut (sym is) in
+    let works = (hears.shut (sym is)).works in
     let still = stays_shut [] [] old.node new.node sound.imported works (sym is) in
     record {
       imported = works_imported [] [] old.node new.node sound.imported works;
@@ -79,7 +81,7 @@ sound_sent bytes old new true sound hears is sent fed spelled =
       spelled = spelled;
     }
 sound_sent bytes old new false sound hears is sent fed spelled = record {
-  imported = works_imported bytes [] old.node new.node sound.imported (hears.opened (sym is));
+  imported = works_imported bytes [] old.node new.node sound.imported (hears.opened (sym is)).works;
   within = omega (arith, fed);
   opened = λ _. fed;
   spelled = spelled;

@@ -53,7 +53,7 @@ spelled_more p q mid new x y first second = record {
 
 -- ---- an imported node
 
-pub serves_of : (took answered : List ℕ) (old new : Seen) → old.imported ≡ true → TakenIn took answered old new → Serves took answered old new
+unfoldable pub serves_of : (took answered : List ℕ) (old new : Seen) → old.imported ≡ true → TakenIn took answered old new → Serves took answered old new
 serves_of took answered old new was (Served is still serves) = serves
 serves_of took answered old new was (Asked rs is still same row none says untouched) = absurd (clash (sym was ∙ is)) where
   clash : true ≡ false → ⊥
@@ -78,7 +78,7 @@ still_imported took answered old new was (Failed rs front rest f is still good b
 pub works_imported : (a x : List ℕ) (old new : Seen) → old.imported ≡ true → Works a x old new → new.imported ≡ true
 works_imported a x old new was works = still_imported works.took works.answered old new was works.taken
 
-serves_more : (a b x y : List ℕ) (old mid new : Seen) → Serves a x old mid → Serves b y mid new → Serves (a ++ b) (x ++ y) old new
+unfoldable pub serves_more : (a b x y : List ℕ) (old mid new : Seen) → Serves a x old mid → Serves b y mid new → Serves (a ++ b) (x ++ y) old new
 serves_more a b x y old mid new first second = record {
   run = first.run ++ second.run;
   goes = runs_more first.run second.run (standing old) (standing mid) (standing new) first.goes second.goes;
@@ -89,7 +89,7 @@ serves_more a b x y old mid new first second = record {
       (spelled_more (old.puts ++ outputs first.run) (outputs second.run) mid.puts new.puts x y first.spelled second.spelled));
 }
 
-pub works_then : (a b x y : List ℕ) (old mid new : Seen) → old.imported ≡ true → Works a x old mid → Works b y mid new → Works (a ++ b) (x ++ y) old new
+unfoldable pub works_then : (a b x y : List ℕ) (old mid new : Seen) → old.imported ≡ true → Works a x old mid → Works b y mid new → Works (a ++ b) (x ++ y) old new
 works_then a b x y old mid new was first second = record {
   took = first.took ++ second.took;
   answered = first.answered ++ second.answered;
@@ -114,7 +114,7 @@ pub works_on : (a : List ℕ) (old mid new : Seen) → old.imported ≡ true →
 works_on a old mid new was first second =
     subst (λ (l : List ℕ). Works l [] old new) (append-nil a) (works_then a [] [] [] old mid new was first second)
 
-pub no_works : (old : Seen) → old.imported ≡ true → Works [] [] old old
+unfoldable pub no_works : (old : Seen) → old.imported ≡ true → Works [] [] old old
 no_works old was = record {
   took = [];
   answered = [];

@@ -21,7 +21,8 @@ use Rattle.event_text.specs.declared.event.Event.TheVariants as event
 use Rattle.tmc_world.specs.declared.applied.Applied.{Applied}
 use Rattle.tmc_world.specs.declared.applied.Applied.TheVariants as applied
 use Rattle.tmc_world.specs.declared.loop_act.LoopAct.TheVariants as act
-use Rattle.tmc_world.specs.LoopLink.{Looped, CatchesUp, ActEnds, Tends}
+use Rattle.usbip_export.specs.Steps.{AreArrivals}
+use Rattle.tmc_world.specs.LoopLink.{Looped, HasMoved, CatchesUp, ActEnds, Tends}
 use Rattle.tmc_world.specs.World.{Worldly, IsBehind, begun, counted, setting_of, tells}
 use Rattle.tmc_world.specs.WorldSteps.{Asks, GivesUp, Steps}
 use Rattle.tmc_world.specs.WorldEvents.{LeadsTo, Wants, applied_ask, applied_step}
@@ -120,8 +121,13 @@ record Stays (old new : Looped) : Type 0 where
   sent : new.sent ≡ old.sent
   taken : new.taken ≡ old.taken
 
-stays : (old new : Looped) → new ≡ record old { node = new.node; run = new.run; late = new.late } → Stays old new
-stays old new is = record { pace = ap (λ (l : Looped). l.pace) is; wants = ap (λ (l : Looped). l.wants) is; sent = ap (λ (l : Looped). l.sent) is; taken = ap (λ (l : Looped). l.taken) is }
+moved_stays : (old new : Looped) → HasMoved AreArrivals old new → Stays old new
+moved_stays old new moved = record {
+  pace = ap (λ (l : Looped). l.pace) moved.is;
+  wants = ap (λ (l : Looped). l.wants) moved.is;
+  sent = ap (λ (l : Looped). l.sent) moved.is;
+  taken = ap (λ (l : Looped). l.taken) moved.is;
+}
 
 same_stays : (old new : Looped) → new ≡ old → Stays old new
 same_stays old new is = record { pace = ap (λ (l : Looped). l.pace) is; wants = ap (λ (l : Looped). l.wants) is; sent = ap (λ (l : Looped). l.sent) is; taken = ap (λ (l : Looped). l.taken) is }
@@ -130,11 +136,16 @@ then_stays : (old mid new : Looped) → Stays old mid → Stays mid new → Stay
 then_stays old mid new a b = record { pace = b.pace ∙ a.pace; wants = b.wants ∙ a.wants; sent = b.sent ∙ a.sent; taken = b.taken ∙ a.taken }
 
 catching_stays : (late : Bool) (old ready : Looped) → CatchesUp late old ready → Stays old ready
-catching_stays true old ready (moved, l) = stays old ready moved.is
+catching_stays true old ready (moved, l) = moved_stays old ready moved
 catching_stays false old ready is = same_stays old ready is
 
 act_stays : (does : DevEvent) (old : Looped) (step : TendStep) (new : Looped) → ActEnds does old step new → Stays old new
-act_stays does old tend.Did new a = stays old new a.is
+act_stays does old tend.Did new a = record {
+  pace = ap (λ (l : Looped). l.pace) a.is;
+  wants = ap (λ (l : Looped). l.wants) a.is;
+  sent = ap (λ (l : Looped). l.sent) a.is;
+  taken = ap (λ (l : Looped). l.taken) a.is;
+}
 act_stays does old tend.NotNow new a = same_stays old new a.is
 act_stays does old tend.Memory new a = same_stays old new a.is
 
@@ -142,7 +153,7 @@ tend_stays : (does : DevEvent) (old : Looped) (step : TendStep) (new : Looped) �
 tend_stays does old tend.Did new t = then_stays old t.ready new (catching_stays old.late old t.ready t.catches) (act_stays does t.ready tend.Did new t.ends)
 tend_stays does old tend.NotNow new t = then_stays old t.ready new (catching_stays old.late old t.ready t.catches) (act_stays does t.ready tend.NotNow new t.ends)
 tend_stays does old tend.Memory new (inl t) = then_stays old t.ready new (catching_stays old.late old t.ready t.catches) (act_stays does t.ready tend.Memory new t.ends)
-tend_stays does old tend.Memory new (inr t) = stays old new t.moved.is
+tend_stays does old tend.Memory new (inr t) = moved_stays old new t.moved
 
 behind_stays : (first depth : ℕ) (old : Worldly) (link : Looped) (new : HubParts Looped) → link ≡ old.link → Stays link new.link → IsBehind first depth old (record { link = link; core = new.core })
     → Behind tells counted (tells begun.link) (setting_of first depth) old.past old.link.sent old.link.taken new

@@ -1,4 +1,5 @@
 pub mod Joining
+pub mod Quiet
 pub mod Feeding
 pub mod Following
 pub mod Moving
@@ -18,3 +19,4 @@ pub mod Passing
 pub mod Late
 pub mod Facts
 pub mod Keeping
+pub mod Calming

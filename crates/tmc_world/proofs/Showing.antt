@@ -10,22 +10,27 @@ use Rattle.tmc_base.specs.declared.link.TendStep.{TendStep}
 use Rattle.tmc_base.specs.declared.link.TendStep.TheVariants as tend
 use Rattle.tmc_base.specs.Link.{Counts, took_count, got_count, SendsWithin}
 use Rattle.tmc_base.specs.Told.{Peer, WentOut, CameIn, Fits, in_bytes, out_bytes}
+use Rattle.tmc_law.specs.State.{start}
 use Rattle.tmc_law.specs.Run.{Entry, Runs, IsFront}
+use Rattle.host_joint.specs.Tie.{IsUndisturbed}
 use Rattle.usbip_export.specs.Seen.{standing}
+use Rattle.usbip_export.specs.Steps.{AreArrivals, AreCalming}
 use Rattle.tmc_world.specs.declared.pace.Pace.{Pace}
 use Rattle.tmc_world.specs.declared.pace.Pace.TheVariants.{Calm, Paced}
 use Rattle.tmc_law.specs.declared.dev_event.DevEvent.{DevEvent}
 use Rattle.tmc_world.specs.declared.loop_act.LoopAct.{LoopAct}
 use Rattle.tmc_world.specs.declared.loop_act.LoopAct.TheVariants as act
+use Rattle.tmc_world.specs.Calm.{IsQuiet}
 use Rattle.tmc_world.specs.Crossing.{Crossing}
 use Rattle.tmc_world.specs.Telling.{IsTelling}
 use Rattle.tmc_world.specs.Pacing.{send_room}
+use Rattle.tmc_world.proofs.Following.{tells_any, tells_as}
 use Rattle.tmc_world.proofs.Moving.{shown}
 use Rattle.tmc_world.specs.LoopLink.{Looped, IsTold, Sends, Polls, Tends, HasMoved, Readies, MayHaveMoved, CatchesUp, ActEnds, ActGoes}
 
-pub telling_told : (pace : Pace) (send_fails poll_fails wants : Bool) (counts : Counts) (run : List RunStep) (now : Crossing) → IsTelling run now
-    → IsTold (shown pace send_fails poll_fails wants counts run now)
-telling_told pace send_fails poll_fails wants counts run now telling =
+pub telling_told : (pace : Pace) (send_fails poll_fails wants : Bool) (counts : Counts) (acts : List DevEvent) (run : List RunStep) (now : Crossing)
+    → IsTelling acts run now → IsTold (shown pace send_fails poll_fails wants counts acts run now)
+telling_told pace send_fails poll_fails wants counts acts run now telling =
     let follows = telling.follows in
     record {
       imported = telling.sound.imported;
@@ -39,7 +44,8 @@ telling_told pace send_fails poll_fails wants counts run now telling =
         outputs = follows.taken;
       };
       state = follows.state;
-      leads = follows.leads;
+      leads = tells_any (IsQuiet acts) run start follows.state follows.leads;
+      calm = λ calm. tells_as (IsQuiet acts) IsUndisturbed (λ es quiet. quiet calm) run start follows.state follows.leads;
       later = follows.later;
       goes = follows.goes;
       stands = λ unlate. sym (subst (λ (es : List Entry). Runs follows.state es (standing now.node)) (telling.none_later unlate) follows.goes);
@@ -109,8 +115,8 @@ record IsReady (old ready : Looped) : Type 0 where
   taken : ready.taken ≡ old.taken
   tells : IsFront old.run ready.run
 
-moved_ready : (old new : Looped) → HasMoved old new → IsReady old new
-moved_ready old new moved = record { sent = ap (λ (l : Looped). l.sent) moved.is; taken = ap (λ (l : Looped). l.taken) moved.is; tells = moved.tells }
+moved_ready : (Only : List Entry → Type 0) (old new : Looped) → HasMoved Only old new → IsReady old new
+moved_ready Only old new moved = record { sent = ap (λ (l : Looped). l.sent) moved.is; taken = ap (λ (l : Looped). l.taken) moved.is; tells = moved.tells }
 
 same_ready : (old new : Looped) → new ≡ old → IsReady old new
 same_ready old new is = record {
@@ -120,13 +126,13 @@ same_ready old new is = record {
 }
 
 ready_of : (pace : Pace) (late : Bool) (old ready : Looped) → Readies pace late old ready → IsReady old ready
-ready_of Calm late old ready readies = moved_ready old ready readies.0
-ready_of (Paced rooms) true old ready readies = moved_ready old ready readies
+ready_of Calm late old ready readies = moved_ready AreCalming old ready readies.0
+ready_of (Paced rooms) true old ready readies = moved_ready AreArrivals old ready readies
 ready_of (Paced rooms) false old ready readies = same_ready old ready readies
 
 wants_ready : (pace : Pace) (late : Bool) (old new : Looped) → MayHaveMoved pace late old new → IsReady old new
-wants_ready Calm late old new moved = moved_ready old new moved
-wants_ready (Paced rooms) true old new moved = moved_ready old new moved
+wants_ready Calm late old new moved = moved_ready AreCalming old new moved
+wants_ready (Paced rooms) true old new moved = moved_ready AreArrivals old new moved
 wants_ready (Paced rooms) false old new is = same_ready old new is
 
 ready_front : (old ready new : Looped) → IsReady old ready → new.run ≡ ready.run → IsFront old.run new.run
@@ -195,7 +201,7 @@ ready_then old ready new first second = record {
 }
 
 catches_ready : (late : Bool) (old ready : Looped) → CatchesUp late old ready → IsReady old ready
-catches_ready true old ready catches = moved_ready old ready catches.0
+catches_ready true old ready catches = moved_ready AreArrivals old ready catches.0
 catches_ready false old ready is = same_ready old ready is
 
 ends_ready : (event : DevEvent) (ready : Looped) (step : TendStep) (new : Looped) → ActEnds event ready step new → IsReady ready new
@@ -212,7 +218,7 @@ tends_ready : (old new : Looped) (what : LoopAct) (step : TendStep) → Tends ol
 tends_ready old new (act.Dev event) tend.Did goes = act_ready event old tend.Did new goes
 tends_ready old new (act.Dev event) tend.NotNow goes = act_ready event old tend.NotNow new goes
 tends_ready old new (act.Dev event) tend.Memory (inl goes) = act_ready event old tend.Memory new goes
-tends_ready old new (act.Dev event) tend.Memory (inr late) = moved_ready old new late.moved
+tends_ready old new (act.Dev event) tend.Memory (inr late) = moved_ready AreArrivals old new late.moved
 tends_ready old new (act.RoomSend room) tend.Did is =
     record { sent = ap (λ (l : Looped). l.sent) is; taken = ap (λ (l : Looped). l.taken) is; tells = none_more old new (ap (λ (l : Looped). l.run) is) }
 tends_ready old new (act.RoomPoll room) tend.Did is =

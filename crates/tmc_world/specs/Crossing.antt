@@ -2,7 +2,8 @@
 use Rattle.std.specs.Prelude.{◌≡◌, ℕ, ◌-◌, ◌≤◌, Bool, true, false, List, [], ◌++◌, length, take}
 use Rattle.tmc_device.specs.Seen.{is_closed}
 use Rattle.usbip_export.specs.Seen.{Seen, begun, standing, IsCaughtUp}
-use Rattle.usbip_export.specs.Serving.{Works}
+use Rattle.usbip_export.specs.Serving.{WorksBy}
+use Rattle.usbip_export.specs.Steps.{AreArrivals}
 
 pub record Crossing : Type 0 where
   pub node : Seen
@@ -49,9 +50,9 @@ heard crossing = before crossing.node.kept (take crossing.fed crossing.sent)
 abbrev pub said : Crossing → List ℕ
 said crossing = crossing.taken ++ crossing.node.out
 
--- A node was fed these bytes, where it is open; a closed one takes nothing in. Unless memory is wanting, no whole message
--- waits then.
+-- A node was fed these bytes, where it is open; a closed one takes nothing in. Its instrument makes no step but what arrives. Unless
+-- memory is wanting, no whole message waits then.
 pub record Hears (bytes : List ℕ) (old new : Seen) (late : Bool) : Type 0 where
-  pub opened : IsOpen old → Works bytes [] old new
-  pub shut : IsShut old → Works [] [] old new
+  pub opened : IsOpen old → WorksBy AreArrivals bytes [] old new
+  pub shut : IsShut old → WorksBy AreArrivals [] [] old new
   pub caught_up : late ≡ false → IsOpen new → IsCaughtUp new

@@ -1,3 +1,4 @@
+pub mod Calm
 pub mod Counting
 pub mod Pacing
 pub mod Crossing

@@ -1,5 +1,5 @@
 -- a loop link: what contracts see of it, how each of its calls goes, and what it tells
-use Rattle.std.specs.Prelude.{◌≡◌, ◌⊎◌, ℕ, ◌<◌, min, Bool, true, false, List, [], ◌++◌, length, take, drop}
+use Rattle.std.specs.Prelude.{◌≡◌, ◌⊎◌, ℕ, ◌<◌, min, Bool, true, false, List, [], ◌∷◌, ◌++◌, length, take, drop}
 use Rattle.tmc_base.specs.declared.run_step.RunStep.{RunStep}
 use Rattle.tmc_base.specs.declared.link.SendStep.{SendStep}
 use Rattle.tmc_base.specs.declared.link.SendStep.TheVariants as send
@@ -10,18 +10,21 @@ use Rattle.tmc_base.specs.declared.link.TendStep.TheVariants as tend
 use Rattle.tmc_base.specs.Link.{Counts}
 use Rattle.tmc_base.specs.Told.{Fits, in_bytes, out_bytes}
 use Rattle.tmc_law.specs.declared.dev_event.DevEvent.{DevEvent}
-use Rattle.tmc_law.specs.State.{State}
+use Rattle.tmc_law.specs.State.{State, start}
 use Rattle.tmc_law.specs.Run.{Entry, Runs, IsFront}
 use Rattle.tmc_law.specs.Told.{ToldFromStart}
 use Rattle.tmc_device.specs.Events.{NoneLawful}
+use Rattle.host_joint.specs.Joint.{TellsCalmly}
 use Rattle.usbip_export.specs.Identity.{devid}
 use Rattle.usbip_export.specs.Seen.{Seen, begun, standing}
-use Rattle.usbip_export.specs.Serving.{Works}
+use Rattle.usbip_export.specs.Serving.{WorksBy}
+use Rattle.usbip_export.specs.Steps.{AreArrivals, AreCalming}
 use Rattle.usbip_export.specs.Events.{Drives, IsDue, IsCalm}
 use Rattle.tmc_world.specs.declared.pace.Pace.{Pace}
 use Rattle.tmc_world.specs.declared.pace.Pace.TheVariants.{Calm, Paced}
 use Rattle.tmc_world.specs.declared.loop_act.LoopAct.{LoopAct}
 use Rattle.tmc_world.specs.declared.loop_act.LoopAct.TheVariants as act
+use Rattle.tmc_world.specs.Calm.{AreCalmActs}
 use Rattle.tmc_world.specs.Counting.{uncounted, one_fault, one_idle, one_closing}
 use Rattle.tmc_world.specs.Pacing.{send_room, poll_room, send_shut, poll_shut, with_send_room, with_poll_room, NoSendRoom, NoPollRoom}
 use Rattle.tmc_world.specs.Crossing.{IsOpen, IsShut, Hears}
@@ -36,6 +39,8 @@ pub record Looped : Type 0 where
   pub node : Seen
   pub sent : List ℕ
   pub taken : List ℕ
+  -- the acts by which the instrument made its steps, in order
+  pub acts : List DevEvent
   -- the run that it tells
   pub run : List RunStep
   -- whether something in the node waits for memory, so that what the instrument did last is not told yet
@@ -52,6 +57,7 @@ begun_loop pace = record {
   node = begun true;
   sent = [];
   taken = [];
+  acts = [];
   run = [];
   late = false;
   counts = uncounted;
@@ -59,12 +65,13 @@ begun_loop pace = record {
 
 -- What a link tells: a lawful run from power-on, which fits the bytes sent and taken. It led the instrument to where it is;
 -- only while answers wait for memory may it stand behind, by a lawful run. All that was sent to an open node was taken in or
--- is kept, and what was put out was taken or is pending.
+-- is kept, and what was put out was taken or is pending. Where each act was calm, nothing disturbed the run.
 pub record IsTold (link : Looped) : Type 0 where
   pub imported : link.node.imported ≡ true
   pub fits : Fits link.sent link.taken link.run
   pub state : State
   pub leads : ToldFromStart devid link.run state
+  pub calm : AreCalmActs link.acts → TellsCalmly devid start link.run state
   pub later : List Entry
   pub goes : Runs state later (standing link.node)
   pub stands : link.late ≡ false → state ≡ standing link.node
@@ -132,17 +139,17 @@ pub record PollShut (old new : Looped) : Type 0 where
   pub shut : NoPollRoom old.pace
   pub is : new ≡ record old { counts = one_idle old.counts }
 
--- the node moved on, and what it did is told as far as it is spelled
-pub record HasMoved (old new : Looped) : Type 0 where
-  pub works : Works [] [] old.node new.node
+-- the node moved on by such steps of its instrument and no others, and what it did is told as far as it is spelled
+pub record HasMoved (Only : List Entry → Type 0) (old new : Looped) : Type 0 where
+  pub works : WorksBy Only [] [] old.node new.node
   pub tells : IsFront old.run new.run
   pub is : new ≡ record old { node = new.node; run = new.run; late = new.late }
 
 -- What the node does before bytes are taken from it. That of a calm link makes calm moves until none is enabled. That of a
 -- paced one is left alone; only what waits for memory is taken in and spelled.
 abbrev pub Readies : Pace → (late : Bool) → (old ready : Looped) → Type 0
-Readies Calm late old ready = HasMoved old ready × IsCalm ready.node
-Readies (Paced rooms) true old ready = HasMoved old ready
+Readies Calm late old ready = HasMoved AreCalming old ready × IsCalm ready.node
+Readies (Paced rooms) true old ready = HasMoved AreArrivals old ready
 Readies (Paced rooms) false old ready = ready ≡ old
 
 -- a poll that is not to fail, and for which there is room; each answer is spelled
@@ -193,8 +200,8 @@ pub record PollGoes (old : Looped) (size : ℕ) (step : PollStep) (bytes : List 
 -- Memory is wanting. A paced link is as before, but that some of what waits for memory may have been taken in and spelled;
 -- the node of a calm one may have made some of its moves.
 abbrev pub MayHaveMoved : Pace → (late : Bool) → (old new : Looped) → Type 0
-MayHaveMoved Calm late old new = HasMoved old new
-MayHaveMoved (Paced rooms) true old new = HasMoved old new
+MayHaveMoved Calm late old new = HasMoved AreCalming old new
+MayHaveMoved (Paced rooms) true old new = HasMoved AreArrivals old new
 MayHaveMoved (Paced rooms) false old new = new ≡ old
 
 pub record PollWants (old new : Looped) : Type 0 where
@@ -216,7 +223,7 @@ Polls old size poll.Memory bytes new = PollRefrains old new ⊎ PollWants old ne
 pub record Acts (event : DevEvent) (old new : Looped) : Type 0 where
   pub drives : Drives event old.node new.node
   pub tells : IsFront old.run new.run
-  pub is : new ≡ record old { node = new.node; run = new.run; late = new.late }
+  pub is : new ≡ record old { node = new.node; acts = old.acts ++ event ∷ []; run = new.run; late = new.late }
 
 -- the law allows no such step
 pub record IsNotNow (event : DevEvent) (old new : Looped) : Type 0 where
@@ -236,7 +243,7 @@ ActEnds event ready tend.Memory new = ActWants event ready new
 
 -- what waits for memory in the node is taken in and spelled before
 abbrev pub CatchesUp : (late : Bool) → (old ready : Looped) → Type 0
-CatchesUp true old ready = HasMoved old ready × (ready.late ≡ false)
+CatchesUp true old ready = HasMoved AreArrivals old ready × (ready.late ≡ false)
 CatchesUp false old ready = ready ≡ old
 
 pub record ActGoes (event : DevEvent) (old : Looped) (step : TendStep) (new : Looped) : Type 0 where
@@ -247,7 +254,7 @@ pub record ActGoes (event : DevEvent) (old : Looped) (step : TendStep) (new : Lo
 -- memory is still wanting for it
 pub record StaysLate (old new : Looped) : Type 0 where
   pub late : old.late ≡ true
-  pub moved : HasMoved old new
+  pub moved : HasMoved AreArrivals old new
 
 abbrev pub Tends : Looped → LoopAct → TendStep → Looped → Type 0
 Tends old (act.Dev event) tend.Did new = ActGoes event old tend.Did new

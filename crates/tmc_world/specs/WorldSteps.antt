@@ -31,6 +31,7 @@ use Rattle.tmc_law.specs.Step.{Steps as LawSteps}
 use Rattle.tmc_device.specs.Events.{Allows}
 use Rattle.usbip_export.specs.Events.{all}
 use Rattle.usbip_export.specs.Seen.{standing}
+use Rattle.tmc_world.specs.Calm.{IsCalmEvent}
 use Rattle.tmc_world.specs.Crossing.{IsShut}
 use Rattle.tmc_world.specs.LoopLink.{Looped, ActGoes, Acts, Polls, Sends}
 use Rattle.tmc_world.specs.World.{Worldly, outbox, shut}
@@ -194,3 +195,8 @@ Goes s does old (Some said) new = Steps s does old said new
 abbrev pub GoThrough : Setting → (old : Worldly) → List Answered → (new : Worldly) → Type 0
 GoThrough s old [] new = new ≡ old
 GoThrough s old (one ∷ more) new = (mid : Worldly) × Goes s one.event old one.said mid × GoThrough s mid more new
+
+-- none of them is a line `halt` or `unplug`
+abbrev pub AreCalmEvents : List Answered → Type 0
+AreCalmEvents [] = Unit {0}
+AreCalmEvents (one ∷ more) = IsCalmEvent one.event × AreCalmEvents more

@@ -12,6 +12,8 @@ mod line;
 mod loop_act;
 mod loop_link;
 mod pace;
+#[cfg(test)]
+mod played;
 mod rest;
 #[cfg(test)]
 mod rest_tests;

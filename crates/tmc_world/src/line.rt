@@ -2,7 +2,8 @@ ghost use Rattle.std.specs.Prelude.{◌≡◌, ◌≢◌, ◌≤◌, ◌++◌, [
 ghost use Rattle.tmc_device.specs.Seen.{is_closed};
 ghost use Rattle.tmc_device.specs.declared.drove.Drove.{Drove};
 ghost use Rattle.usbip_export.specs.Seen.{Seen, standing, IsCaughtUp};
-ghost use Rattle.usbip_export.specs.Serving.{Works};
+ghost use Rattle.usbip_export.specs.Serving.{WorksBy};
+ghost use Rattle.usbip_export.specs.Steps.{AreArrivals, AreCalming};
 ghost use Rattle.usbip_export.specs.Events.{Drives, IsDeclined, IsDue, IsCalm};
 ghost use Rattle.tmc_world.specs.Crossing.{uncrossed, IsOpen, IsShut, IsSound, HasFed, Hears};
 
@@ -10,7 +11,7 @@ use std::alloc::Global;
 use std::marker::Model;
 use tmc_base::Memory;
 use tmc_device::Drove;
-use usbip_export::{DevEvent, Fed, Log, Node, calls_join};
+use usbip_export::{DevEvent, Fed, Log, Node};
 
 /// A node in memory, and the bytes that crossed the link to it.
 #[derive(Drop)]
@@ -124,7 +125,7 @@ impl Line {
 
     /// Takes in and spells what waits for memory.
     pub(crate) fn catch_up(&mut self)
-        ensures works { Works [] [] self.old.node self.new.node }
+        ensures works { WorksBy AreArrivals [] [] self.old.node self.new.node }
         ensures is { self.new ≡ record self.old { node = self.new.node; late = self.new.late } }
         ensures sound { IsSound self.new }
     {
@@ -133,12 +134,11 @@ impl Line {
 
     /// Makes calm moves until none is enabled.
     pub(crate) fn calm(&mut self)
-        ensures works { Works [] [] self.old.node self.new.node }
+        ensures works { WorksBy AreCalming [] [] self.old.node self.new.node }
         ensures calm { self.new.late ≡ false → IsCalm self.new.node }
         ensures is { self.new ≡ record self.old { node = self.new.node; late = self.new.late } }
         ensures sound { IsSound self.new }
     {
-        calls_join();
         self.late = self.node.calm().is_err();
     }
 
@@ -170,7 +170,7 @@ fn fed(shut: bool, before: usize, sent: usize) -> usize
 
 /// Feeds a node. False where memory is wanting, and nothing has changed.
 fn feed(node: &mut Node, bytes: &[u8]) -> bool
-    ensures works { result ≡ true → IsOpen node.old → Works bytes.now [] node.old node.new }
+    ensures works { result ≡ true → IsOpen node.old → WorksBy AreArrivals bytes.now [] node.old node.new }
     ensures shut { IsShut node.old → node.new ≡ node.old }
     ensures caught_up { result ≡ true → node.new.wanting ≡ false → IsOpen node.new → IsCaughtUp node.new }
     ensures memory { result ≡ false → node.new ≡ node.old }
@@ -185,11 +185,10 @@ fn feed(node: &mut Node, bytes: &[u8]) -> bool
 fn spell(node: &mut Node) -> bool
     requires imported { node.old.imported ≡ true }
     requires fed { node.old.wanting ≡ false → IsOpen node.old → IsCaughtUp node.old }
-    ensures works { Works [] [] node.old node.new }
+    ensures works { WorksBy AreArrivals [] [] node.old node.new }
     ensures caught_up { result ≡ true → IsOpen node.new → IsCaughtUp node.new }
     ensures spelled { result ≡ true → node.new.puts ≡ [] }
 {
-    calls_join();
     if node.closed() {
         node.calm().is_ok()
     } else {
@@ -200,7 +199,7 @@ fn spell(node: &mut Node) -> bool
 /// Takes in and spells what waits in a node. False where memory is wanting.
 fn catch_up(node: &mut Node) -> bool
     requires imported { node.old.imported ≡ true }
-    ensures works { Works [] [] node.old node.new }
+    ensures works { WorksBy AreArrivals [] [] node.old node.new }
     ensures spelled { result ≡ true → node.new.puts ≡ [] }
 {
     if node.closed() {

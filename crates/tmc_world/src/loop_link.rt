@@ -4,6 +4,7 @@ ghost use Rattle.usbip_export.specs.Seen.{standing};
 ghost use Rattle.tmc_world.specs.declared.pace.Pace.TheVariants as pace;
 ghost use Rattle.tmc_world.specs.declared.loop_act.LoopAct.TheVariants as act;
 ghost use Rattle.usbip_export.specs.Events.{IsCalm};
+ghost use Rattle.usbip_export.specs.Steps.{AreArrivals, AreCalming};
 ghost use Rattle.tmc_world.specs.Crossing.{IsShut};
 ghost use Rattle.tmc_world.specs.LoopLink.{begun_loop, IsTold, Sends, Polls, PollEnds, Readies, MayHaveMoved, HasMoved, ActEnds, Tends};
 
@@ -16,7 +17,7 @@ use std::alloc::Global;
 use std::marker::Model;
 use tmc_base::{Link, Memory, PollStep, SendStep, TendStep};
 use tmc_device::Drove;
-use usbip_export::{DevEvent, Log, calls_join};
+use usbip_export::{DevEvent, Log};
 
 /// A link in memory that holds the instrument's node, what was sent to it and what was taken from it.
 ///
@@ -30,6 +31,8 @@ use usbip_export::{DevEvent, Log, calls_join};
 pub struct LoopLink {
     line: Line,
     history: History<Line>,
+    /// The acts by which the instrument made its steps.
+    acts: History<DevEvent>,
     pace: Pace,
     send_fails: bool,
     poll_fails: bool,
@@ -53,12 +56,13 @@ impl Model for LoopLink {
       node = a.line.node;
       sent = a.line.sent;
       taken = a.line.taken;
+      acts = a.acts.moments;
       run = told_of [] a.history.moments;
       late = a.line.late;
       counts = a.tally;
     } };
 
-    ghost invariant = { λ a. IsTelling (told_of [] a.history.moments) a.line };
+    ghost invariant = { λ a. IsTelling a.acts.moments (told_of [] a.history.moments) a.line };
 }
 
 impl LoopLink {
@@ -83,6 +87,7 @@ impl LoopLink {
         Ok(LoopLink {
             line: Line::new(alloc)?,
             history: History::new(),
+            acts: History::new(),
             pace,
             send_fails: false,
             poll_fails: false,
@@ -203,7 +208,7 @@ impl LoopLink {
 
     /// The node makes its calm moves.
     fn calm_down(&mut self)
-        ensures moved { HasMoved self.old self.new }
+        ensures moved { HasMoved AreCalming self.old self.new }
         ensures calm { self.new.late ≡ false → IsCalm self.new.node }
     {
         self.line.calm();
@@ -212,7 +217,7 @@ impl LoopLink {
 
     /// The node takes in and spells what waits for memory.
     fn catch_up(&mut self)
-        ensures moved { HasMoved self.old self.new }
+        ensures moved { HasMoved AreArrivals self.old self.new }
     {
         self.line.catch_up();
         self.history = self.history.and(&self.line);
@@ -261,10 +266,10 @@ impl LoopLink {
     fn step(&mut self, event: DevEvent) -> TendStep
         ensures ends { ActEnds event self.old result self.new }
     {
-        calls_join();
         match self.line.act(event) {
             Drove::Applied => {
                 self.history = self.history.and(&self.line);
+                self.acts = self.acts.and(&event);
                 TendStep::Did
             }
             Drove::NotEnabled => TendStep::NotNow,

@@ -1,5 +1,6 @@
 use Rattle.std.proofs.Common.{◌∙◌, sym}
-use Rattle.tmc_world.proofs.Joining.{no_works, stays_shut}
+use Rattle.tmc_world.proofs.Joining.{stays_shut}
+use Rattle.tmc_world.proofs.Quiet.{closed_arrivals, no_arrivals}
 use Rattle.tmc_world.proofs.Feeding.{open_shut}
 use Rattle.tmc_world.proofs.line.spell.Goals as goal
 
@@ -7,7 +8,12 @@ pub returns-then-closed-clause-caught_up : goal.returns-then-closed-clause-caugh
 returns-then-closed-clause-caught_up c = λ _ opened.
     absurd (open_shut c.calm.new.self opened
     (stays_shut _ _ c.args.node.now c.calm.new.self c.requires.imported
-    (c.calls_join.ensures.moves c.args.node.now c.calm.new.self c.calm.ensures.moves) (sym c.closed.ensures ∙ c.if-closed.true)))
+    (closed_arrivals c.args.node.now c.calm.new.self c.requires.imported (sym c.closed.ensures ∙ c.if-closed.true) c.calm.ensures.moves).works
+    (sym c.closed.ensures ∙ c.if-closed.true)))
+
+pub returns-then-closed-clause-works : goal.returns-then-closed-clause-works
+returns-then-closed-clause-works c =
+    closed_arrivals c.args.node.now c.calm.new.self c.requires.imported (sym c.closed.ensures ∙ c.if-closed.true) c.calm.ensures.moves
 
 pub returns-else-closed-clause-works : goal.returns-else-closed-clause-works
-returns-else-closed-clause-works c = no_works c.args.node.now c.requires.imported
+returns-else-closed-clause-works c = no_arrivals c.args.node.now c.requires.imported
