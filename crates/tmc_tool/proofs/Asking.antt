@@ -19,6 +19,7 @@ use Rattle.tmc_tool.specs.Line.{IsAsked}
 use Rattle.tmc_tool.specs.Told.{AskedOnce, Tells, asked_once}
 use Rattle.tmc_tool.specs.Going.{HasAsked, LedBy, applied_as}
 use Rattle.tmc_tool.proofs.Going.{goes_as}
+use Rattle.tmc_tool.proofs.Holding.{LeaveCalm, owns_so}
 
 not_zero : (n : ℕ) → 0 < n → eqb n 0 ≡ false
 not_zero zero some = absurd (omega (arith, some))
@@ -68,11 +69,14 @@ asked_so limit message old hub next became said within asked has rests same behi
     let done = rested leads.new last.new said (goes_as 1 1 rest leads.new last.new became said same last.goes) in
     record { new = last.new; goes = (leads.new, goes, (last.new, done, refl)); behind = last.behind }
 
-pub reported_so : (limit : ℕ) (message : List ℕ) (hub : HubParts Looped) (text : List ℕ) → LedBy 1 1 begun (asked_once limit message) hub
+pub reported_so : LeaveCalm → (limit : ℕ) (message : List ℕ) (hub : HubParts Looped) (text : List ℕ) → LedBy 1 1 begun (asked_once limit message) hub
     → ((now : Worldly) → IsBehind 1 1 now hub → Tells 1 1 now [] text) → AskedOnce limit message text
-reported_so limit message hub text led tells = record {
-  begins = record { number = omega arith; some = omega arith; most = omega arith };
-  world = led.new;
-  goes = led.goes;
-  tells = tells led.new led.behind;
-}
+reported_so leave limit message hub text led tells =
+    let told = tells led.new led.behind in
+    record {
+      begins = record { number = omega arith; some = omega arith; most = omega arith };
+      world = led.new;
+      goes = led.goes;
+      tells = told;
+      owns = owns_so leave 1 1 (asked_once limit message) led.new [] text (omega arith) led.goes told;
+    }

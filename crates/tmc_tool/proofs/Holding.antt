@@ -1,17 +1,19 @@
 -- what is told of a hub is told of the world that stands behind it
-use Rattle.std.proofs.Common.{◌≡◌, ℕ, List, [], ◌++◌, sym, ap, ◌∙◌, subst, Option}
+use Rattle.std.proofs.Common.{◌≡◌, ℕ, ◌≤◌, false, List, [], ◌++◌, sym, ap, ◌∙◌, subst, Option}
 use Rattle.host_hub.specs.declared.outcome.End.{End}
 use Rattle.host_hub.specs.Behind.{HubParts}
 use Rattle.host_hub.specs.BookSeen.{BookSeen}
 use Rattle.host_hub.specs.Hand.{ended}
+use Rattle.host_hub.specs.Order.{Setting}
 use Rattle.instr_plain.specs.declared.log.LogEntry.{LogEntry}
 use Rattle.usbip_export.specs.Seen.{standing}
 use Rattle.event_text.specs.declared.answer.EventAnswer.{EventAnswer}
 use Rattle.event_text.specs.Report.{IsReport}
-use Rattle.tmc_world.specs.LoopLink.{Looped}
-use Rattle.tmc_world.specs.World.{Worldly, IsBehind, setting_of}
-use Rattle.tmc_world.specs.WorldFacts.{WorldFacts}
-use Rattle.tmc_tool.specs.Told.{Tells}
+use Rattle.tmc_world.specs.LoopLink.{Looped, IsTold}
+use Rattle.tmc_world.specs.World.{Worldly, IsBehind, begun, setting_of}
+use Rattle.tmc_world.specs.WorldFacts.{IsCalm, WorldFacts}
+use Rattle.tmc_world.specs.WorldSteps.{Answered, AreCalmEvents, GoThrough}
+use Rattle.tmc_tool.specs.Told.{Owns, Tells}
 
 pub told_so : (first depth : ℕ) (world : Worldly) (hub : HubParts Looped) (answers : List (Option EventAnswer)) (end : Option End) (book : BookSeen) (log : List LogEntry) (sent taken old text new : List ℕ)
     → IsBehind first depth world hub → WorldFacts (setting_of first depth) world hub
@@ -34,3 +36,14 @@ told_so first depth world hub answers end book log sent taken old text new behin
           (subst (λ xs. IsReport answers end book log xs world.link.taken text) ups
           (subst (λ xs. IsReport answers end book log sent xs text) downs report)))));
     }
+
+-- events that disturb nothing leave a calm world
+abbrev pub LeaveCalm : Type 0
+LeaveCalm = (setting : Setting) (events : List Answered) (new : Worldly) → GoThrough setting begun events new → AreCalmEvents events
+    → IsTold new.link → new.link.late ≡ false → IsCalm new
+
+pub owns_so : LeaveCalm → (first depth : ℕ) (run : List Answered) (world : Worldly) (answers : List (Option EventAnswer)) (text : List ℕ) → 1 ≤ first
+    → GoThrough (setting_of first depth) begun run world → (tells : Tells first depth world answers text) → AreCalmEvents run → world.link.late ≡ false → Owns world tells.hub
+owns_so leave first depth run world answers text some goes tells are late =
+    let calm = leave (setting_of first depth) run world goes are tells.facts.told late in
+    record { owned = tells.facts.owned some calm; faultless = tells.facts.faultless some calm }

@@ -1,7 +1,8 @@
 -- what a report tells: a world behind the events of a run, and what holds in it
-use Rattle.std.specs.Prelude.{◌≡◌, ℕ, List, [], ◌∷◌, map, Option, Some}
+use Rattle.std.specs.Prelude.{◌≡◌, ℕ, false, List, [], ◌∷◌, map, Option, Some}
 use Rattle.host_hub.specs.Behind.{HubParts}
 use Rattle.host_hub.specs.Hand.{ended}
+use Rattle.host_hub.specs.Undisturbed.{AllOwned, IsFaultless}
 use Rattle.usbip_export.specs.Seen.{standing}
 use Rattle.event_text.specs.declared.answer.EventAnswer.{EventAnswer}
 use Rattle.event_text.specs.declared.answer.EventAnswer.TheVariants.{Ticket, Done}
@@ -12,7 +13,7 @@ use Rattle.event_text.specs.Report.{IsReport}
 use Rattle.tmc_world.specs.LoopLink.{Looped}
 use Rattle.tmc_world.specs.World.{Worldly, begun, setting_of}
 use Rattle.tmc_world.specs.WorldFacts.{WorldFacts}
-use Rattle.tmc_world.specs.WorldSteps.{Answered, GoThrough}
+use Rattle.tmc_world.specs.WorldSteps.{Answered, AreCalmEvents, GoThrough}
 
 -- This text is the report of the world: behind what its events answered the book of the hub that it stands behind, whether this hub runs,
 -- the log of the instrument, and the bytes that were sent and taken. What holds of each such world holds of it: the laws of the hub were
@@ -23,12 +24,19 @@ pub record Tells (first depth : ℕ) (world : Worldly) (answers : List (Option E
   pub facts : WorldFacts (setting_of first depth) world hub
   pub report : IsReport answers (ended world.past) hub.core.book (standing world.link.node).log world.link.sent world.link.taken text
 
--- from power-on these events, one after another, answered this, and led to a world that the text tells
+-- each ticket that is told has what the log gave to its own message, and what the instrument said did not end the hub
+pub record Owns (world : Worldly) (hub : HubParts Looped) : Type 0 where
+  pub owned : AllOwned hub.core.book.tickets (standing world.link.node).log
+  pub faultless : IsFaultless hub.core.end
+
+-- From power-on these events, one after another, answered this, and led to a world that the text tells. Where none of them is a line
+-- `halt` or `unplug`, and no answer of the instrument waits for memory, each ticket has what is its own.
 pub record Reports (first depth : ℕ) (run : List Answered) (answers : List (Option EventAnswer)) (text : List ℕ) : Type 0 where
   pub begins : MayBegin first depth
   pub world : Worldly
   pub goes : GoThrough (setting_of first depth) begun run world
   pub tells : Tells first depth world answers text
+  pub owns : AreCalmEvents run → world.link.late ≡ false → Owns world tells.hub
 
 -- the events of a script, each with what it answered
 pub record Replayed (script : Script) (text : List ℕ) : Type 0 where

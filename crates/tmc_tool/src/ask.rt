@@ -12,7 +12,7 @@ use crate::report::report;
 use event_text::Event;
 use std::alloc::Global;
 use tmc_base::{Memory, Octets};
-use tmc_world::World;
+use tmc_world::{World, world_runs_keep_the_laws};
 
 /// The session that asks, the number of the first message, and the depth of the hub.
 const SESSION: u8 = 0;
@@ -38,6 +38,7 @@ fn ask_in(alloc: Global, world: &mut World, limit: u32, message: &[u8]) -> Resul
     ensures { IfOk result (λ text. IsBehind 1 1 begun world.old.hub → AskedOnce limit message.now text.items) }
 {
     ask_and_rest(alloc, world, limit, message)?;
+    world_runs_keep_the_laws();
     report(alloc, &[], world)
 }
 

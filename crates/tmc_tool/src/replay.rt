@@ -10,7 +10,7 @@ use crate::report::report;
 use event_text::{Event, EventAnswer, Script};
 use std::alloc::Global;
 use tmc_base::Memory;
-use tmc_world::{Applied, World};
+use tmc_world::{Applied, World, world_runs_keep_the_laws};
 
 /// Applies the events of a script to a fresh world in their order, and reports what came of them.
 pub(crate) fn replay(alloc: Global, script: &Script) -> Result<Vec<u8>, Memory>
@@ -27,6 +27,7 @@ fn replay_in(alloc: Global, world: &mut World, script: &Script) -> Result<Vec<u8
     ensures { IfOk result (λ text. IsBehind script.now.first script.now.depth begun world.old.hub → Replayed script.now text.items) }
 {
     let answers = apply_all(alloc, world, script.events.as_slice())?;
+    world_runs_keep_the_laws();
     report(alloc, &answers, world)
 }
 
