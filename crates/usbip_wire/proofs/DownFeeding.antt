@@ -1,6 +1,6 @@
 -- what feeding answers, from what the held bytes are
-use Rattle.std.proofs.Common.{◌≡◌, ℕ, ◌+◌, ◌-◌, ◌≤◌, Bool, true, false, Option, Some, None, List, [], ◌∷◌, ◌++◌, length, take, drop, Ok, Err, sym, ap, subst, ◌∙◌, arith}
-use Rattle.std.proofs.lemmas.List.{take_all, append-nil, length-append, length-take}
+use Rattle.std.proofs.Common.{◌≡◌, ℕ, ◌+◌, ◌-◌, ◌<◌, ◌≤◌, Bool, true, false, Option, Some, None, List, [], ◌∷◌, ◌++◌, length, take, drop, Ok, Err, refl, sym, ap, subst, ◌∙◌, arith}
+use Rattle.std.proofs.lemmas.List.{take_all, append-nil, length-append, length-drop, length-take}
 use Rattle.tmc_base.specs.declared.field.Field.{Field}
 use Rattle.usbip_wire.specs.declared.dirs.Outstanding.{Outstanding}
 use Rattle.usbip_wire.specs.declared.fields.TheConstants.{COMMAND}
@@ -17,7 +17,7 @@ use Rattle.usbip_wire.specs.JudgedFields.{part_fields, answer_fields, missing_fo
 use Rattle.usbip_wire.proofs.Determined.{Placed}
 use Rattle.usbip_wire.proofs.DownRead.{down_sound, whole_means, whole_good, stopped_none, short_good}
 use Rattle.usbip_wire.proofs.Edges.{exact_refused, bad_within}
-use Rattle.usbip_wire.proofs.Forms.{sound, more_bad, more_whole, bad_refused, refused_bad, exact}
+use Rattle.usbip_wire.proofs.Forms.{sound, more_bad, more_whole, bad_refused, refused_bad, exact, still_short}
 use Rattle.usbip_wire.proofs.Fronts.{IsBytes-take}
 use Rattle.usbip_wire.proofs.Pieces.{rest_of_piece}
 use Rattle.usbip_wire.proofs.Places.{ops_placed, answers_placed}
@@ -65,13 +65,22 @@ answers_bad phase entries start piece used self f new le ends e fits judged next
       next ∙ ap (λ (h : Held). record h { bad = Some f }) e,
     )
 
-pub answers_more : (phase : DownPhase) (entries : List Outstanding) (start piece : List ℕ) (used : ℕ) (self : Held) (n : ℕ) → used ≡ length piece
-    → self ≡ at phase start piece used → Judged self.phase entries self.rest (Err (Short n)) → Answers phase entries start piece used down.More self
-answers_more phase entries start piece used self n all e judged =
+-- the bytes that are left are fewer than are missing
+pub answers_more : (phase : DownPhase) (entries : List Outstanding) (start piece : List ℕ) (used : ℕ) (self new : Held) (n : ℕ) → self ≡ at phase start piece used
+    → Judged self.phase entries self.rest (Err (Short n)) → length (drop used piece) < n → new ≡ record self { rest = self.rest ++ take (length piece - used) (drop used piece) }
+    → Answers phase entries start piece (length piece) down.More new
+answers_more phase entries start piece used self new n e judged few next =
     let r : read (down_form phase entries) (start ++ take used piece) ≡ Err (Short n) = subst (λ (h : Held). read (down_form h.phase entries) h.rest ≡ Err (Short n)) e judged in
-    let whole : take used piece ≡ piece = take_all used piece (omega arith) in
-    let s : read (down_form phase entries) (start ++ piece) ≡ Err (Short n) = subst (λ (t : List ℕ). read (down_form phase entries) (start ++ t) ≡ Err (Short n)) whole r in
-    (all, stopped_none phase entries (start ++ piece) (Short n) s, short_good phase entries (start ++ piece) n s, e ∙ ap (λ (t : List ℕ). record { phase = phase; rest = start ++ t; whole = false; bad = None }) whole)
+    let all : (start ++ take used piece) ++ drop used piece ≡ start ++ piece = rest_of_piece start piece used in
+    let left : take (length piece - used) (drop used piece) ≡ drop used piece = take_all (length piece - used) (drop used piece) (omega (arith, length-drop used piece)) in
+    let s : read (down_form phase entries) (start ++ piece) ≡ Err (Short (n - length (drop used piece))) =
+    subst (λ (t : List ℕ). read (down_form phase entries) t ≡ Err (Short (n - length (drop used piece)))) all (still_short (down_form phase entries) (start ++ take used piece) (drop used piece) n r few) in (
+      refl,
+      stopped_none phase entries (start ++ piece) (Short (n - length (drop used piece))) s,
+      short_good phase entries (start ++ piece) (n - length (drop used piece)) s,
+      next ∙ (ap (λ (h : Held). record h { rest = h.rest ++ take (length piece - used) (drop used piece) }) e
+          ∙ (ap (λ (t : List ℕ). record { phase = phase; rest = (start ++ take used piece) ++ t; whole = false; bad = None }) left ∙ ap (λ (t : List ℕ). record { phase = phase; rest = t; whole = false; bad = None }) all)),
+    )
 
 -- before the first byte of a piece
 pub begun : (self : Held) → self.whole ≡ false → self.bad ≡ None → self ≡ record { phase = self.phase; rest = self.rest ++ []; whole = false; bad = None }

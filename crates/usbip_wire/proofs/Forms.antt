@@ -291,6 +291,42 @@ pub short_accepted : {A : Type 0} (b : Bool) (r : Result A Stop) (field : Field)
 short_accepted true r field n e = (refl, e)
 short_accepted false r field n e = absurd cc
 
+-- fewer bytes than are missing: then the others still are
+pub still_short : {M : Type 0} (form : Form M) (bytes more : List ℕ) (n : ℕ) → read form bytes ≡ Err (Short n) → length more < n
+    → read form (bytes ++ more) ≡ Err (Short (n - length more))
+still_short {M} (Number size next) bytes more n e lt =
+    elim (cut (size_of size) bytes) [
+      | inl h ↦
+          let x = short_is (size_of size - length bytes) n (rw h.0 at e) in
+          rw (lt-ltb (length (bytes ++ more)) (size_of size) (omega (arith, h.1, x, lt, length-append bytes more)))
+          (ap (λ (k : ℕ). err {A = M × List ℕ} (Short k)) (omega (arith, h.1, x, length-append bytes more)))
+      | inr h ↦
+          rw (more_long bytes more (size_of size) h.1, take-append-le (size_of size) bytes more h.1, drop-append-le (size_of size) bytes more h.1)
+          (still_short (next (value_of size bytes)) (drop (size_of size) bytes) more n (rw h.0 at e) lt)
+    ]
+still_short {M} (Judged size field accepts next) bytes more n e lt =
+    elim (cut (size_of size) bytes) [
+      | inl h ↦
+          let x = short_is (size_of size - length bytes) n (rw h.0 at e) in
+          rw (lt-ltb (length (bytes ++ more)) (size_of size) (omega (arith, h.1, x, lt, length-append bytes more)))
+          (ap (λ (k : ℕ). err {A = M × List ℕ} (Short k)) (omega (arith, h.1, x, length-append bytes more)))
+      | inr h ↦
+          let y = short_accepted (accepts (value_of size bytes)) _ field n (rw h.0 at e) in
+          rw (more_long bytes more (size_of size) h.1, take-append-le (size_of size) bytes more h.1, drop-append-le (size_of size) bytes more h.1, y.0)
+          (still_short (next (value_of size bytes)) (drop (size_of size) bytes) more n y.1 lt)
+    ]
+still_short {M} (Block count next) bytes more n e lt =
+    elim (cut count bytes) [
+      | inl h ↦
+          let x = short_is (count - length bytes) n (rw h.0 at e) in
+          rw (lt-ltb (length (bytes ++ more)) count (omega (arith, h.1, x, lt, length-append bytes more)))
+          (ap (λ (k : ℕ). err {A = M × List ℕ} (Short k)) (omega (arith, h.1, x, length-append bytes more)))
+      | inr h ↦
+          rw (more_long bytes more count h.1, take-append-le count bytes more h.1, drop-append-le count bytes more h.1)
+          (still_short (next (take count bytes)) (drop count bytes) more n (rw h.0 at e) lt)
+    ]
+still_short {M} (Done message) bytes more n e lt = absurd cc
+
 -- bytes and what is missing behind them are no longer
 pub within_most : {M : Type 0} (form : Form M) (most : ℕ) (bytes : List ℕ) (n : ℕ) → Within form most → read form bytes ≡ Err (Short n) → length bytes + n ≤ most
 within_most {M} (Number size next) most bytes n w e =

@@ -1,6 +1,6 @@
 -- what feeding answers, from what the held bytes are
-use Rattle.std.proofs.Common.{◌≡◌, ℕ, ◌+◌, ◌-◌, ◌≤◌, Bool, true, false, Option, Some, None, List, [], ◌++◌, length, take, drop, Ok, Err, sym, ap, subst, ◌∙◌, arith}
-use Rattle.std.proofs.lemmas.List.{take_all, append-nil, length-append, length-take}
+use Rattle.std.proofs.Common.{◌≡◌, ℕ, ◌+◌, ◌-◌, ◌<◌, ◌≤◌, Bool, true, false, Option, Some, None, List, [], ◌++◌, length, take, drop, Ok, Err, refl, sym, ap, subst, ◌∙◌, arith}
+use Rattle.std.proofs.lemmas.List.{take_all, append-nil, length-append, length-drop, length-take}
 use Rattle.tmc_base.specs.declared.field.Field.{Field}
 use Rattle.usbip_wire.specs.declared.stop.Stop.TheVariants.{Short, Refused}
 use Rattle.usbip_wire.specs.declared.up.Up.{Up}
@@ -14,7 +14,7 @@ use Rattle.usbip_wire.specs.UpForm.{up_form}
 use Rattle.usbip_wire.specs.UpFed.{Held, Answers, Ends, Judged, Means, BadAt}
 use Rattle.usbip_wire.proofs.Determined.{Placed}
 use Rattle.usbip_wire.proofs.Edges.{exact_refused, bad_within}
-use Rattle.usbip_wire.proofs.Forms.{more_bad, ok_is, refused_bad}
+use Rattle.usbip_wire.proofs.Forms.{more_bad, ok_is, refused_bad, still_short}
 use Rattle.usbip_wire.proofs.Fronts.{IsBytes-take}
 use Rattle.usbip_wire.proofs.Whole.{front, front_read}
 use Rattle.usbip_wire.proofs.Pieces.{rest_of_piece}
@@ -59,13 +59,22 @@ answers_bad phase start piece used self f new le ends e fits judged after =
       after ∙ ap (λ (h : Held). record h { bad = Some f }) e,
     )
 
-pub answers_more : (phase : UpPhase) (start piece : List ℕ) (used : ℕ) (self : Held) (n : ℕ) → used ≡ length piece
-    → self ≡ at phase start piece used → Judged self.phase self.rest (Err (Short n)) → Answers phase start piece used up.More self
-answers_more phase start piece used self n all e judged =
+-- the bytes that are left are fewer than are missing
+pub answers_more : (phase : UpPhase) (start piece : List ℕ) (used : ℕ) (self new : Held) (n : ℕ) → self ≡ at phase start piece used
+    → Judged self.phase self.rest (Err (Short n)) → length (drop used piece) < n → new ≡ record self { rest = self.rest ++ take (length piece - used) (drop used piece) }
+    → Answers phase start piece (length piece) up.More new
+answers_more phase start piece used self new n e judged few after =
     let r : read (up_form phase) (start ++ take used piece) ≡ Err (Short n) = subst (λ (h : Held). read (up_form h.phase) h.rest ≡ Err (Short n)) e judged in
-    let whole : take used piece ≡ piece = take_all used piece (omega arith) in
-    let s : read (up_form phase) (start ++ piece) ≡ Err (Short n) = subst (λ (t : List ℕ). read (up_form phase) (start ++ t) ≡ Err (Short n)) whole r in
-    (all, stopped_none phase (start ++ piece) (Short n) s, short_good phase (start ++ piece) n s, e ∙ ap (λ (t : List ℕ). record { phase = phase; rest = start ++ t; whole = false; bad = None }) whole)
+    let all : (start ++ take used piece) ++ drop used piece ≡ start ++ piece = rest_of_piece start piece used in
+    let left : take (length piece - used) (drop used piece) ≡ drop used piece = take_all (length piece - used) (drop used piece) (omega (arith, length-drop used piece)) in
+    let s : read (up_form phase) (start ++ piece) ≡ Err (Short (n - length (drop used piece))) =
+    subst (λ (t : List ℕ). read (up_form phase) t ≡ Err (Short (n - length (drop used piece)))) all (still_short (up_form phase) (start ++ take used piece) (drop used piece) n r few) in (
+      refl,
+      stopped_none phase (start ++ piece) (Short (n - length (drop used piece))) s,
+      short_good phase (start ++ piece) (n - length (drop used piece)) s,
+      after ∙ (ap (λ (h : Held). record h { rest = h.rest ++ take (length piece - used) (drop used piece) }) e
+          ∙ (ap (λ (t : List ℕ). record { phase = phase; rest = (start ++ take used piece) ++ t; whole = false; bad = None }) left ∙ ap (λ (t : List ℕ). record { phase = phase; rest = t; whole = false; bad = None }) all)),
+    )
 
 -- before the first byte of a piece
 pub begun : (self : Held) → self.whole ≡ false → self.bad ≡ None → self ≡ record { phase = self.phase; rest = self.rest ++ []; whole = false; bad = None }

@@ -1,8 +1,7 @@
 -- a message that is whole at the front of a piece
-use Rattle.std.proofs.Common.{◌≡◌, ℕ, ◌+◌, ◌-◌, ◌≤◌, List, [], ◌++◌, length, take, Result, Ok, sym, subst, ap, ◌∙◌, arith}
+use Rattle.std.proofs.Common.{◌≡◌, ℕ, ◌+◌, ◌-◌, ◌≤◌, List, [], ◌++◌, length, take, Ok, sym, subst, ap, ◌∙◌, arith}
 use Rattle.std.specs.Int.{to_be_bytes}
 use Rattle.std.proofs.lemmas.List.{take_at, append-nil, length-append}
-use Rattle.usbip_wire.specs.declared.stop.Stop.{Stop}
 use Rattle.usbip_wire.specs.Form.{Form, Number, Judged, Block, Done, width, Spelled, read}
 use Rattle.usbip_wire.specs.Given.{IsBytes}
 use Rattle.usbip_wire.proofs.Forms.{Within, complete, sound}

@@ -148,7 +148,8 @@ impl DownReader {
         Some(DownStep { used, what })
     }
 
-    /// Holds what a message lacks, field by field, until it is whole or a field is refused.
+    /// Holds what a message lacks, field by field, until it is whole or a field is refused. A field is judged where
+    /// its last byte has come, and not before.
     fn gather(&mut self, piece: &[u8], dirs: &Dirs) -> DownStep
         requires good { self.old.bad ≡ None }
         requires unread { self.old.whole ≡ false }
@@ -174,15 +175,16 @@ impl DownReader {
                     };
                 }
                 Err(Stop::Short(missing)) => {
-                    if used == piece.len() {
+                    let rest = piece.len() - used;
+                    if rest < missing {
+                        self.add(&piece[used..]);
                         return DownStep {
-                            used,
+                            used: piece.len(),
                             what: Down::More,
                         };
                     }
-                    let end = used + missing.min(piece.len() - used);
-                    self.add(&piece[used..end]);
-                    used = end;
+                    self.add(&piece[used..used + missing]);
+                    used += missing;
                 }
             }
         }

@@ -131,7 +131,8 @@ impl UpReader {
         Some(UpStep { used, what })
     }
 
-    /// Holds what a message lacks, field by field, until it is whole or a field is refused.
+    /// Holds what a message lacks, field by field, until it is whole or a field is refused. A field is judged where
+    /// its last byte has come, and not before.
     fn gather(&mut self, piece: &[u8]) -> UpStep
         requires good { self.old.bad ≡ None }
         requires unread { self.old.whole ≡ false }
@@ -154,15 +155,16 @@ impl UpReader {
                     };
                 }
                 Err(Stop::Short(missing)) => {
-                    if used == piece.len() {
+                    let rest = piece.len() - used;
+                    if rest < missing {
+                        self.add(&piece[used..]);
                         return UpStep {
-                            used,
+                            used: piece.len(),
                             what: Up::More,
                         };
                     }
-                    let end = used + missing.min(piece.len() - used);
-                    self.add(&piece[used..end]);
-                    used = end;
+                    self.add(&piece[used..used + missing]);
+                    used += missing;
                 }
             }
         }

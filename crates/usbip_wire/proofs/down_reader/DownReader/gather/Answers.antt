@@ -1,4 +1,4 @@
-use Rattle.std.proofs.Common.{◌≡◌, ℕ, ◌+◌, ◌-◌, ◌≤◌, List, [], ◌++◌, length, take, drop, ap, subst, ◌∙◌, arith, false, Some, None, Ok}
+use Rattle.std.proofs.Common.{◌≡◌, ℕ, ◌+◌, ◌-◌, ◌≤◌, List, [], ◌++◌, length, take, drop, ap, subst, ◌∙◌, arith, false, None, Ok}
 use Rattle.std.proofs.lemmas.List.{length-append, length-drop, length-take}
 use Rattle.usbip_wire.specs.Form.{read}
 use Rattle.usbip_wire.specs.DownForm.{down_form}
@@ -47,47 +47,68 @@ returns-in-Err-Refused-clause-fresh c = λ none.
     c.loop-what.invariant.within (c.loop-what.invariant.edge c.in-Err-Refused.field e) c.loop-what.invariant.held c.in-Err-Refused.ensures.bytes e
     c.refuse.ensures
 
-pub returns-then-used-piece-clause-always : goal.returns-then-used-piece-clause-always
-returns-then-used-piece-clause-always c =
+pub returns-then-rest-missing-clause-always : goal.returns-then-rest-missing-clause-always
+returns-then-rest-missing-clause-always c =
     let e = rw c.in-Err-Short.field-0-is at c.in-Err-Short.ensures.judged in
-    answers_more c.args.self.now.phase c.args.dirs.now c.args.self.now.rest c.args.piece.now c.loop-what.used c.loop-what.self c.in-Err-Short.missing
-    c.if-used-piece.true c.loop-what.invariant.held e
+    answers_more c.args.self.now.phase c.args.dirs.now c.args.self.now.rest c.args.piece.now c.loop-what.used c.loop-what.self c.add.new.self c.in-Err-Short.missing
+    c.loop-what.invariant.held e (omega (arith, c.if-rest-missing.true, length-drop c.loop-what.used c.args.piece.now)) c.add.ensures
 
-pub returns-then-used-piece-clause-fresh : goal.returns-then-used-piece-clause-fresh
-returns-then-used-piece-clause-fresh c = λ none.
+pub returns-then-rest-missing-clause-fresh : goal.returns-then-rest-missing-clause-fresh
+returns-then-rest-missing-clause-fresh c = λ none.
     let e = rw c.in-Err-Short.field-0-is at c.in-Err-Short.ensures.judged in
-    answers_more c.args.self.now.phase c.args.dirs.now c.args.self.now.rest c.args.piece.now c.loop-what.used c.loop-what.self c.in-Err-Short.missing
-    c.if-used-piece.true c.loop-what.invariant.held e
+    answers_more c.args.self.now.phase c.args.dirs.now c.args.self.now.rest c.args.piece.now c.loop-what.used c.loop-what.self c.add.new.self c.in-Err-Short.missing
+    c.loop-what.invariant.held e (omega (arith, c.if-rest-missing.true, length-drop c.loop-what.used c.args.piece.now)) c.add.ensures
+
+pub returns-then-rest-missing-clause-one_held : goal.returns-then-rest-missing-clause-one_held
+returns-then-rest-missing-clause-one_held c =
+    let e = rw c.in-Err-Short.field-0-is at c.in-Err-Short.ensures.judged in
+    let most = within_most (down_form c.loop-what.self.phase c.args.dirs.now) message_max c.loop-what.self.rest c.in-Err-Short.missing (down_within c.loop-what.self.phase c.args.dirs.now c.in-Err-Short.ensures.short) e in
+    omega (
+      arith,
+      most,
+      ap (λ (h : Held). length h.rest) c.add.ensures,
+      length-append c.loop-what.self.rest (take (length c.args.piece.now - c.loop-what.used) (drop c.loop-what.used c.args.piece.now)),
+      length-take (length c.args.piece.now - c.loop-what.used) (drop c.loop-what.used c.args.piece.now),
+      length-drop c.loop-what.used c.args.piece.now,
+      c.if-rest-missing.true,
+    )
 
 pub add-requires : goal.add-requires
 add-requires c =
     let e = rw c.in-Err-Short.field-0-is at c.in-Err-Short.ensures.judged in
     let most = within_most (down_form c.loop-what.self.phase c.args.dirs.now) message_max c.loop-what.self.rest c.in-Err-Short.missing (down_within c.loop-what.self.phase c.args.dirs.now c.in-Err-Short.ensures.short) e in
-    omega (arith, most, c.min.ensures, length-take (c.loop-what.used + c.min.result - c.loop-what.used) (drop c.loop-what.used c.args.piece.now))
+    omega (arith, most, c.if-rest-missing.true, length-drop c.loop-what.used c.args.piece.now)
+
+pub add-requires-in-Err-Short : goal.add-requires-in-Err-Short
+add-requires-in-Err-Short c =
+    let e = rw c.in-Err-Short.field-0-is at c.in-Err-Short.ensures.judged in
+    let most = within_most (down_form c.loop-what.self.phase c.args.dirs.now) message_max c.loop-what.self.rest c.in-Err-Short.missing (down_within c.loop-what.self.phase c.args.dirs.now c.in-Err-Short.ensures.short) e in
+    omega (arith, most, length-take (c.loop-what.used + c.in-Err-Short.missing - c.loop-what.used) (drop c.loop-what.used c.args.piece.now))
 
 pub loop-what-smaller : goal.loop-what-smaller
 loop-what-smaller c =
     let e = rw c.in-Err-Short.field-0-is at c.in-Err-Short.ensures.judged in
     let some = missing (down_form c.loop-what.self.phase c.args.dirs.now) c.loop-what.self.rest c.in-Err-Short.missing e in
-    omega (arith, some, c.min.ensures, c.loop-what.invariant.within, c.if-used-piece.false)
+    omega (arith, some, c.loop-what.invariant.within, c.if-rest-missing.false)
 
 pub loop-what-preserved : goal.loop-what-preserved
 loop-what-preserved c =
     let e = rw c.in-Err-Short.field-0-is at c.in-Err-Short.ensures.judged in
-    let next : List ℕ = take (c.loop-what.used + c.min.result - c.loop-what.used) (drop c.loop-what.used c.args.piece.now) in
-    let long : length next ≡ c.min.result = omega (arith, c.min.ensures, c.loop-what.invariant.within, length-drop c.loop-what.used c.args.piece.now, length-take (c.loop-what.used + c.min.result - c.loop-what.used) (drop c.loop-what.used c.args.piece.now)) in
-    let few : length next ≤ c.in-Err-Short.missing = omega (arith, c.min.ensures, long) in
+    let next : List ℕ = take (c.loop-what.used + c.in-Err-Short.missing - c.loop-what.used) (drop c.loop-what.used c.args.piece.now) in
+    let long : length next ≡ c.in-Err-Short.missing =
+    omega (arith, c.if-rest-missing.false, c.loop-what.invariant.within, length-drop c.loop-what.used c.args.piece.now, length-take (c.loop-what.used + c.in-Err-Short.missing - c.loop-what.used) (drop c.loop-what.used c.args.piece.now)) in
+    let few : length next ≤ c.in-Err-Short.missing = omega (arith, long) in
     let most = within_most (down_form c.loop-what.self.phase c.args.dirs.now) message_max c.loop-what.self.rest c.in-Err-Short.missing (down_within c.loop-what.self.phase c.args.dirs.now c.in-Err-Short.ensures.short) e in
     record {
-      within = omega (arith, c.min.ensures, c.loop-what.invariant.within);
-      held = c.add.ensures ∙ (ap (λ (h : Held). record h { rest = h.rest ++ next }) c.loop-what.invariant.held
-          ∙ ap (λ (t : List ℕ). record { phase = c.args.self.now.phase; rest = t; whole = false; bad = None }) (next_of_piece c.args.self.now.rest c.args.piece.now c.loop-what.used c.min.result));
-      ends = λ none. still_ends c.args.dirs.now c.loop-what.self c.add.new.self next c.in-Err-Short.missing c.add.ensures e few;
+      within = omega (arith, c.if-rest-missing.false, c.loop-what.invariant.within);
+      held = c.add-in-Err-Short.ensures ∙ (ap (λ (h : Held). record h { rest = h.rest ++ next }) c.loop-what.invariant.held
+          ∙ ap (λ (t : List ℕ). record { phase = c.args.self.now.phase; rest = t; whole = false; bad = None }) (next_of_piece c.args.self.now.rest c.args.piece.now c.loop-what.used c.in-Err-Short.missing));
+      ends = λ none. still_ends c.args.dirs.now c.loop-what.self c.add-in-Err-Short.new.self next c.in-Err-Short.missing c.add-in-Err-Short.ensures e few;
       edge =
-          subst (λ (n : ℕ). EndsHere c.args.dirs.now c.args.self.now.rest (c.loop-what.used + n) c.add.new.self) long
-          (still_missing c.args.dirs.now c.args.self.now.rest c.args.piece.now next c.loop-what.used c.loop-what.self c.add.new.self c.in-Err-Short.missing
-          c.loop-what.invariant.within (ap (λ (h : Held). h.rest) c.loop-what.invariant.held) c.add.ensures e few);
-      one_held = omega (arith, ap (λ (h : Held). length h.rest) c.add.ensures, length-append c.loop-what.self.rest next, few, most);
+          subst (λ (n : ℕ). EndsHere c.args.dirs.now c.args.self.now.rest (c.loop-what.used + n) c.add-in-Err-Short.new.self) long
+          (still_missing c.args.dirs.now c.args.self.now.rest c.args.piece.now next c.loop-what.used c.loop-what.self c.add-in-Err-Short.new.self c.in-Err-Short.missing
+          c.loop-what.invariant.within (ap (λ (h : Held). h.rest) c.loop-what.invariant.held) c.add-in-Err-Short.ensures e few);
+      one_held = omega (arith, ap (λ (h : Held). length h.rest) c.add-in-Err-Short.ensures, length-append c.loop-what.self.rest next, few, most);
     }
 
 pub finish-requires : goal.finish-requires

@@ -1,4 +1,4 @@
-use Rattle.std.proofs.Common.{◌≡◌, ℕ, ◌+◌, ◌≤◌, length, ◌++◌, List, Ok, ap, subst, arith}
+use Rattle.std.proofs.Common.{◌≡◌, length, Ok, ap, subst, arith}
 use Rattle.std.proofs.lemmas.List.{length-append}
 use Rattle.usbip_wire.specs.UpForm.{up_form}
 use Rattle.usbip_wire.specs.UpFed.{Held}
