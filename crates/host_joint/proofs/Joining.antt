@@ -171,7 +171,7 @@ apart_asked (Some head) d e differ = by (eqb head.ep (number_of d)) refl
     by true is = (subst (λ (l : List SubmitHead). NoneNumbered head.seqnum l) (sym (other_asked d e head (eqb-true head.ep (number_of d) is) (λ same. differ (sym same)))) tt, tt)
     by false is = tt
 
-few_asked : (waits : Option SubmitHead) (e : Endpoint) → length (asked_of waits e) ≤ 1
+pub few_asked : (waits : Option SubmitHead) (e : Endpoint) → length (asked_of waits e) ≤ 1
 few_asked None e = omega arith
 few_asked (Some head) e = by (eqb head.ep (number_of e))
   where

@@ -70,3 +70,6 @@ mod StatusTied
 mod StatusExamples
 mod StatusRacing
 mod StatusCancelled
+mod Aside
+mod Reaching
+mod Besides

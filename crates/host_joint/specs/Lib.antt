@@ -31,6 +31,8 @@ pub mod Reasons
 pub mod Races
 -- a status read
 pub mod StatusReads
+-- any of these beside a submit to Interrupt-IN
+pub mod Beside
 -- examples
 pub mod WorkedAsks
 pub mod WorkedTies

@@ -7,6 +7,7 @@
 
 mod accepted;
 mod asks;
+mod beside;
 mod bonds;
 mod hits;
 mod host_moves;
@@ -45,6 +46,7 @@ pub use asks::cancelled_asks_stay;
 pub use asks::nothing_comes_unasked;
 pub use asks::unplugged_asks_were_in_hand;
 pub use asks::unplugging_is_the_end;
+pub use beside::submits_are_kept_out;
 pub use bonds::bonds_stay;
 pub use bonds::cancelled_answers_are_taken;
 pub use bonds::cancelled_asks_own;
