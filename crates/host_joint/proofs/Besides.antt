@@ -31,7 +31,7 @@ use Rattle.host_joint.specs.Tie.{IsUndisturbed, asked_of, IsGood, Tie}
 use Rattle.host_joint.specs.Bond.{IsFit, Bond, Bound, Situation, Stands, Resting}
 use Rattle.host_joint.specs.Races.{Ticket, TicketHolds, Acts, ActRaces, ActIsLate, Triggers, TriggerRaces, TriggerIsLate}
 use Rattle.host_joint.specs.StatusReads.{packets_in, IsUsual, Brings, QuietHeld, Quiet, none_or_one, asked_by, IsEarlier, IsOther, IsNotify}
-use Rattle.host_joint.specs.Beside.{messages_beside, answers_beside, device_beside, Doing, HasAsk, HasRecovery, HasTicket, Does, waits_for, unlinks_for, asked_beside, AsksNoStatus, IfAny, NamesOther, KeepsApart, IsElsewhere, entries_beside, AreApartBeside, DoesBeside, Beside, GivesBeside, ServiceBeside, OlderBeside, HaltBeside, DoesAsIt}
+use Rattle.host_joint.specs.Beside.{messages_beside, answers_beside, device_beside, Doing, HasAsk, HasRecovery, HasTicket, Does, MayHalt, waits_for, unlinks_for, asked_beside, AsksNoStatus, IfAny, NamesOther, KeepsApart, IsElsewhere, entries_beside, AreApartBeside, DoesBeside, Beside, GivesBeside, ServiceBeside, OlderBeside, HaltBeside, DoesAsIt}
 use Rattle.host_joint.proofs.Flows.{lines_step, fitting_behind, order_behind}
 use Rattle.host_joint.proofs.Falling.{left_all, left_none}
 use Rattle.host_joint.proofs.Running.{sound}
@@ -429,6 +429,30 @@ IsCalm move = (move ≢ Unplug) × ((endpoint : Endpoint) → move ≢ Halt endp
 
 pub calm_runs : IsRunOf IsUndisturbed IsCalm
 calm_runs = record { first = λ entry run h. (h.0, (h.0, h.1), h.2) }
+
+-- what ties a host, without that submit, is kept by each run
+pub record Stays : Type 0 where
+  pub tie : (run : List Entry) (hand : Hand) (waits : Option SubmitHead) (next : ℕ) (ups : List up.Message) (downs : List Put) (s t : State)
+      → Runs s run t → IsUndisturbed run → Tie hand waits next (inputs run ++ ups) downs s → Tie hand waits next ups (downs ++ outputs run) t
+  pub bound : (situation : Situation) (run : List Entry) (waits : Option SubmitHead) (unlinks : List UnlinkHead) (next : ℕ) (ups : List up.Message) (downs : List Put) (s t : State)
+      → Runs s run t → StaysPlugged run → Bound situation waits unlinks next (inputs run ++ ups) downs s → Bound situation waits unlinks next ups (downs ++ outputs run) t
+  pub ticket : (ticket : Ticket) (run : List Entry) (next : ℕ) (ups : List up.Message) (downs : List Put) (s t : State)
+      → Runs s run t → StaysPlugged run → TicketHolds ticket next (inputs run ++ ups) downs s → TicketHolds ticket next ups (downs ++ outputs run) t
+
+pub steps_calmly : Stays → (doing : Doing) (next : ℕ) → StepsOn IsCalm doing next
+steps_calmly stays (HasAsk hand waits) next s t move puts ups downs step calm does =
+    one_of_run (HasAsk hand waits) next IsUndisturbed (λ run ups downs s t goes kind tie. stays.tie run hand waits next ups downs s t goes kind tie) s t move puts ups downs step (calm.0, calm.1, tt) does
+steps_calmly stays (HasRecovery situation waits unlinks) next s t move puts ups downs step calm does =
+    one_of_run (HasRecovery situation waits unlinks) next StaysPlugged (λ run ups downs s t goes kind tie. stays.bound situation run waits unlinks next ups downs s t goes kind tie) s t move puts ups downs step (calm.0, tt) does
+steps_calmly stays (HasTicket ticket) next s t move puts ups downs step calm does =
+    one_of_run (HasTicket ticket) next StaysPlugged (λ run ups downs s t goes kind tie. stays.ticket ticket run next ups downs s t goes kind tie) s t move puts ups downs step (calm.0, tt) does
+
+pub steps_plugged : Stays → (doing : Doing) (next : ℕ) → MayHalt doing → StepsOn (λ move. move ≢ Unplug) doing next
+steps_plugged stays (HasAsk hand waits) next may s t move puts ups downs step plugged does = absurd may
+steps_plugged stays (HasRecovery situation waits unlinks) next may s t move puts ups downs step plugged does =
+    one_of_run (HasRecovery situation waits unlinks) next StaysPlugged (λ run ups downs s t goes kind tie. stays.bound situation run waits unlinks next ups downs s t goes kind tie) s t move puts ups downs step (plugged, tt) does
+steps_plugged stays (HasTicket ticket) next may s t move puts ups downs step plugged does =
+    one_of_run (HasTicket ticket) next StaysPlugged (λ run ups downs s t goes kind tie. stays.ticket ticket run next ups downs s t goes kind tie) s t move puts ups downs step (plugged, tt) does
 
 -- ---- from and to a host that is in no status read
 

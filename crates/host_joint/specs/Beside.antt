@@ -75,6 +75,12 @@ unlinks_for (HasAsk hand waits) = []
 unlinks_for (HasRecovery situation waits unlinks) = unlinks
 unlinks_for (HasTicket ticket) = unlinks_of ticket
 
+-- what ties the two also where endpoints halt by themselves
+abbrev pub MayHalt : Doing → Type 0
+MayHalt (HasAsk hand waits) = ⊥
+MayHalt (HasRecovery situation waits unlinks) = Unit {0}
+MayHalt (HasTicket ticket) = Unit {0}
+
 -- a message that a host writes for what it does: none to Interrupt-IN
 abbrev pub IsElsewhere : up.Message → Type 0
 IsElsewhere (up.Submit head transferred) = head.ep ≢ number_of InterruptIn

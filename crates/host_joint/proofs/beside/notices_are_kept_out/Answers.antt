@@ -1,5 +1,5 @@
-use Rattle.host_joint.proofs.Besides.{quiet_beside, rest_quiet, free_quiet}
-use Rattle.host_joint.proofs.beside.submits_are_kept_out.Goals as goal
+use Rattle.host_joint.proofs.Besides.{quiet_beside, rest_quiet, free_quiet, beside_notified}
+use Rattle.host_joint.proofs.beside.notices_are_kept_out.Goals as goal
 
 pub returns-clause-begins : goal.returns-clause-begins
 returns-clause-begins c =
@@ -24,3 +24,6 @@ returns-clause-rests c = rest_quiet
 
 pub returns-clause-ends : goal.returns-clause-ends
 returns-clause-ends c = free_quiet
+
+pub returns-clause-notify : goal.returns-clause-notify
+returns-clause-notify c = beside_notified
