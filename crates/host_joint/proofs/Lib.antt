@@ -73,3 +73,4 @@ mod StatusCancelled
 mod Aside
 mod Reaching
 mod Besides
+mod BesideExamples

@@ -146,15 +146,31 @@ could_come laws run s submit behind reached plugged line fit = record {
 
 notifies_bare : (laws : ReachLaws) (run : List Entry) (s t : State) (puts : List Put) → Runs start run s → s.presence ≡ Plugged → IsSound s → status.Notifies s puts t → BareLeads s t
 notifies_bare laws run s t puts reached plugged is_sound (status.Gives submit behind packet packets line there long put is) =
-    let fit : FitsAt InterruptIn submit = (subst (λ (q : List Pending). AllFit InterruptIn q) line (is_sound.fits InterruptIn)).0 in
-    (record { move = Comes (up.Submit submit.head fit.transferred); puts = [] } ∷ record { move = Notify; puts = ended success (status.notified packet (arrived submit.head fit.transferred)) ∷ [] } ∷ [], (waits_alone submit.head fit.transferred s,
-    could_come laws run s submit behind reached plugged line fit, (bare t,
-    record { plugged = ap unclosed plugged; leads = status.Gives (arrived submit.head fit.transferred) [] packet packets refl there long refl (ap (λ (x : State). bare x) is) }, refl)))
+    let fit : FitsAt InterruptIn submit = (subst (λ (q : List Pending). AllFit InterruptIn q) line (is_sound.fits InterruptIn)).0 in (
+      record { move = Comes (up.Submit submit.head fit.transferred); puts = [] } ∷ record { move = Notify; puts = ended success (status.notified packet (arrived submit.head fit.transferred)) ∷ [] } ∷ [],
+      (
+        waits_alone submit.head fit.transferred s,
+        could_come laws run s submit behind reached plugged line fit,
+        (
+          bare t,
+          record { plugged = ap unclosed plugged; leads = status.Gives (arrived submit.head fit.transferred) [] packet packets refl there long refl (ap (λ (x : State). bare x) is) },
+          refl,
+        ),
+      ),
+    )
 notifies_bare laws run s t puts reached plugged is_sound (status.NoRoom submit behind packet packets line there short put is) =
-    let fit : FitsAt InterruptIn submit = (subst (λ (q : List Pending). AllFit InterruptIn q) line (is_sound.fits InterruptIn)).0 in
-    (record { move = Comes (up.Submit submit.head fit.transferred); puts = [] } ∷ record { move = Notify; puts = halt_answers InterruptIn (waits_alone submit.head fit.transferred s) } ∷ [], (waits_alone submit.head fit.transferred s,
-    could_come laws run s submit behind reached plugged line fit, (bare t,
-    record { plugged = ap unclosed plugged; leads = status.NoRoom (arrived submit.head fit.transferred) [] packet packets refl there short refl (ap (λ (x : State). bare x) is) }, refl)))
+    let fit : FitsAt InterruptIn submit = (subst (λ (q : List Pending). AllFit InterruptIn q) line (is_sound.fits InterruptIn)).0 in (
+      record { move = Comes (up.Submit submit.head fit.transferred); puts = [] } ∷ record { move = Notify; puts = halt_answers InterruptIn (waits_alone submit.head fit.transferred s) } ∷ [],
+      (
+        waits_alone submit.head fit.transferred s,
+        could_come laws run s submit behind reached plugged line fit,
+        (
+          bare t,
+          record { plugged = ap unclosed plugged; leads = status.NoRoom (arrived submit.head fit.transferred) [] packet packets refl there short refl (ap (λ (x : State). bare x) is) },
+          refl,
+        ),
+      ),
+    )
 
 -- ---- each step
 

@@ -162,7 +162,7 @@ notify_reads head read waits got older next ups downs s is number r = record {
 some_event : {x : Event} {l : List Event} → [] ≡ x ∷ l → ⊥
 some_event e = cc
 
-none_down : (ups : List up.Message) (downs : List Put) (s : State) → AllAnswers IsFit downs → Lines (asked_of None) [] ups downs s → downs ≡ []
+pub none_down : (ups : List up.Message) (downs : List Put) (s : State) → AllAnswers IsFit downs → Lines (asked_of None) [] ups downs s → downs ≡ []
 none_down ups [] s fits lines = refl
 none_down ups (Unlinked asked a ∷ downs) s fits lines = let e = none_unlinked (unlinked_by (Unlinked asked a ∷ downs)) (unlinks_in ups) lines.unlinked in absurd (cc)
 none_down ups (Submitted asked a transferred ∷ downs) s fits lines =

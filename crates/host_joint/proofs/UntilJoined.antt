@@ -116,7 +116,7 @@ abbrev pub Spelled : (List up.Message → List Put → State → Type 0) → Lis
 Spelled Ties entries =
     (put : Put) (ups : List up.Message) (downs : List Put) (s : State) (bytes : List ℕ) → Ties ups (put ∷ downs) s → SpellsPut put bytes → SpellsAnswer entries (message_of put) bytes
 
-none_tied : (hand : Hand) (next : ℕ) (put : Put) (ups : List up.Message) (downs : List Put) (s : State) → Tie hand None next ups (put ∷ downs) s → ⊥
+pub none_tied : (hand : Hand) (next : ℕ) (put : Put) (ups : List up.Message) (downs : List Put) (s : State) → Tie hand None next ups (put ∷ downs) s → ⊥
 none_tied hand next put ups downs s tie = let none = no_downs hand next ups (put ∷ downs) s tie.good tie.lines in cc
 
 none_given : (hand : Hand) (next : ℕ) (put : Put) (ups : List up.Message) (downs : List Put) (t : State) → TiedUntil hand None next ups (put ∷ downs) t → ⊥

@@ -46,4 +46,5 @@ pub mod WorkedRemotes
 pub mod WorkedReasons
 pub mod WorkedStatusReads
 pub mod WorkedRaces
+pub mod WorkedBeside
 pub mod WorkedNotices

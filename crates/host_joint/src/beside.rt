@@ -99,6 +99,13 @@ pub fn notices_are_joined()
         → JoinedBeside doing notify older next devid written read steps s → JoinedBeside doing notify older next devid written read (steps ++ more) t }
     ensures begins { (notify : Option SubmitHead) (older : List Packet) (next devid : ℕ) (written read : List ℕ) (steps : List RunStep) (s : State) → IfAny (λ head. IsNotify head) notify
         → JointBy (λ ups downs t. Quiet notify older next ups downs t) devid written read steps s → JoinedBeside (HasRecovery (Stands Resting) None []) notify older next devid written read steps s }
+    ensures turns { (doing after : Doing) (notify : Option SubmitHead) (older : List Packet) (next devid : ℕ) (written read : List ℕ) (steps : List RunStep) (s : State) → KeepsApart after notify
+        → ((packets : List Packet) (ups : List up.Message) (downs : List Put) → Does doing next ups downs (device_beside packets s) → Does after next ups downs (device_beside packets s))
+        → JoinedBeside doing notify older next devid written read steps s → JoinedBeside after notify older next devid written read steps s }
+    ensures rests { (notify : Option SubmitHead) (older : List Packet) (next devid : ℕ) (written read : List ℕ) (steps : List RunStep) (s : State)
+        → JoinedBeside (HasRecovery (Stands Resting) None []) notify older next devid written read steps s → JointBy (λ ups downs t. Quiet notify older next ups downs t) devid written read steps s }
+    ensures ends { (notify : Option SubmitHead) (older : List Packet) (next devid : ℕ) (written read : List ℕ) (steps : List RunStep) (s : State)
+        → JoinedBeside (HasAsk Free None) notify older next devid written read steps s → JointBy (λ ups downs t. Quiet notify older next ups downs t) devid written read steps s }
     ensures writes { (doing after : Doing) (notify : Option SubmitHead) (older : List Packet) (next later devid : ℕ) (message : up.Message) (text written read : List ℕ) (steps : List RunStep) (s : State)
         → IsElsewhere message → KeepsApart after notify → next ≤ later → up.Spells devid message text
         → ((ups : List up.Message) (downs : List Put) (s : State) → Does doing next ups downs s → Does after later (ups ++ message ∷ []) downs s)

@@ -4,7 +4,8 @@ use Rattle.host_joint.specs.Asking.{StaysPlugged}
 use Rattle.host_joint.specs.Tie.{IsUndisturbed}
 use Rattle.host_joint.specs.Bond.{Stands, Resting}
 use Rattle.host_joint.specs.StatusReads.{Quiet}
-use Rattle.host_joint.specs.Beside.{HasRecovery, Beside, entries_beside}
+use Rattle.host_joint.specs.Hand.{Free}
+use Rattle.host_joint.specs.Beside.{HasAsk, HasRecovery, Beside, entries_beside}
 use Rattle.host_joint.proofs.Joining.{joint_goes, writes_on, goes_on, undisturbed-append, undisturbed_front, plugged-append, plugged_front}
 use Rattle.host_joint.proofs.UntilJoined.{next_by, never_bad_by}
 use Rattle.host_joint.proofs.Besides.{beside_kept, beside_spelled}
@@ -42,6 +43,21 @@ pub returns-clause-begins : goal.returns-clause-begins
 returns-clause-begins c notify older next devid written read steps s is joint =
     goes_on (λ ups downs t. Quiet notify older next ups downs t) (λ ups downs t. Beside (HasRecovery (Stands Resting) None []) notify older next ups downs t) devid written read steps s
     (λ ups downs q. c.notices_are_kept_out.ensures.begins notify older next ups downs s is q) joint
+
+pub returns-clause-turns : goal.returns-clause-turns
+returns-clause-turns c doing after notify older next devid written read steps s apart turns joint =
+    goes_on (λ ups downs t. Beside doing notify older next ups downs t) (λ ups downs t. Beside after notify older next ups downs t) devid written read steps s
+    (λ ups downs b. c.hosts_go_on_beside_notices.ensures.turns doing after notify older next ups downs s apart turns b) joint
+
+pub returns-clause-rests : goal.returns-clause-rests
+returns-clause-rests c notify older next devid written read steps s joint =
+    goes_on (λ ups downs t. Beside (HasRecovery (Stands Resting) None []) notify older next ups downs t) (λ ups downs t. Quiet notify older next ups downs t) devid written read steps s
+    (λ ups downs b. c.notices_are_kept_out.ensures.rests notify older next ups downs s b) joint
+
+pub returns-clause-ends : goal.returns-clause-ends
+returns-clause-ends c notify older next devid written read steps s joint =
+    goes_on (λ ups downs t. Beside (HasAsk Free None) notify older next ups downs t) (λ ups downs t. Quiet notify older next ups downs t) devid written read steps s
+    (λ ups downs b. c.notices_are_kept_out.ensures.ends notify older next ups downs s b) joint
 
 pub returns-clause-writes : goal.returns-clause-writes
 returns-clause-writes c doing after notify older next later devid message text written read steps s other apart more spelled writes joint =
