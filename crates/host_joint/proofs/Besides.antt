@@ -21,7 +21,8 @@ use Rattle.tmc_law.specs.AnswerFits.{AllAnswers}
 use Rattle.tmc_law.specs.Reached.{AllFit}
 use Rattle.tmc_law.specs.Numbers.{AllBelow, Rises, numbers, coming_out, effects, waits, numbers_of}
 use Rattle.tmc_law.specs.Step.{Move, Comes, Refuses, Take, Exec, Begin, Fill, Answer, Pend, Poll, Notify, Halt, Unplug, Steps}
-use Rattle.tmc_law.specs.Run.{Entry, Runs, taken, inputs, outputs}
+use Rattle.tmc_law.specs.Run.{Entry, Runs, SpellsPut, taken, inputs, outputs}
+use Rattle.tmc_law.specs.Laws.{message_of}
 use Rattle.host_joint.specs.Lines.{Sent, sent_to, sent_heads, Event, Gives, Drops, events_of, without, LeftBy, heads, unlinks_in, unlinked_by, Line, Lines, Fitting, AllFitting, InOrder, NoneNumbered}
 use Rattle.host_joint.specs.Unlinking.{AllHeads, AllUnlinks, IsNamed, Rising, AreApart, total_of}
 use Rattle.host_joint.specs.Positions.{IsAt, rests}
@@ -31,7 +32,7 @@ use Rattle.host_joint.specs.Tie.{IsUndisturbed, asked_of, IsGood, Tie}
 use Rattle.host_joint.specs.Bond.{IsFit, Bond, Bound, Situation, Stands, Resting}
 use Rattle.host_joint.specs.Races.{Ticket, TicketHolds, Acts, ActRaces, ActIsLate, Triggers, TriggerRaces, TriggerIsLate}
 use Rattle.host_joint.specs.StatusReads.{packets_in, IsUsual, Brings, QuietHeld, Quiet, none_or_one, asked_by, IsEarlier, IsOther, IsNotify}
-use Rattle.host_joint.specs.Beside.{messages_beside, answers_beside, device_beside, Doing, HasAsk, HasRecovery, HasTicket, Does, MayHalt, waits_for, unlinks_for, asked_beside, AsksNoStatus, IfAny, NamesOther, KeepsApart, IsElsewhere, entries_beside, AreApartBeside, DoesBeside, Beside, GivesBeside, ServiceBeside, OlderBeside, HaltBeside, DoesAsIt}
+use Rattle.host_joint.specs.Beside.{messages_beside, answers_beside, device_beside, Doing, HasAsk, HasRecovery, HasTicket, Does, MayHalt, waits_for, unlinks_for, asked_beside, AsksNoStatus, IfAny, NamesOther, KeepsApart, IsElsewhere, entries_beside, AreAllApart, DoesBeside, Beside, GivesBeside, ServiceBeside, OlderBeside, HaltBeside, DoesAsIt}
 use Rattle.host_joint.proofs.Flows.{lines_step, fitting_behind, order_behind}
 use Rattle.host_joint.proofs.Falling.{left_all, left_none}
 use Rattle.host_joint.proofs.Running.{sound}
@@ -801,50 +802,31 @@ none_before : (n : ℕ) (waits : Option SubmitHead) (unlinks : List UnlinkHead) 
 none_before n None unlinks h k = no_unlink_found n unlinks k
 none_before n (Some x) unlinks h k = rw (ne_eqb x.seqnum n (λ e. h (sym e))) (no_unlink_found n unlinks k)
 
-pub beside_spelled : (doing : Doing) (notify : Option SubmitHead) (older : List Packet) (next : ℕ) → AreApartBeside doing notify → Spelled (λ ups downs t. Beside doing notify older next ups downs t) (entries_beside doing notify)
-beside_spelled doing notify older next apart (Unlinked asked a) ups downs s bytes b spelled = (found, spelled)
+its_first : (e : Endpoint) (o : Option SubmitHead) (head : SubmitHead) (rest : List SubmitHead) → asked_of o e ≡ head ∷ rest → o ≡ Some head
+its_first e None head rest k = absurd (cc)
+its_first e (Some x) head rest k = at (eqb x.ep (number_of e)) k
   where
-    number : a.seqnum ≡ asked.seqnum
-    number = b.bond.fits.0.number
+    at : (c : Bool) → cond c (x ∷ []) [] ≡ head ∷ rest → Some x ≡ Some head
+    at true j = let same : x ≡ head = cc in ap (λ (y : SubmitHead). Some y) same
+    at false j = absurd (cc)
 
-    there : find a.seqnum (entries_of (waits_for doing) (unlinks_for doing)) ≡ Some (outstanding.Unlink asked.seqnum)
-    there = skip (waits_for doing) apart.waits
-      where
-        here : find a.seqnum (unlink_entries (unlinks_for doing)) ≡ Some (outstanding.Unlink asked.seqnum)
-        here = ap (λ (l : List UnlinkHead). find a.seqnum (unlink_entries l)) b.bond.lines.unlinked ∙ (rw (eq-eqb asked.seqnum a.seqnum (sym number)) refl)
-
-        its : (head : SubmitHead) → AllUnlinks (λ (unlink : UnlinkHead). head.seqnum ≢ unlink.seqnum) (unlinks_for doing) → head.seqnum ≢ a.seqnum
-        its head h e = (subst (λ (l : List UnlinkHead). AllUnlinks (λ (unlink : UnlinkHead). head.seqnum ≢ unlink.seqnum) l) b.bond.lines.unlinked h).0 (e ∙ number)
-
-        skip : (o : Option SubmitHead) → IfAny (λ (head : SubmitHead). AllUnlinks (λ (unlink : UnlinkHead). head.seqnum ≢ unlink.seqnum) (unlinks_for doing)) o → find a.seqnum (entries_of o (unlinks_for doing)) ≡ Some (outstanding.Unlink asked.seqnum)
-        skip None h = here
-        skip (Some x) h = rw (ne_eqb x.seqnum a.seqnum (its x h)) here
-
-    found : is_unlink (find a.seqnum (entries_beside doing notify)) ≡ true
-    found = ap (λ (o : Option Outstanding). is_unlink o) (found_first a.seqnum (entries_of (waits_for doing) (unlinks_for doing)) (entries_for notify) (outstanding.Unlink asked.seqnum) there)
-beside_spelled doing notify older next apart (Submitted asked a transferred) ups downs s bytes b spelled = by fits.endpoint refl
+-- the answer to one of two submits is spelled as one to what is not answered
+pub submit_spelled : (waits notify : Option SubmitHead) (unlinks : List UnlinkHead) → IfAny (λ (head : SubmitHead). IsOther notify head) waits → AreAllApart waits notify unlinks → (asked : SubmitHead) (a : RetSubmitHead) (transferred bytes : List ℕ) → a.seqnum ≡ asked.seqnum
+    → (waits ≡ Some asked) ⊎ (notify ≡ Some asked) → SpellsPut (Submitted asked a transferred) bytes → SpellsAnswer (entries_of waits unlinks ++ entries_for notify) (down.RetSubmit a transferred) bytes
+submit_spelled waits notify unlinks other apart asked a transferred bytes number which spelled = by which
   where
-    fits : Fitting asked
-    fits = b.bond.fits.0.0
-
-    number : a.seqnum ≡ asked.seqnum
-    number = b.bond.fits.0.1.number
-
     Goal : Type 0
-    Goal = SpellsAnswer (entries_beside doing notify) (down.RetSubmit a transferred) bytes
+    Goal = SpellsAnswer (entries_of waits unlinks ++ entries_for notify) (down.RetSubmit a transferred) bytes
 
     entry : Outstanding
     entry = outstanding.Submit asked.seqnum asked.dir asked.length
 
-    spells : find a.seqnum (entries_beside doing notify) ≡ Some entry → Goal
+    spells : find a.seqnum (entries_of waits unlinks ++ entries_for notify) ≡ Some entry → Goal
     spells e = (record { dir = asked.dir; size = asked.length }, ap (λ (o : Option Outstanding). submit_of o) e, spelled)
 
-    own : (o : Option SubmitHead) → o ≡ Some asked → find a.seqnum (entries_of o (unlinks_for doing)) ≡ Some entry
+    own : (o : Option SubmitHead) → o ≡ Some asked → find a.seqnum (entries_of o unlinks) ≡ Some entry
     own None e = absurd (cc)
-    own (Some x) e = let same : x ≡ asked = cc in subst (λ (y : SubmitHead). find a.seqnum (entries_of (Some y) (unlinks_for doing)) ≡ Some entry) (sym same) (rw (eq-eqb asked.seqnum a.seqnum (sym number)) refl)
-
-    waits_found : waits_for doing ≡ Some asked → Goal
-    waits_found is = spells (found_first a.seqnum (entries_of (waits_for doing) (unlinks_for doing)) (entries_for notify) entry (own (waits_for doing) is))
+    own (Some x) e = let same : x ≡ asked = cc in subst (λ (y : SubmitHead). find a.seqnum (entries_of (Some y) unlinks) ≡ Some entry) (sym same) (rw (eq-eqb asked.seqnum a.seqnum (sym number)) refl)
 
     its_other : (o : Option SubmitHead) → IfAny (λ (head : SubmitHead). IsOther (Some asked) head) o → IfAny (λ (head : SubmitHead). a.seqnum ≢ head.seqnum) o
     its_other None h = tt
@@ -853,25 +835,63 @@ beside_spelled doing notify older next apart (Submitted asked a transferred) ups
     its_unlinks : (l : List UnlinkHead) → AllUnlinks (λ (unlink : UnlinkHead). asked.seqnum ≢ unlink.seqnum) l → AllUnlinks (λ (unlink : UnlinkHead). a.seqnum ≢ unlink.seqnum) l
     its_unlinks l h = subst (λ (n : ℕ). AllUnlinks (λ (unlink : UnlinkHead). n ≢ unlink.seqnum) l) (sym number) h
 
-    notify_found : notify ≡ Some asked → Goal
-    notify_found is =
-        spells (found_behind a.seqnum (entries_of (waits_for doing) (unlinks_for doing)) (entries_for notify)
-        (none_before a.seqnum (waits_for doing) (unlinks_for doing) (its_other (waits_for doing) (subst (λ (o : Option SubmitHead). IfAny (λ (head : SubmitHead). IsOther o head) (waits_for doing)) is b.apart.other))
-        (its_unlinks (unlinks_for doing) (subst (λ (o : Option SubmitHead). IfAny (λ (head : SubmitHead). AllUnlinks (λ (unlink : UnlinkHead). head.seqnum ≢ unlink.seqnum) (unlinks_for doing)) o) is apart.notify_apart)))
+    by : (waits ≡ Some asked) ⊎ (notify ≡ Some asked) → Goal
+    by (inl is) = spells (found_first a.seqnum (entries_of waits unlinks) (entries_for notify) entry (own waits is))
+    by (inr is) =
+        spells (found_behind a.seqnum (entries_of waits unlinks) (entries_for notify)
+        (none_before a.seqnum waits unlinks (its_other waits (subst (λ (o : Option SubmitHead). IfAny (λ (head : SubmitHead). IsOther o head) waits) is other))
+        (its_unlinks unlinks (subst (λ (o : Option SubmitHead). IfAny (λ (head : SubmitHead). AllUnlinks (λ (unlink : UnlinkHead). head.seqnum ≢ unlink.seqnum) unlinks) o) is apart.notify_apart)))
         ∙ ap (λ (o : Option SubmitHead). find a.seqnum (entries_for o)) is ∙ rw (eq-eqb asked.seqnum a.seqnum (sym number)) refl)
 
-    its_first : (e : Endpoint) → asked.ep ≡ number_of e → (o : Option SubmitHead) (rest : List SubmitHead) → asked_of o e ≡ asked ∷ rest → o ≡ Some asked
-    its_first e own_end None rest k = absurd (cc)
-    its_first e own_end (Some x) rest k = at (eqb x.ep (number_of e)) k
-      where
-        at : (c : Bool) → cond c (x ∷ []) [] ≡ asked ∷ rest → Some x ≡ Some asked
-        at true j = let same : x ≡ asked = cc in ap (λ (y : SubmitHead). Some y) same
-        at false j = absurd (cc)
+-- the first answer is spelled as one to what is not answered
+pub pair_spelled : (Holds : List up.Message → List Put → State → Type 0) (asked_at : Endpoint → List SubmitHead) (waits notify : Option SubmitHead) (unlinks : List UnlinkHead) (next : ℕ) → IfAny (λ (head : SubmitHead). IsOther notify head) waits → AreAllApart waits notify unlinks
+    → ((e : Endpoint) (head : SubmitHead) (rest : List SubmitHead) → e ≢ InterruptIn → asked_at e ≡ head ∷ rest → waits ≡ Some head) → asked_at InterruptIn ≡ none_or_one notify
+    → (put : Put) (ups : List up.Message) (downs : List Put) (s : State) (bytes : List ℕ) → Bond Holds asked_at unlinks next ups (put ∷ downs) s → SpellsPut put bytes → SpellsAnswer (entries_of waits unlinks ++ entries_for notify) (message_of put) bytes
+pair_spelled Holds asked_at waits notify unlinks next other apart firsts last (Unlinked asked a) ups downs s bytes b spelled = (found, spelled)
+  where
+    number : a.seqnum ≡ asked.seqnum
+    number = b.fits.0.number
+
+    here : find a.seqnum (unlink_entries unlinks) ≡ Some (outstanding.Unlink asked.seqnum)
+    here = ap (λ (l : List UnlinkHead). find a.seqnum (unlink_entries l)) b.lines.unlinked ∙ (rw (eq-eqb asked.seqnum a.seqnum (sym number)) refl)
+
+    its : (head : SubmitHead) → AllUnlinks (λ (unlink : UnlinkHead). head.seqnum ≢ unlink.seqnum) unlinks → head.seqnum ≢ a.seqnum
+    its head h e = (subst (λ (l : List UnlinkHead). AllUnlinks (λ (unlink : UnlinkHead). head.seqnum ≢ unlink.seqnum) l) b.lines.unlinked h).0 (e ∙ number)
+
+    skip : (o : Option SubmitHead) → IfAny (λ (head : SubmitHead). AllUnlinks (λ (unlink : UnlinkHead). head.seqnum ≢ unlink.seqnum) unlinks) o → find a.seqnum (entries_of o unlinks) ≡ Some (outstanding.Unlink asked.seqnum)
+    skip None h = here
+    skip (Some x) h = rw (ne_eqb x.seqnum a.seqnum (its x h)) here
+
+    found : is_unlink (find a.seqnum (entries_of waits unlinks ++ entries_for notify)) ≡ true
+    found = ap (λ (o : Option Outstanding). is_unlink o) (found_first a.seqnum (entries_of waits unlinks) (entries_for notify) (outstanding.Unlink asked.seqnum) (skip waits apart.waits_apart))
+pair_spelled Holds asked_at waits notify unlinks next other apart firsts last (Submitted asked a transferred) ups downs s bytes b spelled = by fits.endpoint refl
+  where
+    fits : Fitting asked
+    fits = b.fits.0.0
+
+    Goal : Type 0
+    Goal = SpellsAnswer (entries_of waits unlinks ++ entries_for notify) (down.RetSubmit a transferred) bytes
+
+    its : (waits ≡ Some asked) ⊎ (notify ≡ Some asked) → Goal
+    its which = submit_spelled waits notify unlinks other apart asked a transferred bytes b.fits.0.1.number which spelled
+
+    at : (e : Endpoint) → asked.ep ≡ number_of e → e ≢ InterruptIn → Goal
+    at e own_end elsewhere = let x = first_asked_by asked_at unlinks Holds asked a transferred next ups downs s e own_end b in its (inl (firsts e asked x.0 elsewhere x.1))
 
     by : (e : Endpoint) → fits.endpoint ≡ e → Goal
-    by Control is = let e = first_asked_by (asked_beside (waits_for doing) notify) (unlinks_for doing) _ asked a transferred next ups downs s Control (fits.number ∙ ap number_of is) b.bond in waits_found (its_first Control (fits.number ∙ ap number_of is) (waits_for doing) e.0 e.1)
-    by BulkOut is = let e = first_asked_by (asked_beside (waits_for doing) notify) (unlinks_for doing) _ asked a transferred next ups downs s BulkOut (fits.number ∙ ap number_of is) b.bond in waits_found (its_first BulkOut (fits.number ∙ ap number_of is) (waits_for doing) e.0 e.1)
-    by BulkIn is = let e = first_asked_by (asked_beside (waits_for doing) notify) (unlinks_for doing) _ asked a transferred next ups downs s BulkIn (fits.number ∙ ap number_of is) b.bond in waits_found (its_first BulkIn (fits.number ∙ ap number_of is) (waits_for doing) e.0 e.1)
+    by Control is = at Control (fits.number ∙ ap number_of is) (λ e. cc)
+    by BulkOut is = at BulkOut (fits.number ∙ ap number_of is) (λ e. cc)
+    by BulkIn is = at BulkIn (fits.number ∙ ap number_of is) (λ e. cc)
     by InterruptIn is =
-        let e = first_asked_by (asked_beside (waits_for doing) notify) (unlinks_for doing) _ asked a transferred next ups downs s InterruptIn (fits.number ∙ ap number_of is) b.bond in
-        notify_found (one_only notify asked e.0 e.1)
+        let x = first_asked_by asked_at unlinks Holds asked a transferred next ups downs s InterruptIn (fits.number ∙ ap number_of is) b in
+        its (inr (one_only notify asked x.0 (sym last ∙ x.1)))
+
+first_of_waits : (waits notify : Option SubmitHead) (e : Endpoint) (head : SubmitHead) (rest : List SubmitHead) → e ≢ InterruptIn → asked_beside waits notify e ≡ head ∷ rest → waits ≡ Some head
+first_of_waits waits notify Control head rest elsewhere is = its_first Control waits head rest is
+first_of_waits waits notify BulkOut head rest elsewhere is = its_first BulkOut waits head rest is
+first_of_waits waits notify BulkIn head rest elsewhere is = its_first BulkIn waits head rest is
+first_of_waits waits notify InterruptIn head rest elsewhere is = absurd (elsewhere refl)
+
+pub beside_spelled : (doing : Doing) (notify : Option SubmitHead) (older : List Packet) (next : ℕ) → AreAllApart (waits_for doing) notify (unlinks_for doing) → Spelled (λ ups downs t. Beside doing notify older next ups downs t) (entries_beside doing notify)
+beside_spelled doing notify older next apart put ups downs s bytes b spelled =
+    pair_spelled _ (asked_beside (waits_for doing) notify) (waits_for doing) notify (unlinks_for doing) next b.apart.other apart (first_of_waits (waits_for doing) notify) refl put ups downs s bytes b.bond spelled

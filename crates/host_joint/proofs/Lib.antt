@@ -74,3 +74,4 @@ mod Aside
 mod Reaching
 mod Besides
 mod BesideExamples
+mod StatusTicketed

@@ -11,7 +11,7 @@ use Rattle.tmc_law.specs.State.{State, Packet, queue_of}
 use Rattle.tmc_law.specs.Put.{Put, Submitted, Unlinked, unlink_answer, success, unlinked}
 use Rattle.host_joint.specs.Lines.{sent_to, sent_heads, heads, events_of, without, LeftBy, unlinks_in, unlinked_by, Lines, EmptyLine, Fitting}
 use Rattle.host_joint.specs.Bond.{Bond}
-use Rattle.host_joint.specs.StatusReads.{StatusRead, StatusAt, StatusComes, StatusPends, StatusPolled, StatusSaid, StatusBusy, StatusOver, StatusHeld, QuietHeld, none_or_one, asked_by, while, IsOther, Quiet, UnlinkAt, UnlinkOnItsWay, UnlinkDidHit, UnlinkDidMiss, FreeHeld, GoneRead, CancelledRead, LateRead, GivesCancelled, CancelSuccess, CancelBusy, CancelService, CancelOlder, CancelByte, CancelHalt, UnlinkOver, OverHit, OverMissed}
+use Rattle.host_joint.specs.StatusReads.{StatusRead, StatusAt, StatusComes, StatusPends, StatusPolled, StatusSaid, StatusBusy, StatusOver, StatusHeld, QuietHeld, none_or_one, asked_by, while, IsOther, Quiet, UnlinkAt, UnlinkOnItsWay, UnlinkDidHit, UnlinkDidMiss, FreeHeld, GoneRead, CancelledRead, LateRead, GivesLate, LateService, LateOlder, LateHalt, Brings, GivesCancelled, CancelSuccess, CancelBusy, CancelService, CancelOlder, CancelByte, CancelHalt, UnlinkOver, OverHit, OverMissed}
 use Rattle.host_joint.proofs.Flows.{unlinked-append, unlinks-append, all_answered}
 use Rattle.host_joint.proofs.Hosting.{own_event, other_event}
 use Rattle.host_joint.proofs.Recovering.{no_event}
@@ -170,6 +170,60 @@ cancelled_given read unlink waits notify got older asked a transferred next ups 
     by BulkOut is = let e = first_asked_by (asked_by (while waits read.head) notify) (unlink ∷ []) _ asked a transferred next ups downs s BulkOut (fits.number ∙ ap number_of is) r.bond in some_first asked e.0 e.1
     by BulkIn is = let e = first_asked_by (asked_by (while waits read.head) notify) (unlink ∷ []) _ asked a transferred next ups downs s BulkIn (fits.number ∙ ap number_of is) r.bond in some_first asked e.0 e.1
     by InterruptIn is = from_notify read unlink waits notify got older asked a transferred next ups downs s (fits.number ∙ ap number_of is) r
+
+-- ---- the answer to that submit behind INTERRUPT_IN_BUSY
+
+pub late_given : (unlink : UnlinkHead) (notify : Option SubmitHead) (older : List Packet) (asked : SubmitHead) (a : RetSubmitHead) (transferred : List ℕ) (next : ℕ) (ups : List up.Message) (downs : List Put) (s : State)
+    → LateRead unlink notify older next ups (Submitted asked a transferred ∷ downs) s → GivesLate unlink notify older asked a transferred next ups downs s
+late_given unlink notify older asked a transferred next ups downs s r = by fits.endpoint refl
+  where
+    fits : Fitting asked
+    fits = r.bond.fits.0.0
+
+    elsewhere : (e : Endpoint) → asked.ep ≡ number_of e → asked_by None notify e ≡ [] → GivesLate unlink notify older asked a transferred next ups downs s
+    elsewhere e own none = let x = first_asked_by (asked_by None notify) (unlink ∷ []) _ asked a transferred next ups downs s e own r.bond in some_first asked x.0 (sym none ∙ x.1)
+
+    still : (left : List Packet) → asked.ep ≡ 3 → notify ≡ Some asked → UnlinkAt (λ ups downs s. FreeHeld left ups downs s) (λ ups downs s. ⊥) unlink ups downs s → LateRead unlink None left next ups downs s
+    still left own is race = record {
+      earlier = tt;
+      target = r.target;
+      names = r.names;
+      other = λ head none. absurd (cc);
+      bond = answered_by _ (λ ups downs s. UnlinkAt (λ ups downs s. FreeHeld left ups downs s) (λ ups downs s. ⊥) unlink ups downs s) (asked_by None notify) (asked_by None None) (unlink ∷ []) InterruptIn asked a transferred next ups downs s own
+          (ap (λ (o : Option SubmitHead). none_or_one o) is) refl (request_kept None notify) r.bond race;
+    }
+
+    -- without that answer
+    free_given : (front : List up.Message) (l : List Put) → asked.ep ≡ 3 → notify ≡ Some asked → FreeHeld older front (Submitted asked a transferred ∷ l) s
+        → ((left : List Packet) → FreeHeld left front l s → LateRead unlink None left next ups downs s) → GivesLate unlink notify older asked a transferred next ups downs s
+    free_given front l own is h goes = which (first older asked a transferred l s own h.quiet.brings)
+      where
+        behind : (left : List Packet) → Brings left l s → FreeHeld left front l s
+        behind left brings = record { sent = h.sent; queue = h.queue; events = sym (other_event Control asked a transferred l 3 own refl) ∙ h.events; quiet = record { rest = h.quiet.rest; brings = brings } }
+
+        which : First older a transferred l s → GivesLate unlink notify older asked a transferred next ups downs s
+        which (FirstService byte good text brings) = LateService byte is good text (goes older (behind older brings))
+        which (FirstStatus tag byte others good line text brings) = LateOlder _ others is good line text (goes others (behind others brings))
+        which (FirstHalt halted brings) = LateHalt is halted (goes older (behind older brings))
+
+    missed : (before after : List Put) → asked.ep ≡ 3 → notify ≡ Some asked → FreeHeld older ups (before ++ after) s → Parts (Submitted asked a transferred) (unlink_answer unlink success) downs before after
+        → GivesLate unlink notify older asked a transferred next ups downs s
+    missed before after own is h (PartsFirst same rest none) = no_submit asked a transferred unlink _ same
+    missed before after own is h (PartsLater more same rest) =
+        free_given ups (more ++ after) own is (subst (λ (l : List Put). FreeHeld older ups (l ++ after) s) same h) (λ left held. still left own is (UnlinkDidMiss more after rest held))
+
+    its : asked.ep ≡ 3 → notify ≡ Some asked → UnlinkAt (λ ups downs s. FreeHeld older ups downs s) (λ ups downs s. ⊥) unlink ups (Submitted asked a transferred ∷ downs) s → GivesLate unlink notify older asked a transferred next ups downs s
+    its own is (UnlinkOnItsWay front whole h) = free_given front downs own is h (λ left held. still left own is (UnlinkOnItsWay front whole held))
+    its own is (UnlinkDidHit before after whole g) = absurd g
+    its own is (UnlinkDidMiss before after whole h) = missed before after own is h (parts (Submitted asked a transferred) (unlink_answer unlink success) downs before after whole)
+
+    by : (e : Endpoint) → fits.endpoint ≡ e → GivesLate unlink notify older asked a transferred next ups downs s
+    by Control is = elsewhere Control (fits.number ∙ ap number_of is) refl
+    by BulkOut is = elsewhere BulkOut (fits.number ∙ ap number_of is) refl
+    by BulkIn is = elsewhere BulkIn (fits.number ∙ ap number_of is) refl
+    by InterruptIn is =
+        let own : asked.ep ≡ 3 = fits.number ∙ ap number_of is in
+        let x = first_asked_by (asked_by None notify) (unlink ∷ []) _ asked a transferred next ups downs s InterruptIn own r.bond in its own (one_only notify asked x.0 x.1) r.bond.held
 
 -- ---- the answer to the unlink
 

@@ -546,7 +546,7 @@ status_owned read waits notify got older asked a byte next ups downs s own good 
 
 -- ---- over a link
 
-apart_by : (request notify : Option SubmitHead) → ((head : SubmitHead) → request ≡ Some head → IsOther notify head) → AreApart (asked_by request notify)
+pub apart_by : (request notify : Option SubmitHead) → ((head : SubmitHead) → request ≡ Some head → IsOther notify head) → AreApart (asked_by request notify)
 apart_by request notify other = record { rising = rising; apart = apart }
   where
     one_rises : (o : Option SubmitHead) → Rising (none_or_one o)
@@ -585,7 +585,7 @@ apart_by request notify other = record { rising = rising; apart = apart }
     apart InterruptIn BulkIn differ = none_of notify
     apart InterruptIn InterruptIn differ = absurd (differ refl)
 
-few_by : (request notify : Option SubmitHead) → total_of (asked_by request notify) ≤ pending_most
+pub few_by : (request notify : Option SubmitHead) → total_of (asked_by request notify) ≤ pending_most
 few_by request notify = omega (arith, one request, one notify)
   where
     one : (o : Option SubmitHead) → length (none_or_one o) ≤ 1

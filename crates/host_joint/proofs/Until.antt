@@ -165,7 +165,7 @@ answers_are a b c d a' b' c' d' answers pa pb pc pd e =
     subst (λ (q : List Pending). answers_at q b' c' d' ≡ answers) pa (subst (λ (q : List Pending). answers_at a q c' d' ≡ answers) pb
     (subst (λ (q : List Pending). answers_at a b q d' ≡ answers) pc (subst (λ (q : List Pending). answers_at a b c q ≡ answers) pd e)))
 
-its_answer : (head : SubmitHead) (x : Pending) (put : Put) (downs : List Put) → x.head ≡ head → ended unplugged x ∷ [] ≡ put ∷ downs → TellsUnplugged (Some head) put downs
+pub its_answer : (head : SubmitHead) (x : Pending) (put : Put) (downs : List Put) → x.head ≡ head → ended unplugged x ∷ [] ≡ put ∷ downs → TellsUnplugged (Some head) put downs
 its_answer head x put downs is e = record {
   head = x.head;
   answer = record { seqnum = x.head.seqnum; status = unplugged; actual = length x.moved };

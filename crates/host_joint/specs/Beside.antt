@@ -153,10 +153,10 @@ pub data GivesBeside (doing : Doing) (notify : Option SubmitHead) (older : List 
 abbrev pub entries_beside : Doing → (notify : Option SubmitHead) → List Outstanding
 entries_beside doing notify = entries_of (waits_for doing) (unlinks_for doing) ++ entries_for notify
 
--- no two of them have one number
-pub record AreApartBeside (doing : Doing) (notify : Option SubmitHead) : Type 0 where
-  pub waits : IfAny (λ head. AllUnlinks (λ unlink. head.seqnum ≢ unlink.seqnum) (unlinks_for doing)) (waits_for doing)
-  pub notify_apart : IfAny (λ head. AllUnlinks (λ unlink. head.seqnum ≢ unlink.seqnum) (unlinks_for doing)) notify
+-- of a submit, one to Interrupt-IN and unlinks, no two have one number
+pub record AreAllApart (waits notify : Option SubmitHead) (unlinks : List UnlinkHead) : Type 0 where
+  pub waits_apart : IfAny (λ head. AllUnlinks (λ unlink. head.seqnum ≢ unlink.seqnum) unlinks) waits
+  pub notify_apart : IfAny (λ head. AllUnlinks (λ unlink. head.seqnum ≢ unlink.seqnum) unlinks) notify
 
 abbrev pub JoinedBeside : Doing → (notify : Option SubmitHead) → (older : List Packet) → (next devid : ℕ) → (written read : List ℕ) → List RunStep → State → Type 0
 JoinedBeside doing notify older next devid written read steps s = JointBy (λ ups downs t. Beside doing notify older next ups downs t) devid written read steps s

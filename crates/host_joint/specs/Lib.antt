@@ -33,6 +33,8 @@ pub mod Races
 pub mod StatusReads
 -- any of these beside a submit to Interrupt-IN
 pub mod Beside
+-- a status read in any of its situations
+pub mod StatusTickets
 -- examples
 pub mod WorkedAsks
 pub mod WorkedTies

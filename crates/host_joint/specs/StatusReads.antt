@@ -311,6 +311,14 @@ pub data GivesCancelled (read : StatusRead) (unlink : UnlinkHead) (waits : Bool)
   CancelHalt : notify ≡ Some asked → answer.status ≡ stalled → CancelledRead read unlink waits None got older next ups downs s
       → GivesCancelled read unlink waits notify got older asked answer transferred next ups downs s
 
+-- the answer to a submit to Interrupt-IN that comes next behind INTERRUPT_IN_BUSY, while the unlink is not answered
+pub data GivesLate (unlink : UnlinkHead) (notify : Option SubmitHead) (older : List Packet) (asked : SubmitHead) (answer : RetSubmitHead) (transferred : List ℕ) (next : ℕ) (ups : List up.Message) (downs : List Put) (s : State) : Type 0 where
+  LateService : (byte : ℕ) → notify ≡ Some asked → answer.status ≡ success → transferred ≡ packet_bytes (ServicePacket byte) → LateRead unlink None older next ups downs s
+      → GivesLate unlink notify older asked answer transferred next ups downs s
+  LateOlder : (packet : Packet) (others : List Packet) → notify ≡ Some asked → answer.status ≡ success → older ≡ packet ∷ others → transferred ≡ packet_bytes packet → LateRead unlink None others next ups downs s
+      → GivesLate unlink notify older asked answer transferred next ups downs s
+  LateHalt : notify ≡ Some asked → answer.status ≡ stalled → LateRead unlink None older next ups downs s → GivesLate unlink notify older asked answer transferred next ups downs s
+
 -- the answer to the unlink that comes next
 pub data UnlinkOver (read : StatusRead) (unlink : UnlinkHead) (waits : Bool) (notify : Option SubmitHead) (got : Option ℕ) (older : List Packet) (answer : RetUnlinkHead) (next : ℕ) (ups : List up.Message) (downs : List Put) (s : State) : Type 0 where
   -- it hit: the status byte was not read, nor will be

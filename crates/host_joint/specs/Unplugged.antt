@@ -53,6 +53,33 @@ pub record TellsUnplugged (waits : Option SubmitHead) (put : Put) (downs : List 
   pub status : answer.status ≡ unplugged
   pub last : downs ≡ []
 
+-- An answer is the one to this submit, with status -108.
+pub record TellsOf (asked : Option SubmitHead) (put : Put) : Type 0 where
+  pub head : SubmitHead
+  pub answer : RetSubmitHead
+  pub transferred : List ℕ
+  pub is : put ≡ Submitted head answer transferred
+  pub awaited : asked ≡ Some head
+  pub number : answer.seqnum ≡ head.seqnum
+  pub status : answer.status ≡ unplugged
+
+-- Where one submit to Interrupt-IN may be pending besides, it is told last; a submit that was answered before is not told again.
+pub data TellsBoth (waits notify : Option SubmitHead) (put : Put) (downs : List Put) : Type 0 where
+  TellsOne : TellsOf waits put → downs ≡ [] → TellsBoth waits notify put downs
+  TellsTwo : (last : Put) → TellsOf waits put → TellsOf notify last → downs ≡ last ∷ [] → TellsBoth waits notify put downs
+  TellsNotify : TellsOf notify put → downs ≡ [] → TellsBoth waits notify put downs
+
+-- The first answer on its way to such a host that is tied, or was: what ties it can be used for that answer, in the state where it holds; or the answer
+-- tells of the unplugging.
+pub data NextBoth (Ties : List up.Message → List Put → State → Type 0) (waits notify : Option SubmitHead) (put : Put) (ups : List up.Message) (downs : List Put) (t : State) : Type 0 where
+  -- the device is plugged
+  BothPlugged : Ties ups (put ∷ downs) t → NextBoth Ties waits notify put ups downs t
+  -- the answer was on its way when the device was unplugged
+  BothBefore : (before : State) (front : List Put) → Ties ups (put ∷ front) before → Steps before Unplug (unplug_answers before) t → downs ≡ front ++ unplug_answers before
+      → NextBoth Ties waits notify put ups downs t
+  -- it tells of the unplugging
+  BothBehind : (before : State) → Ties ups [] before → Steps before Unplug (unplug_answers before) t → TellsBoth waits notify put downs → NextBoth Ties waits notify put ups downs t
+
 -- The first answer on its way to a host that is bound, or was: what bound it can be used for that answer, in the state where it
 -- holds; or the answer tells of the unplugging.
 pub data NextUntil (situation : Situation) (waits : Option SubmitHead) (unlinks : List UnlinkHead) (next : ℕ) (put : Put) (ups : List up.Message) (downs : List Put) (t : State) : Type 0 where

@@ -20,7 +20,7 @@ ghost use Rattle.host_joint.specs.Tie.{IsUndisturbed};
 ghost use Rattle.host_joint.specs.Bond.{Stands, Resting};
 ghost use Rattle.host_joint.specs.Joint.{JointBy, TellsCalmly, TellsPlugged};
 ghost use Rattle.host_joint.specs.StatusReads.{Quiet, IsNotify};
-ghost use Rattle.host_joint.specs.Beside.{Doing, HasAsk, HasRecovery, Does, MayHalt, IsElsewhere, IfAny, KeepsApart, device_beside, Beside, GivesBeside, entries_beside, AreApartBeside, JoinedBeside, IsNextBeside};
+ghost use Rattle.host_joint.specs.Beside.{Doing, HasAsk, HasRecovery, Does, MayHalt, IsElsewhere, IfAny, KeepsApart, device_beside, Beside, GivesBeside, entries_beside, AreAllApart, waits_for, unlinks_for, JoinedBeside, IsNextBeside};
 
 use crate::{bonds_stay, no_submit_is_refused, tickets_are_held, ties_stay};
 use instr_plain::one_response;
@@ -114,10 +114,10 @@ pub fn notices_are_joined()
         → KeepsApart doing (Some head) → up.Spells devid (up.Submit head []) text
         → JoinedBeside doing None older next devid written read steps s → JoinedBeside doing (Some head) older (next + 1) devid (written ++ text) read steps s }
     ensures next { (doing : Doing) (notify : Option SubmitHead) (older : List Packet) (next devid : ℕ) (written read this more : List ℕ) (message : down.Message) (steps : List RunStep) (s : State)
-        → AreApartBeside doing notify → JoinedBeside doing notify older next devid written read steps s → out_bytes steps ≡ read ++ (this ++ more)
+        → AreAllApart (waits_for doing) notify (unlinks_for doing) → JoinedBeside doing notify older next devid written read steps s → out_bytes steps ≡ read ++ (this ++ more)
         → SpellsAnswer (entries_beside doing notify) message this → IsNextBeside doing notify older next devid message written read this steps s }
     ensures bad { (doing : Doing) (notify : Option SubmitHead) (older : List Packet) (next devid : ℕ) (written read rest more : List ℕ) (steps : List RunStep) (s : State) (f : Field)
-        → AreApartBeside doing notify → JoinedBeside doing notify older next devid written read steps s → out_bytes steps ≡ read ++ (rest ++ more)
+        → AreAllApart (waits_for doing) notify (unlinks_for doing) → JoinedBeside doing notify older next devid written read steps s → out_bytes steps ≡ read ++ (rest ++ more)
         → BadAt Urbs (entries_beside doing notify) rest f → ⊥ }
 {
     notices_are_kept_out();

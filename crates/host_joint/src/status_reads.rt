@@ -26,7 +26,7 @@ ghost use Rattle.host_joint.specs.Asking.{StaysPlugged};
 ghost use Rattle.host_joint.specs.Bond.{Stands, Resting, Bound};
 ghost use Rattle.host_joint.specs.Joint.{TellsPlugged, JointBy};
 ghost use Rattle.host_joint.specs.Unplugged.{Until};
-ghost use Rattle.host_joint.specs.StatusReads.{statuses, OnePolled, StatusRead, IsNotify, Quiet, ReadsStatus, GivesStatus, GivesQuiet, NoneTagged, while, entries_by, IsNextOfRead, CancelledRead, LateRead, GivesCancelled, UnlinkOver};
+ghost use Rattle.host_joint.specs.StatusReads.{statuses, OnePolled, StatusRead, IsNotify, Quiet, ReadsStatus, GivesStatus, GivesQuiet, NoneTagged, while, entries_by, IsNextOfRead, CancelledRead, LateRead, GivesCancelled, GivesLate, UnlinkOver};
 
 use crate::no_submit_is_refused;
 use instr_plain::one_response;
@@ -185,6 +185,8 @@ pub fn status_reads_are_cancelled()
         → UnlinkOver read unlink waits notify got older answer next ups downs s }
     ensures late { (unlink : UnlinkHead) (notify : Option SubmitHead) (older : List Packet) (run : List Entry) (next : ℕ) (ups : List up.Message) (downs : List Put) (s t : State)
         → Runs s run t → StaysPlugged run → LateRead unlink notify older next (inputs run ++ ups) downs s → LateRead unlink notify older next ups (downs ++ outputs run) t }
+    ensures late_answer { (unlink : UnlinkHead) (notify : Option SubmitHead) (older : List Packet) (asked : SubmitHead) (answer : RetSubmitHead) (transferred : List ℕ) (next : ℕ) (ups : List up.Message) (downs : List Put) (s : State)
+        → LateRead unlink notify older next ups (Submitted asked answer transferred ∷ downs) s → GivesLate unlink notify older asked answer transferred next ups downs s }
     ensures late_over { (unlink : UnlinkHead) (notify : Option SubmitHead) (older : List Packet) (asked : UnlinkHead) (answer : RetUnlinkHead) (next : ℕ) (ups : List up.Message) (downs : List Put) (s : State)
         → LateRead unlink notify older next ups (Unlinked asked answer ∷ downs) s
         → (answer ≡ record { seqnum = unlink.seqnum; status = success }) × Quiet notify older next ups downs s }

@@ -1,7 +1,7 @@
 use Rattle.host_joint.specs.StatusReads.{CancelledRead}
 use Rattle.host_joint.proofs.Until.{until_run}
 use Rattle.host_joint.proofs.StatusRacing.{cancelled_run, cancel_begins, late_run}
-use Rattle.host_joint.proofs.StatusCancelled.{cancelled_given, unlink_over, late_over}
+use Rattle.host_joint.proofs.StatusCancelled.{cancelled_given, unlink_over, late_over, late_given}
 use Rattle.host_joint.proofs.status_reads.status_reads_are_cancelled.Goals as goal
 
 pub returns-clause-unlink : goal.returns-clause-unlink
@@ -71,3 +71,6 @@ returns-clause-late c =
 
 pub returns-clause-late_over : goal.returns-clause-late_over
 returns-clause-late_over c = late_over
+
+pub returns-clause-late_answer : goal.returns-clause-late_answer
+returns-clause-late_answer c = late_given

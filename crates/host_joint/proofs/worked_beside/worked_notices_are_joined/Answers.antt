@@ -58,12 +58,12 @@ returns-clause-next c text bytes spelled put =
     let went = c.notices_are_joined.ensures.plugged (HasRecovery (Stands Resting) None []) (Some (notify_submit 0 8)) [] 1 devid text [] [] (takes_in text ∷ puts_out bytes ∷ []) start deafened tt
     (told_steps text bytes spelled put) ([], sym (append-nil (text ++ []) ∙ append-nil text)) kept in
     c.notices_are_joined.ensures.next (HasRecovery (Stands Resting) None []) (Some (notify_submit 0 8)) [] 1 devid text [] bytes [] (down.RetSubmit (record { seqnum = 0; status = stalled; actual = 0 }) [])
-    (takes_in text ∷ puts_out bytes ∷ []) deafened (record { waits = tt; notify_apart = tt }) went refl (record { dir = (notify_submit 0 8).dir; size = 8 }, refl, put)
+    (takes_in text ∷ puts_out bytes ∷ []) deafened (record { waits_apart = tt; notify_apart = tt }) went refl (record { dir = (notify_submit 0 8).dir; size = 8 }, refl, put)
 
 pub returns-clause-mistaken : goal.returns-clause-mistaken
 returns-clause-mistaken c text bytes byte s put joint =
     let next = c.notices_are_joined.ensures.next (HasAsk telling (Some (out_submit 1 112))) (Some (notify_submit 0 8)) [] 2 devid text [] bytes [] (down.RetSubmit (record { seqnum = 0; status = success; actual = 2 }) (0x85 ∷ byte ∷ []))
-    (puts_out bytes ∷ []) s (record { waits = tt; notify_apart = tt }) joint refl (record { dir = (notify_submit 0 8).dir; size = 8 }, refl, put) in
+    (puts_out bytes ∷ []) s (record { waits_apart = tt; notify_apart = tt }) joint refl (record { dir = (notify_submit 0 8).dir; size = 8 }, refl, put) in
     none_came byte next.put next.ups next.downs s
     (λ a transferred ups downs s tie. not_told 2 a transferred ups downs s (c.answers_are_the_expected.ensures telling (out_submit 1 112) 2 _ ups downs s tie))
     (λ p ups downs s tie. c.answers_are_the_expected.ensures telling (out_submit 1 112) 2 p ups downs s tie) next.is next.given
