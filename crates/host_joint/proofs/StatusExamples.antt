@@ -1,18 +1,23 @@
 -- what worked status reads need
-use Rattle.std.proofs.Common.{◌≡◌, ◌∙◌, ℕ, true, false, Option, Some, None, List, [], ◌∷◌, refl, ap, sym, lit<, lit≤, arith}
+use Rattle.std.proofs.Common.{◌≡◌, ◌∙◌, ℕ, true, false, Option, Some, None, List, [], ◌∷◌, take, drop, refl, ap, sym, lit<, lit≤, arith}
 use Rattle.usbip_wire.specs.declared.submit.SubmitHead.{SubmitHead}
 use Rattle.usbip_wire.specs.declared.ret_submit.RetSubmitHead.{RetSubmitHead}
 use Rattle.tmc_wire.specs.declared.class_request.ClassRequest.TheVariants.{ReadStatus}
 use Rattle.tmc_wire.specs.ControlTable.{row}
-use Rattle.tmc_law.specs.Endpoint.{ends}
-use Rattle.tmc_law.specs.State.{State, Packet}
+use Rattle.tmc_law.specs.Endpoint.{Control, InterruptIn, ends}
+use Rattle.tmc_law.specs.State.{State, Packet, start, arrived}
+use Rattle.tmc_law.specs.Queues.{Hits}
+use Rattle.tmc_law.specs.Step.{Steps, Comes}
+use Rattle.tmc_law.specs.Run.{Runs}
+use Rattle.host_joint.proofs.Coming.{comes}
+use Rattle.host_joint.proofs.Stopping.{all_wide}
 use Rattle.tmc_law.specs.Put.{Put, success, stalled}
 use Rattle.tmc_law.specs.WorkedSession.{notify_submit}
 use Rattle.tmc_law.specs.WorkedStatus.{status_submit}
 use Rattle.usbip_wire.specs.Up as up
 use Rattle.host_joint.specs.Requests.{IsClass}
 use Rattle.host_joint.specs.StatusReads.{ReadsStatus, GivesStatus, SaysSuccess, SaysBusy, BringsService, BringsOlder, BringsByte, BringsHalt}
-use Rattle.host_joint.specs.WorkedStatusReads.{first_read}
+use Rattle.host_joint.specs.WorkedStatusReads.{first_read, stopping_status, stopped_status, unplugging_status, unplugged_status}
 
 pub status_is : IsClass status_submit (ReadStatus 5)
 status_is = record {
@@ -63,3 +68,30 @@ other_tag asked answer byte next ups downs s good (BringsService other is fine t
 other_tag asked answer byte next ups downs s good (BringsOlder packet others is fine left text behind) = no_packet packet others left
 other_tag asked answer byte next ups downs s good (BringsByte other is fine none g text one behind) = first_apart 0x86 0x85 (byte ∷ []) (other ∷ []) (λ e. omega (arith, e)) text
 other_tag asked answer byte next ups downs s good (BringsHalt is halted behind) = no_stall (sym good ∙ halted)
+
+-- the two submits come, and are pending
+abbrev pub both_came : State
+both_came = record stopped_status { control = arrived status_submit [] ∷ [] }
+
+notice_comes : Steps start (Comes (up.Submit (notify_submit 1 8) [])) [] stopped_status
+notice_comes =
+    comes start (notify_submit 1 8) [] InterruptIn (record { plugged = refl; wide = refl; eight = refl; setup = refl; carried = refl; bytes = refl; free = refl; few = refl }) (record { number = refl; way = refl; usable = refl })
+
+request_comes : Steps stopped_status (Comes (up.Submit status_submit [])) [] both_came
+request_comes =
+    comes stopped_status status_submit [] Control (record { plugged = refl; wide = refl; eight = refl; setup = refl; carried = refl; bytes = refl; free = refl; few = refl }) (record { number = refl; way = refl; usable = refl })
+
+pub stops_first : Runs start (take 1 stopping_status) stopped_status
+stops_first = (stopped_status, notice_comes, refl)
+
+pub stops_second : Runs stopped_status (take 1 (drop 1 stopping_status)) both_came
+stops_second = (both_came, request_comes, refl)
+
+pub stops_third : Runs both_came (drop 2 stopping_status) stopped_status
+stops_third = (stopped_status, record { plugged = refl; leads = (all_wide (3 ∷ 0x00010002 ∷ 2 ∷ []) refl, Hits Control [] (arrived status_submit []) [] refl refl refl refl refl) }, refl)
+
+pub stops : Runs start stopping_status stopped_status
+stops = (stopped_status, notice_comes, (both_came, request_comes, stops_third))
+
+pub unplugs_both : Runs start unplugging_status unplugged_status
+unplugs_both = (stopped_status, notice_comes, (both_came, request_comes, (unplugged_status, record { plugged = refl; leads = record { answered = refl; is = refl } }, refl)))

@@ -1,10 +1,10 @@
 -- an example status read, from power-on, and one whose request is unlinked
 use Rattle.std.specs.Prelude.{[], ◌∷◌, List}
-use Rattle.tmc_law.specs.State.{State, start, arrived}
-use Rattle.tmc_law.specs.Put.{Unlinked, unlinked}
-use Rattle.tmc_law.specs.Step.{Comes}
+use Rattle.tmc_law.specs.State.{State, Unplugged, start, arrived}
+use Rattle.tmc_law.specs.Put.{Unlinked, unlinked, unplugged}
+use Rattle.tmc_law.specs.Step.{Comes, Unplug}
 use Rattle.tmc_law.specs.Run.{Entry}
-use Rattle.tmc_law.specs.WorkedSession.{notify_submit, unlink, submits, step}
+use Rattle.tmc_law.specs.WorkedSession.{notify_submit, unlink, submits, step, answered}
 use Rattle.tmc_law.specs.WorkedStatus.{status_submit, status_log}
 use Rattle.usbip_wire.specs.Up as up
 use Rattle.host_joint.specs.StatusReads.{StatusRead}
@@ -30,3 +30,14 @@ stopping_status =
 
 abbrev pub stopped_status : State
 stopped_status = record start { interrupt_in = arrived (notify_submit 1 8) [] ∷ [] }
+
+-- the device is unplugged while both are pending
+abbrev pub unplugging_status : List Entry
+unplugging_status =
+    submits (notify_submit 1 8) []
+    ∷ submits status_submit []
+    ∷ step Unplug (answered status_submit unplugged 0 [] ∷ answered (notify_submit 1 8) unplugged 0 [] ∷ [])
+    ∷ []
+
+abbrev pub unplugged_status : State
+unplugged_status = record start { presence = Unplugged }

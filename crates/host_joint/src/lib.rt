@@ -37,6 +37,7 @@ mod worked_reasons;
 mod worked_recoveries;
 mod worked_remotes;
 mod worked_status_reads;
+mod worked_status_tickets;
 mod worked_triggers;
 mod worked_unplugging;
 
@@ -155,6 +156,8 @@ pub use worked_status_reads::worked_packets_are_told;
 pub use worked_status_reads::worked_status_reads_are_cancelled;
 pub use worked_status_reads::worked_status_reads_are_read;
 pub use worked_status_reads::worked_status_reads_are_tied;
+pub use worked_status_tickets::worked_status_tickets_are_held;
+pub use worked_status_tickets::worked_status_tickets_are_read;
 pub use worked_triggers::worked_trigger_tickets_are_read;
 pub use worked_triggers::worked_trigger_tickets_are_tied;
 pub use worked_unplugging::worked_asks_are_unplugged;

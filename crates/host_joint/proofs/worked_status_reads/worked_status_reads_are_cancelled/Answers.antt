@@ -1,37 +1,18 @@
 use Rattle.std.proofs.Common.{◌≡◌, ℕ, true, false, Some, None, List, [], ◌∷◌, ◌++◌, refl, ap, sym}
 use Rattle.usbip_wire.specs.declared.ret_unlink.RetUnlinkHead.{RetUnlinkHead}
 use Rattle.usbip_wire.specs.Up as up
-use Rattle.tmc_law.specs.Endpoint.{Control, InterruptIn}
-use Rattle.tmc_law.specs.State.{State, start, arrived}
+use Rattle.tmc_law.specs.State.{State, start}
 use Rattle.tmc_law.specs.Put.{Put, Unlinked, success, unlinked}
-use Rattle.tmc_law.specs.Queues.{Hits}
-use Rattle.tmc_law.specs.Run.{Runs}
 use Rattle.tmc_law.specs.WorkedSession.{notify_submit, unlink, answered}
 use Rattle.tmc_law.specs.WorkedStatus.{status_submit, status_asked, unlink_behind_poll}
 use Rattle.host_joint.specs.StatusReads.{NonePolled, Quiet, ReadsStatus, CancelledRead, GivesCancelled, CancelSuccess, CancelBusy, CancelService, CancelOlder, CancelByte, CancelHalt, UnlinkOver, OverHit, OverMissed}
 use Rattle.host_joint.specs.WorkedStatusReads.{first_read, both_sent, status_given, stopping_status, stopped_status}
-use Rattle.host_joint.proofs.Coming.{comes}
-use Rattle.host_joint.proofs.Stopping.{all_wide}
-use Rattle.host_joint.proofs.StatusExamples.{two_submits}
+use Rattle.host_joint.proofs.StatusExamples.{two_submits, stops}
 use Rattle.host_joint.proofs.worked_status_reads.worked_status_reads_are_cancelled.Goals as goal
 
 pub returns-clause-unlinked : goal.returns-clause-unlinked
 returns-clause-unlinked c =
     c.status_reads_are_cancelled.ensures.unlink first_read (unlink 3 2) (Some (notify_submit 1 8)) None [] 3 both_sent [] start refl c.worked_status_reads_are_tied.ensures.begins
-
-abbrev both_came : State
-both_came = record stopped_status { control = arrived status_submit [] ∷ [] }
-
-stops : Runs start stopping_status stopped_status
-stops = (
-  stopped_status,
-  comes start (notify_submit 1 8) [] InterruptIn (record { plugged = refl; wide = refl; eight = refl; setup = refl; carried = refl; bytes = refl; free = refl; few = refl }) (record { number = refl; way = refl; usable = refl }),
-  (
-    both_came,
-    comes stopped_status status_submit [] Control (record { plugged = refl; wide = refl; eight = refl; setup = refl; carried = refl; bytes = refl; free = refl; few = refl }) (record { number = refl; way = refl; usable = refl }),
-    (stopped_status, record { plugged = refl; leads = (all_wide (3 ∷ 0x00010002 ∷ 2 ∷ []) refl, Hits Control [] (arrived status_submit []) [] refl refl refl refl refl) }, refl),
-  ),
-)
 
 no_hit : success ≡ unlinked → ⊥
 no_hit e = cc
