@@ -1,5 +1,5 @@
 -- what worked status reads need
-use Rattle.std.proofs.Common.{◌≡◌, ◌∙◌, ℕ, true, false, Option, Some, None, List, [], ◌∷◌, take, drop, refl, ap, sym, lit<, lit≤, arith}
+use Rattle.std.proofs.Common.{◌≡◌, ◌∙◌, ◌⊎◌, inl, inr, ℤ, pos, negsuc, ℕ, ◌+◌, true, false, Option, Some, None, List, [], ◌∷◌, take, drop, refl, ap, sym, lit<, lit≤, arith}
 use Rattle.usbip_wire.specs.declared.submit.SubmitHead.{SubmitHead}
 use Rattle.usbip_wire.specs.declared.ret_submit.RetSubmitHead.{RetSubmitHead}
 use Rattle.tmc_wire.specs.declared.class_request.ClassRequest.TheVariants.{ReadStatus}
@@ -11,7 +11,7 @@ use Rattle.tmc_law.specs.Step.{Steps, Comes}
 use Rattle.tmc_law.specs.Run.{Runs}
 use Rattle.host_joint.proofs.Coming.{comes}
 use Rattle.host_joint.proofs.Stopping.{all_wide}
-use Rattle.tmc_law.specs.Put.{Put, success, stalled}
+use Rattle.tmc_law.specs.Put.{Put, success, stalled, unplugged}
 use Rattle.tmc_law.specs.WorkedSession.{notify_submit}
 use Rattle.tmc_law.specs.WorkedStatus.{status_submit}
 use Rattle.usbip_wire.specs.Up as up
@@ -95,3 +95,15 @@ stops = (stopped_status, notice_comes, (both_came, request_comes, stops_third))
 
 pub unplugs_both : Runs start unplugging_status unplugged_status
 unplugs_both = (stopped_status, notice_comes, (both_came, request_comes, (unplugged_status, record { plugged = refl; leads = record { answered = refl; is = refl } }, refl)))
+
+-- -108 is neither 0 nor -32
+abbrev size_of : ℤ → ℕ
+size_of (pos n) = n
+size_of (negsuc n) = n + 1
+
+pub not_gone : unplugged ≡ success → ⊥
+not_gone e = let k : 108 ≡ 0 = ap size_of e in omega (arith, k)
+
+pub not_usual : (unplugged ≡ success) ⊎ (unplugged ≡ stalled) → ⊥
+not_usual (inl e) = not_gone e
+not_usual (inr e) = let k : 108 ≡ 32 = ap size_of e in omega (arith, k)

@@ -8,7 +8,7 @@ use Rattle.tmc_law.specs.WorkedStatus.{status_submit}
 use Rattle.host_joint.specs.Unplugged.{NextBoth, BothPlugged, BothBefore, BothBehind, TellsOf, TellsBoth, TellsOne, TellsTwo, TellsNotify}
 use Rattle.host_joint.specs.WorkedStatusReads.{first_read, both_sent, stopping_status, stopped_status, unplugging_status, unplugged_status}
 use Rattle.host_joint.specs.StatusTickets.{HasRead, StopsRead, StatusHolds}
-use Rattle.host_joint.proofs.StatusExamples.{two_submits, stops, unplugs_both}
+use Rattle.host_joint.proofs.StatusExamples.{two_submits, stops, unplugs_both, not_usual}
 use Rattle.host_joint.proofs.worked_status_tickets.worked_status_tickets_are_held.Goals as goal
 
 pub returns-clause-unplugged : goal.returns-clause-unplugged
@@ -24,10 +24,6 @@ pub returns-clause-stopped : goal.returns-clause-stopped
 returns-clause-stopped c =
     inl (c.status_tickets_are_held.ensures.stays (StopsRead first_read (unlink 3 2) true None) (Some (notify_submit 1 8)) [] stopping_status 4 [] [] start stopped_status stops ((λ e. cc), ((λ e. cc), ((λ e. cc), tt)))
     c.worked_status_reads_are_cancelled.ensures.unlinked)
-
-not_usual : (unplugged ≡ success) ⊎ (unplugged ≡ stalled) → ⊥
-not_usual (inl e) = cc
-not_usual (inr e) = cc
 
 same_asked : (x y : SubmitHead) (a b : RetSubmitHead) (k l : List ℕ) → Submitted x a k ≡ Submitted y b l → x ≡ y
 same_asked x y a b k l e = cc
