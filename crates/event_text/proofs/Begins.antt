@@ -1,5 +1,5 @@
 -- a hub may begin as a script says
-use Rattle.std.proofs.Common.{◌≡◌, ℕ, ◌+◌, ◌≤◌, Bool, true, false, ltb, cond, Result, Ok, Err, List, [], ◌∷◌, length, sym, ap, subst, arith}
+use Rattle.std.proofs.Common.{◌≡◌, ℕ, ◌+◌, ◌≤◌, Bool, true, false, ltb, cond, Result, Ok, Err, List, [], ◌∷◌, length, sym, subst, arith}
 use Rattle.host_hub.specs.declared.limits.TheConstants.{MAX_DEPTH}
 use Rattle.event_text.specs.declared.event.Script.{Script}
 use Rattle.event_text.specs.declared.event_line.Place.{Place}
@@ -9,7 +9,7 @@ use Rattle.event_text.specs.declared.event_line.Said.TheVariants.{First, Depth, 
 use Rattle.event_text.specs.declared.line_fault.LineWhat.{LineWhat}
 use Rattle.event_text.specs.declared.line_fault.LineWhat.TheVariants.{TooLong, TooMany}
 use Rattle.event_text.specs.EventLine.{line_words, place_behind}
-use Rattle.event_text.specs.EventScript.{IsEventScript, MayBegin, SayInTurn, named_first, named_depth, script_of}
+use Rattle.event_text.specs.EventScript.{IsEventScript, MayBegin, SayInTurn, named_first, named_depth}
 use Rattle.event_text.specs.EventSpelled.{SaidMayStand}
 use Rattle.event_text.specs.Script.{lines_most, line_most, judged}
 use Rattle.event_text.specs.Words.{lines_of, words_of}

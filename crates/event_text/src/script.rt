@@ -11,8 +11,8 @@ use crate::limits::{LINE_MOST, LINES_MOST};
 use crate::line_fault::LineWhat;
 use crate::line_stop::LineStop;
 use crate::way::Way;
-use crate::words::{is, octets_of, read_number};
-use std::alloc::Global;
+use crate::words::{is, octets_in, read_number};
+use std::mem;
 use tmc_base::{Octets, SUBMIT_MAX};
 use usbip_wire::{Dir, Outstanding};
 
@@ -43,9 +43,9 @@ pub(crate) fn read_first(line: &[u8]) -> Result<Phase, LineWhat>
     first_words(head, behind)
 }
 
-/// What this line says.
+/// What this line says. The bytes of a piece come in `room`, and what that held is dropped.
 pub(crate) fn read_later(
-    alloc: Global,
+    room: &mut Vec<u8>,
     way: Way,
     number: u32,
     line: &[u8],
@@ -56,7 +56,7 @@ pub(crate) fn read_later(
 {
     judge_size(number, line)?;
     let (head, behind) = first_word(line);
-    later_words(alloc, way, head, behind)
+    later_words(room, way, head, behind)
 }
 
 /// Refuses a line that has too many before it, or is too long.
@@ -95,12 +95,12 @@ fn read_phase(behind: Behind) -> Result<Phase, LineWhat>
     }
 }
 
-fn later_words(alloc: Global, way: Way, head: &[u8], behind: Behind) -> Result<Line, LineStop>
+fn later_words(room: &mut Vec<u8>, way: Way, head: &[u8], behind: Behind) -> Result<Line, LineStop>
     ensures read { IsRead result (later_words way (head.now ∷ words_behind behind.entry)) }
     ensures short { IfOk result IsShortLine }
 {
     if is(head, "bytes") {
-        return read_bytes(alloc, behind);
+        return read_bytes(room, behind);
     }
     match way {
         Way::Down if is(head, "submit") => Ok(Line::Adds(read_submit(behind)?)),
@@ -158,11 +158,12 @@ fn read_unlink(behind: Behind) -> Result<Outstanding, LineWhat>
     Ok(Outstanding::Unlink { seqnum })
 }
 
-fn read_bytes(alloc: Global, behind: Behind) -> Result<Line, LineStop>
+fn read_bytes(room: &mut Vec<u8>, behind: Behind) -> Result<Line, LineStop>
     ensures read { IsRead result (bytes_said (words_behind behind.entry)) }
     ensures short { IfOk result IsShortLine }
 {
     let word = behind.one().ok_or(LineWhat::Words)?;
-    let piece = octets_of(alloc, word)?.ok_or(LineWhat::Hex)?;
+    let none = Vec::new(*room.allocator());
+    let piece = octets_in(mem::replace(room, none), word)?.ok_or(LineWhat::Hex)?;
     Ok(Line::Bytes(piece))
 }

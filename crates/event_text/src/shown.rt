@@ -54,10 +54,11 @@ fn text_of(alloc: Global, way: Way, source: &[u8]) -> Result<Vec<u8>, LineFault>
     };
     let mut reading = Reading::new(alloc, way, phase)?;
     let mut text = Vec::new(alloc);
+    let mut room = Vec::new(alloc);
     let mut number = 2;
     'lines: while !rest.is_empty() {
         let (line, more) = first_line(rest);
-        match put_line(&mut reading, way, number, line, &mut text) {
+        match put_line(&mut reading, way, number, line, &mut room, &mut text) {
             Ok(()) => {}
             Err(stop) => return Err(stop.at(number)),
         }
@@ -68,12 +69,13 @@ fn text_of(alloc: Global, way: Way, source: &[u8]) -> Result<Vec<u8>, LineFault>
     Ok(text)
 }
 
-/// Reads one line, and appends what it prints.
+/// Reads one line, with its bytes in `room`, and appends what it prints.
 fn put_line(
     reading: &mut Reading,
     way: Way,
     number: u32,
     line: &[u8],
+    room: &mut Vec<u8>,
     text: &mut Vec<u8>,
 ) -> Result<(), LineStop>
     requires { IsSound reading.old.reader reading.old.dirs reading.old.refused }
@@ -81,9 +83,12 @@ fn put_line(
         (standing_of reading.new.reader reading.new.dirs) text.new.items }
     ensures sound { OnOk result (IsSound reading.new.reader reading.new.dirs reading.new.refused) }
 {
-    match read_later(*text.allocator(), way, number, line)? {
+    match read_later(room, way, number, line)? {
         Line::Adds(entry) => reading.add(entry)?,
-        Line::Bytes(piece) => reading.give(piece.as_slice(), text)?,
+        Line::Bytes(piece) => {
+            reading.give(piece.as_slice(), text)?;
+            *room = piece.into_vec();
+        }
     }
     Ok(())
 }

@@ -121,7 +121,15 @@ fn decode_behind(word: &[u8], out: &mut Vec<u8>) -> Result<bool, Memory>
 pub(crate) fn octets_of(alloc: Global, word: &[u8]) -> Result<Option<Octets>, Memory>
     ensures { IfOk result (λ bytes. bytes ≡ bytes_of word.now) }
 {
-    let mut bytes = Vec::new(alloc);
+    octets_in(Vec::new(alloc), word)
+}
+
+/// The same, in this room. What it held is dropped.
+pub(crate) fn octets_in(room: Vec<u8>, word: &[u8]) -> Result<Option<Octets>, Memory>
+    ensures { IfOk result (λ bytes. bytes ≡ bytes_of word.now) }
+{
+    let mut bytes = room;
+    bytes.clear();
     if read_hex(word, &mut bytes)? {
         Ok(Some(Octets::from(bytes)))
     } else {
