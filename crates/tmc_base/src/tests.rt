@@ -13,15 +13,25 @@ fn source_gives_its_bytes_in_pieces(rt: HostRuntime) -> Result<(), Fail> {
     let bytes = b"abcde".to_vec(rt.alloc())?;
     let fails = [2].to_vec(rt.alloc())?;
     let mut source = MemSource::new(bytes, 2, fails);
-    let mut buf = [0; 4];
-    assert_eq!(rt; source.read(&mut buf), ReadStep::Got(2));
-    assert_eq!(rt; &buf[..2], b"ab".as_slice());
-    assert_eq!(rt; source.read(&mut buf), ReadStep::Failed);
-    assert_eq!(rt; source.read(&mut buf[..1]), ReadStep::Got(1));
-    assert_eq!(rt; &buf[..1], b"c".as_slice());
-    assert_eq!(rt; source.read(&mut buf), ReadStep::Got(2));
-    assert_eq!(rt; &buf[..2], b"de".as_slice());
-    assert_eq!(rt; source.read(&mut buf), ReadStep::End);
+    let (mut first, mut second, mut third) = ([0; 4], [0; 1], [0; 4]);
+    let steps = [
+        source.read(&mut first),
+        source.read(&mut second),
+        source.read(&mut second),
+        source.read(&mut third),
+        source.read(&mut [0]),
+    ];
+    assert_eq!(rt;
+        steps,
+        [
+            ReadStep::Got(2),
+            ReadStep::Failed,
+            ReadStep::Got(1),
+            ReadStep::Got(2),
+            ReadStep::End
+        ]
+    );
+    assert_eq!(rt; (first, second, third), (*b"ab\0\0", *b"c", *b"de\0\0"));
     Ok(())
 }
 
@@ -29,10 +39,21 @@ fn source_gives_its_bytes_in_pieces(rt: HostRuntime) -> Result<(), Fail> {
 fn sink_takes_pieces_until_it_is_full(rt: HostRuntime) -> Result<(), Fail> {
     let fails = [2].to_vec(rt.alloc())?;
     let mut sink = MemSink::new(rt.alloc(), 5, 3, fails)?;
-    assert_eq!(rt; sink.write(b"abcdef"), WriteStep::Took(3));
-    assert_eq!(rt; sink.write(b"def"), WriteStep::Failed);
-    assert_eq!(rt; sink.write(b"def"), WriteStep::Took(2));
-    assert_eq!(rt; sink.write(b"f"), WriteStep::Failed);
+    let steps = [
+        sink.write(b"abcdef"),
+        sink.write(b"def"),
+        sink.write(b"def"),
+        sink.write(b"f"),
+    ];
+    assert_eq!(rt;
+        steps,
+        [
+            WriteStep::Took(3),
+            WriteStep::Failed,
+            WriteStep::Took(2),
+            WriteStep::Failed
+        ]
+    );
     assert_eq!(rt; sink.bytes(), b"abcde".as_slice());
     Ok(())
 }
