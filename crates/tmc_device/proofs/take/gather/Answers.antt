@@ -1,4 +1,4 @@
-use Rattle.std.proofs.Common.{◌∙◌, ℕ, List, Some, ap, sym, arith}
+use Rattle.std.proofs.Common.{◌∙◌, ℕ, List, ap, sym, arith}
 use Rattle.tmc_device.specs.Parts.{transfer_of}
 use Rattle.tmc_device.proofs.Judging.{taken_size, grown_by}
 use Rattle.tmc_device.proofs.take.gather.Goals as goal
