@@ -13,7 +13,7 @@ use Rattle.tmc_law.specs.Halts.{HaltsItself, DoesHalt}
 use Rattle.tmc_law.specs.BulkOut as out
 use Rattle.tmc_law.specs.BulkOut.{packets_of}
 use Rattle.tmc_law.specs.BulkIn as «in»
-use Rattle.tmc_law.specs.BulkIn.{NoAbortIn, NoPacketWanted, LeavesRoom}
+use Rattle.tmc_law.specs.BulkIn.{NoPacketWanted, LeavesRoom}
 use Rattle.tmc_law.specs.Status as status
 use Rattle.tmc_law.specs.Class as class
 use Rattle.tmc_law.specs.Step as step

@@ -1,6 +1,5 @@
-ghost use Rattle.std.specs.Prelude.{◌≡◌, ◌+◌, ◌<◌, ◌≤◌, [], length, false, IfOk, OnOk};
+ghost use Rattle.std.specs.Prelude.{◌≡◌, ◌+◌, ◌<◌, [], false, IfOk, OnOk};
 ghost use Rattle.tmc_law.specs.State.{start};
-ghost use Rattle.endpoint_pipes.specs.Held.{all_of};
 
 use crate::outputs::Outputs;
 use crate::packets::Packets;
@@ -31,7 +30,7 @@ pub(crate) struct Body {
 }
 
 impl Body {
-    ghost use Rattle.tmc_device.specs.Body.{state_of, seen_of, HasRoom, IsPrepared};
+    ghost use Rattle.tmc_device.specs.Body.{seen_of, HasRoom, IsPrepared};
 
     /// At power-on.
     pub(crate) fn new(alloc: Global) -> Result<Body, Memory>

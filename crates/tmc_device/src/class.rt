@@ -34,7 +34,7 @@ const CAPABILITIES: [u8; 24] = [
 ];
 
 impl Body {
-    ghost use Rattle.tmc_device.specs.Body.{state_of, seen_of, IsReady};
+    ghost use Rattle.tmc_device.specs.Body.{state_of, IsReady};
     ghost use Rattle.tmc_device.specs.Control.{IsAsked, ServesFirst, OperatesFirst};
     ghost use Rattle.tmc_device.specs.declared.answer.TheConstants.{LAYOUT_MAX};
 

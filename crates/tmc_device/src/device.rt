@@ -1,4 +1,4 @@
-ghost use Rattle.std.specs.Prelude.{◌≡◌, ◌≢◌, ◌<◌, ◌++◌, ◌∷◌, [], List, length, drop, MatchOption, IfOk, IfErr, OnOk, OnErr};
+ghost use Rattle.std.specs.Prelude.{◌≡◌, ◌≢◌, ◌<◌, ◌∷◌, [], List, drop, MatchOption, IfOk, IfErr, OnOk, OnErr};
 ghost use Rattle.tmc_law.specs.State.{State, Plugged, start};
 ghost use Rattle.tmc_law.specs.Put.{Put};
 ghost use Rattle.tmc_law.specs.Step.{Move, Steps, Comes};

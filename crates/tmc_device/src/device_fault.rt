@@ -1,4 +1,3 @@
-use endpoint_pipes::PipeFault;
 use thiserror::Error;
 use tmc_base::Memory;
 

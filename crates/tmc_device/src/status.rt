@@ -1,6 +1,5 @@
 ghost use Rattle.std.specs.Prelude.{◌≡◌, ◌<◌, ◌≤◌, [], false, MatchBool, vec_capacity};
 ghost use Rattle.tmc_wire.specs.declared.class_request.ClassRequest.TheVariants as request;
-ghost use Rattle.tmc_law.specs.State.{StatusPacket};
 ghost use Rattle.tmc_law.specs.Reached.{AreFew};
 ghost use Rattle.tmc_law.specs.Logging.{is_queued};
 ghost use Rattle.tmc_law.specs.Status.{IsStatusTag, Polls, is_status, status_layout as law_layout};

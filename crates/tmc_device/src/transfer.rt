@@ -1,4 +1,4 @@
-ghost use Rattle.std.specs.Prelude.{◌≡◌, ℕ, List, length, Some, None, IfOk};
+ghost use Rattle.std.specs.Prelude.{◌≡◌, ℕ, List, length, Some, None};
 ghost use Rattle.tmc_wire.specs.Standard.{header_size};
 ghost use Rattle.tmc_wire.specs.Transfer.{data_size};
 ghost use Rattle.tmc_law.specs.State.{State, transfer_size};

@@ -1,4 +1,4 @@
-use Rattle.std.proofs.Common.{◌≡◌, ◌∙◌, ◌+◌, ℕ, List, Option, take, drop, refl, ap, sym, subst}
+use Rattle.std.proofs.Common.{◌∙◌, ◌+◌, ℕ, List, Option, take, drop, refl, ap, sym, subst}
 use Rattle.std.specs.List.{slice_range}
 use Rattle.tmc_wire.specs.Transfer.{OutText}
 use Rattle.endpoint_pipes.specs.Outcome.{left_of}

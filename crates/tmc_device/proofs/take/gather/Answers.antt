@@ -1,7 +1,6 @@
-use Rattle.std.proofs.Common.{◌≡◌, ◌∙◌, ◌++◌, ℕ, List, [], Some, Option, length, take, drop, refl, ap, sym, arith}
-use Rattle.std.proofs.lemmas.List.{length-take, length-drop, take-append-drop}
-use Rattle.tmc_device.specs.Parts.{Opening, transfer_of, taken_in}
-use Rattle.tmc_device.proofs.Judging.{none_taken, taken_size, grown_by}
+use Rattle.std.proofs.Common.{◌∙◌, ℕ, List, ap, sym, arith}
+use Rattle.tmc_device.specs.Parts.{transfer_of}
+use Rattle.tmc_device.proofs.Judging.{taken_size, grown_by}
 use Rattle.tmc_device.proofs.take.gather.Goals as goal
 
 pub extend_part-requires : goal.extend_part-requires

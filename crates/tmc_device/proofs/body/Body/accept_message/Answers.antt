@@ -1,4 +1,4 @@
-use Rattle.std.proofs.Common.{◌∙◌, None, refl, take, drop, arith}
+use Rattle.std.proofs.Common.{None, refl, drop, arith}
 use Rattle.std.proofs.lemmas.List.{length-take, length-drop}
 use Rattle.tmc_wire.specs.declared.header.OutHeader.TheVariants.{Message}
 use Rattle.tmc_device.specs.Body.{state_of, whole_of}

@@ -3,7 +3,7 @@ use Rattle.tmc_law.specs.State.{Pending, Transfer}
 use Rattle.tmc_law.specs.BulkOut.{packets_of}
 use Rattle.endpoint_pipes.specs.Held.{Held}
 use Rattle.endpoint_pipes.specs.Outcome.{first_of, left_of}
-use Rattle.tmc_device.specs.Parts.{Opening, header_in, transfer_of, taken_in}
+use Rattle.tmc_device.specs.Parts.{Opening, transfer_of, taken_in}
 use Rattle.tmc_device.specs.Body.{state_of, transfer_in}
 use Rattle.tmc_device.proofs.Firsts.{there}
 use Rattle.tmc_device.proofs.Judging.{none_taken}
