@@ -75,3 +75,4 @@ mod Reaching
 mod Besides
 mod BesideExamples
 mod StatusTicketed
+mod GoingOn

@@ -6,6 +6,7 @@ use Rattle.usbip_wire.specs.declared.unlink.UnlinkHead.{UnlinkHead}
 use Rattle.usbip_wire.specs.Up as up
 use Rattle.tmc_wire.specs.Header.{in_header_bytes}
 use Rattle.tmc_wire.specs.Transfer.{alignment_of}
+use Rattle.tmc_law.specs.Endpoint.{Endpoint}
 use Rattle.tmc_law.specs.State.{State}
 use Rattle.tmc_law.specs.Put.{Put, success, stalled}
 use Rattle.tmc_law.specs.Logging.{unread}
@@ -13,7 +14,7 @@ use Rattle.host_joint.specs.Lines.{Event}
 use Rattle.host_joint.specs.Jobs.{Job, last_header, data_in}
 use Rattle.host_joint.specs.Reads.{Answered, answer, read_size, IsHalted}
 use Rattle.host_joint.specs.Stage.{Ran, Carries, IsInner}
-use Rattle.host_joint.specs.Asking.{Ask, Asking}
+use Rattle.host_joint.specs.Asking.{Ask, Asking, Cancelled}
 
 -- An answer to a transfer was taken: the transfer was taken whole, or Bulk-OUT is halted. The ask stays in hand.
 abbrev pub OutAnswered : Ask → List up.Message → SubmitHead → RetSubmitHead → List Put → State → Type 0
@@ -64,3 +65,11 @@ IsNextOf ask job = IsNext ask.last ask.message ask.tag ask.size ask.written job 
 abbrev pub unlinks_of : List UnlinkHead → List up.Message
 unlinks_of [] = []
 unlinks_of (head ∷ heads) = up.Unlink head ∷ unlinks_of heads
+
+-- The first submit of an endpoint's list was answered to an ask that a cancel has reached. Whichever ask is in hand behind that answer, it
+-- is a cancelled one, with the submits that are left and with the same unlinks.
+pub record IsLeft (asked : Endpoint → List SubmitHead) (unlinks : List UnlinkHead) (endpoint : Endpoint) (head : SubmitHead) (ups : List up.Message) (downs : List Put) (s : State) : Type 0 where
+  pub rest : List SubmitHead
+  pub first : asked endpoint ≡ head ∷ rest
+  pub later : (left : Endpoint → List SubmitHead) → left endpoint ≡ rest → ((other : Endpoint) → other ≢ endpoint → left other ≡ asked other)
+      → (ask : Ask) → Asking ask ups downs s → Cancelled left unlinks ask ups downs s

@@ -7,17 +7,20 @@ ghost use Rattle.usbip_wire.specs.declared.ret_submit.RetSubmitHead.{RetSubmitHe
 ghost use Rattle.usbip_wire.specs.declared.ret_unlink.RetUnlinkHead.{RetUnlinkHead};
 ghost use Rattle.usbip_wire.specs.Up as up;
 ghost use Rattle.tmc_wire.specs.declared.header.OutHeader.TheVariants.{Request};
-ghost use Rattle.tmc_law.specs.Endpoint.{BulkOut, BulkIn, InterruptIn, number_of};
+ghost use Rattle.tmc_law.specs.Endpoint.{Endpoint, BulkOut, BulkIn, InterruptIn, number_of};
 ghost use Rattle.tmc_law.specs.State.{State};
 ghost use Rattle.tmc_law.specs.Logging.{unread};
 ghost use Rattle.tmc_law.specs.Put.{Put, Submitted, Unlinked, success, stalled};
 ghost use Rattle.tmc_wire.specs.Standard.{header_size};
-ghost use Rattle.host_joint.specs.Lines.{Gives, unlinks_in, events_of};
+ghost use Rattle.host_joint.specs.Lines.{Gives, Lines, EmptyLine, InOrder, without, unlinks_in, events_of};
+ghost use Rattle.host_joint.specs.Unlinking.{Unlinking};
 ghost use Rattle.host_joint.specs.Jobs.{Job, IsJob, last_header};
 ghost use Rattle.host_joint.specs.Reads.{IsRead, IsHalted, gives};
 ghost use Rattle.host_joint.specs.Stage.{IsUnasked, IsInner, IsFinal, NoExec, IsAnother};
-ghost use Rattle.host_joint.specs.Asking.{Ask, Asking};
-ghost use Rattle.host_joint.specs.Hosted.{OutAnswered, InAnswered, IsNextOf, unlinks_of};
+ghost use Rattle.host_joint.specs.Asking.{Ask, Asking, Cancelled};
+ghost use Rattle.host_joint.specs.Hosted.{OutAnswered, InAnswered, IsNextOf, IsLeft, unlinks_of};
+
+use crate::{hosts_keep_lines, what_is_answered_is_over};
 
 /// The answers that a host takes in an ask. One to a transfer says that it was taken whole, or that Bulk-OUT halted. One to a
 /// read is full, ends the piece, or tells of a halt of Bulk-IN. One on Interrupt-IN, or to an unlink, leaves the ask as it is.
@@ -85,4 +88,32 @@ pub fn answers_go_on()
         → header_size ≤ length transferred }
 {
     answers_are_taken();
+}
+
+/// An ask that a cancel has reached goes on so. It begins where the host writes an unlink for each bulk submit that is not answered, in
+/// falling order. An answer to a submit leaves a cancelled ask, with one submit fewer; and so does the answer to an unlink, hit or miss, which
+/// is to the first of them. Once each unlink was answered, nothing of the bulk endpoints is left.
+pub fn cancelled_asks_go_on()
+    ensures begins { (asked : Endpoint → List SubmitHead) (heads : List UnlinkHead) (ask : Ask) (ups : List up.Message) (downs : List Put) (s : State)
+        → Lines asked [] ups downs s → Unlinking asked heads → Asking ask ups downs s
+        → Cancelled asked heads (record ask { gone = true }) (ups ++ unlinks_of heads) downs s × InOrder (ups ++ unlinks_of heads) }
+    ensures outs { (asked : Endpoint → List SubmitHead) (unlinks : List UnlinkHead) (ask : Ask) (ups : List up.Message) (head : SubmitHead) (answer : RetSubmitHead) (transferred : List ℕ) (downs : List Put) (s : State)
+        → head.ep ≡ number_of BulkOut → Cancelled asked unlinks ask ups (Submitted head answer transferred ∷ downs) s
+        → OutAnswered ask ups head answer downs s × IsLeft asked unlinks BulkOut head ups downs s }
+    ensures ins { (asked : Endpoint → List SubmitHead) (unlinks : List UnlinkHead) (ask : Ask) (ups : List up.Message) (head : SubmitHead) (answer : RetSubmitHead) (transferred : List ℕ) (downs : List Put) (s : State)
+        → head.ep ≡ number_of BulkIn → Cancelled asked unlinks ask ups (Submitted head answer transferred ∷ downs) s
+        → InAnswered ask ups (Gives head answer transferred) downs s × IsLeft asked unlinks BulkIn head ups downs s }
+    ensures interrupts { (asked : Endpoint → List SubmitHead) (unlinks : List UnlinkHead) (ask : Ask) (ups : List up.Message) (head : SubmitHead) (answer : RetSubmitHead) (transferred : List ℕ) (downs : List Put) (s : State)
+        → head.ep ≡ number_of InterruptIn → Cancelled asked unlinks ask ups (Submitted head answer transferred ∷ downs) s
+        → Asking ask ups downs s × IsLeft asked unlinks InterruptIn head ups downs s }
+    ensures unlinked { (asked : Endpoint → List SubmitHead) (unlinks : List UnlinkHead) (ask : Ask) (ups : List up.Message) (head : UnlinkHead) (answer : RetUnlinkHead) (downs : List Put) (s : State)
+        → Cancelled asked unlinks ask ups (Unlinked head answer ∷ downs) s
+        → (rest : List UnlinkHead) × (unlinks ≡ head ∷ rest) × Cancelled (λ endpoint. without head.target (asked endpoint)) rest ask ups downs s }
+    ensures over { (asked : Endpoint → List SubmitHead) (ask : Ask) (ups : List up.Message) (downs : List Put) (s : State)
+        → Cancelled asked [] ask ups downs s → EmptyLine BulkOut ups downs s × EmptyLine BulkIn ups downs s }
+{
+    answers_are_taken();
+    messages_are_written();
+    hosts_keep_lines();
+    what_is_answered_is_over();
 }

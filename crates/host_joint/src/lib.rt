@@ -64,6 +64,7 @@ pub use hits::unlinks_tell_hits;
 pub use host_moves::answers_are_taken;
 pub use host_moves::answers_go_on;
 pub use host_moves::asks_are_settled_late;
+pub use host_moves::cancelled_asks_go_on;
 pub use host_moves::messages_are_written;
 pub use joints::joints_begin;
 pub use joints::joints_stay;
