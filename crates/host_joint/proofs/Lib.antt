@@ -76,3 +76,6 @@ mod Besides
 mod BesideExamples
 mod StatusTicketed
 mod GoingOn
+mod Bringing
+mod Suiting
+mod Remaining

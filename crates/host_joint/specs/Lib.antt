@@ -50,3 +50,4 @@ pub mod WorkedStatusReads
 pub mod WorkedRaces
 pub mod WorkedBeside
 pub mod WorkedNotices
+pub mod Given

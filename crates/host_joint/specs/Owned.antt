@@ -1,5 +1,5 @@
 -- whose bytes a host has
-use Rattle.std.specs.Prelude.{◌≡◌, ℕ, ◌≤◌, List, [], ◌++◌, length, take, drop}
+use Rattle.std.specs.Prelude.{◌≡◌, ◌≢◌, ℕ, ◌≤◌, List, [], ◌++◌, length, take, drop}
 use Rattle.tmc_wire.specs.Standard.{header_size}
 use Rattle.tmc_law.specs.State.{State}
 use Rattle.tmc_law.specs.Logging.{unread}
@@ -23,3 +23,10 @@ pub data Owned (ask : Ask) (s : State) : Type 0 where
   PieceRead : (response carried rest : List ℕ) → Ran ask.last ask.message response s.log → response ≡ ask.sofar ++ (carried ++ unread s)
       → 1 ≤ length carried → length carried ≤ ask.size → piece_bytes ask.tag (length carried) (carried ++ unread s) ≡ ask.read ++ rest
       → IsFront (ask.sofar ++ data_of (length carried) ask.read) response → Owned ask s
+
+-- Behind the pieces that a host has read more of the same response is unread at the device, which goes on where they ended.
+pub record HasMore (ask : Ask) (s : State) : Type 0 where
+  pub response : List ℕ
+  pub ran : Ran ask.last ask.message response s.log
+  pub all : response ≡ ask.sofar ++ unread s
+  pub more : unread s ≢ []

@@ -6,6 +6,7 @@
 #![tactic(auto)]
 
 mod accepted;
+mod answers;
 mod asks;
 mod beside;
 mod bonds;
@@ -42,7 +43,10 @@ mod worked_triggers;
 mod worked_unplugging;
 
 pub use accepted::asks_halt_nothing;
+pub use accepted::no_bytes_are_refused;
 pub use accepted::no_submit_is_refused;
+pub use answers::answers_suit_their_submits;
+pub use answers::asks_are_given_pieces;
 pub use asks::asking_stays;
 pub use asks::asks_begin;
 pub use asks::cancelled_asks_stay;
@@ -79,6 +83,7 @@ pub use numbers::new_numbers_rise;
 pub use numbers::what_ran_is_kept;
 pub use numbers::what_ran_is_one;
 pub use owned::what_is_read_is_owned;
+pub use owned::what_is_unread_stays;
 pub use races::remote_tickets_are_cancelled;
 pub use races::tickets_are_held;
 pub use races::tickets_are_read;
