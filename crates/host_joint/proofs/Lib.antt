@@ -79,3 +79,4 @@ mod GoingOn
 mod Bringing
 mod Suiting
 mod Remaining
+mod ListHitting

@@ -1,13 +1,15 @@
 -- what the answer to an unlink says: whether the unlink hit (Linux kernel documentation, "USB/IP protocol")
-use Rattle.std.specs.Prelude.{◌≡◌, ℕ, ℤ, Option, Some, None, List, [], ◌∷◌, ◌++◌}
+use Rattle.std.specs.Prelude.{◌≡◌, ◌⊎◌, ℕ, ℤ, Option, Some, None, List, [], ◌∷◌, ◌++◌}
 use Rattle.tmc_base.specs.declared.run_step.RunStep.{RunStep}
 use Rattle.usbip_wire.specs.declared.submit.SubmitHead.{SubmitHead}
 use Rattle.usbip_wire.specs.declared.unlink.UnlinkHead.{UnlinkHead}
 use Rattle.usbip_wire.specs.Up as up
 use Rattle.usbip_wire.specs.Down as down
+use Rattle.tmc_law.specs.Endpoint.{Endpoint}
 use Rattle.tmc_law.specs.State.{State}
 use Rattle.tmc_law.specs.Put.{Put, Submitted, Unlinked, success, unlinked}
 use Rattle.tmc_law.specs.Laws.{message_of}
+use Rattle.host_joint.specs.Lines.{without, NoneNumbered}
 use Rattle.host_joint.specs.Bond.{Situation, IsUnlinkOf}
 use Rattle.host_joint.specs.Joint.{JointBy}
 use Rattle.host_joint.specs.Unplugged.{BoundUntil, NextUntil}
@@ -48,3 +50,23 @@ pub record IsNextTelling (devid : ℕ) (situation : Situation) (waits : Option S
   pub tells : TellsHit waits (put ∷ downs)
   pub later : (after : Situation) (left : Option SubmitHead) (others : List UnlinkHead) → BoundTelling after left others next ups downs s
       → JoinedTelling devid after left others next written (read ++ this) steps s
+
+-- ---- where any number of submits and unlinks is not answered
+
+-- none of a host's submits that are not answered has this number
+abbrev pub NoneAsked : (Endpoint → List SubmitHead) → ℕ → Type 0
+NoneAsked asked n = (endpoint : Endpoint) → NoneNumbered n (asked endpoint)
+
+-- its submits without the one of this number
+abbrev pub all_without : ℕ → (Endpoint → List SubmitHead) → Endpoint → List SubmitHead
+all_without n asked endpoint = without n (asked endpoint)
+
+-- The answer to an unlink has status 0 where its submit was answered, and -104 where it was not.
+abbrev pub TellsOf : (asked : Endpoint → List SubmitHead) (target : ℕ) → ℤ → Type 0
+TellsOf asked target status = (NoneAsked asked target × (status ≡ success)) ⊎ ((NoneAsked asked target → ⊥) × (status ≡ unlinked))
+
+-- So it is of each answer to an unlink; before it an answer to a submit, and one to an unlink, take theirs from the submits that are not answered.
+abbrev pub TellsHits : (Endpoint → List SubmitHead) → List Put → Type 0
+TellsHits asked [] = Unit {0}
+TellsHits asked (Submitted head answer transferred ∷ downs) = TellsHits (all_without head.seqnum asked) downs
+TellsHits asked (Unlinked head answer ∷ downs) = TellsOf asked head.target answer.status × TellsHits (all_without head.target asked) downs

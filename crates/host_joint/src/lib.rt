@@ -64,6 +64,7 @@ pub use bonds::messages_are_cancelled;
 pub use bonds::recoveries_end;
 pub use bonds::recoveries_go_on;
 pub use hits::joints_tell_hits;
+pub use hits::lists_tell_hits;
 pub use hits::unlinks_tell_hits;
 pub use host_moves::answers_are_taken;
 pub use host_moves::answers_go_on;
