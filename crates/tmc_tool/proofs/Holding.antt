@@ -43,7 +43,7 @@ LeaveCalm = (setting : Setting) (events : List Answered) (new : Worldly) → GoT
     → IsTold new.link → new.link.late ≡ false → IsCalm new
 
 pub owns_so : LeaveCalm → (first depth : ℕ) (run : List Answered) (world : Worldly) (answers : List (Option EventAnswer)) (text : List ℕ) → 1 ≤ first
-    → GoThrough (setting_of first depth) begun run world → (tells : Tells first depth world answers text) → AreCalmEvents run → world.link.late ≡ false → Owns world tells.hub
-owns_so leave first depth run world answers text some goes tells are late =
+    → GoThrough (setting_of first depth) begun run world → world.link.late ≡ false → (tells : Tells first depth world answers text) → AreCalmEvents run → Owns world tells.hub
+owns_so leave first depth run world answers text some goes late tells are =
     let calm = leave (setting_of first depth) run world goes are tells.facts.told late in
     record { owned = tells.facts.owned some calm; faultless = tells.facts.faultless some calm }

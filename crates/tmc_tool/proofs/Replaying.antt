@@ -24,6 +24,7 @@ replayed_so leave script answers hub text begins went tells =
         world = went.new;
         goes = went.goes;
         tells = told;
-        owns = owns_so leave script.first script.depth went.run went.new _ text begins.number went.goes told;
+        spelled = went.spelled refl;
+        owns = owns_so leave script.first script.depth went.run went.new _ text begins.number went.goes (went.spelled refl) told;
       };
     }

@@ -30,13 +30,14 @@ pub record Owns (world : Worldly) (hub : HubParts Looped) : Type 0 where
   pub faultless : IsFaultless hub.core.end
 
 -- From power-on these events, one after another, answered this, and led to a world that the text tells. Where none of them is a line
--- `halt` or `unplug`, and no answer of the instrument waits for memory, each ticket has what is its own.
+-- `halt` or `unplug`, each ticket has what is its own. No answer of the instrument waits for memory: so all that it did is told.
 pub record Reports (first depth : ℕ) (run : List Answered) (answers : List (Option EventAnswer)) (text : List ℕ) : Type 0 where
   pub begins : MayBegin first depth
   pub world : Worldly
   pub goes : GoThrough (setting_of first depth) begun run world
   pub tells : Tells first depth world answers text
-  pub owns : AreCalmEvents run → world.link.late ≡ false → Owns world tells.hub
+  pub spelled : world.link.late ≡ false
+  pub owns : AreCalmEvents run → Owns world tells.hub
 
 -- the events of a script, each with what it answered
 pub record Replayed (script : Script) (text : List ℕ) : Type 0 where

@@ -187,7 +187,7 @@ pub data Unsent (old : Looped) (sent : Option SendStep) (between : Looped) (piec
   NoRoom : sent ≡ Some send.Idle → piece ≢ [] → between ≡ record old { counts = one_idle old.counts } → Unsent old sent between piece
   Failed : sent ≡ Some send.Failed → Unsent old sent between piece
 
-no_sends : (p : Pace) (offered count : ℕ) → NoSendRoom p → count ≡ send_room p offered → 0 < count → ⊥
+pub no_sends : (p : Pace) (offered count : ℕ) → NoSendRoom p → count ≡ send_room p offered → 0 < count → ⊥
 no_sends Calm offered count none is some = absurd none
 no_sends (Paced rooms) offered count none is some = omega (arith, none, is, some)
 

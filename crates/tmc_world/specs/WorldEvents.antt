@@ -1,5 +1,5 @@
 -- what became of an event in a world, and of the hub behind which the world stands
-use Rattle.std.specs.Prelude.{◌≡◌, ◌≢◌, ◌⊎◌, ℕ, Bool, true, List, [], Option, None, Result, Ok, Err}
+use Rattle.std.specs.Prelude.{◌≡◌, ◌≢◌, ◌⊎◌, ℕ, Bool, true, false, List, [], Option, None, Result, Ok, Err}
 use Rattle.tmc_base.specs.declared.link.PollStep.{PollStep}
 use Rattle.tmc_base.specs.declared.link.SendStep.{SendStep}
 use Rattle.tmc_base.specs.declared.link.TendStep.{TendStep}
@@ -98,6 +98,10 @@ pub record LeadsTo (first depth : ℕ) (does : Event) (old : Worldly) (became : 
   pub new : Worldly
   pub goes : Applies (setting_of first depth) does old became new
   pub behind : IsBehind first depth new hub
+
+-- where nothing waited for memory in the world, and the event did not want it, nothing waits behind the event
+abbrev pub LeavesSpelled : (old : Worldly) → Applied → (hub : HubParts Looped) → Type 0
+LeavesSpelled old became hub = old.link.late ≡ false → became ≢ applied.Memory → hub.link.late ≡ false
 
 -- One turn of a hub that runs led it to behind a world, and answered so. The hub has ended behind it by what the link answered, or
 -- runs on. Where memory was wanting, nothing happened at the hub.

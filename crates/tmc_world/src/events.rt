@@ -3,7 +3,7 @@
 ghost use Rattle.std.specs.Prelude.{◌≡◌, ◌↔◌, ℕ, IsTrue};
 ghost use Rattle.event_text.specs.declared.event.Event.TheVariants as event;
 ghost use Rattle.tmc_world.specs.World.{Worldly, IsBehind, setting_of};
-ghost use Rattle.tmc_world.specs.WorldEvents.{LeadsTo, applied_turn, spelled_by};
+ghost use Rattle.tmc_world.specs.WorldEvents.{LeadsTo, LeavesSpelled, applied_turn, spelled_by};
 ghost use Rattle.tmc_world.specs.WorldSteps.{MayGoDown, MayGoUp};
 
 use crate::{Applied, World};
@@ -16,9 +16,11 @@ impl World {
     ///
     /// Where memory is wanting for an event other than a rest, nothing has changed, but that what waits for memory in the node may be
     /// taken in and spelled, and that a `down` may have counted that nothing was sent. An `up`, and a step of the instrument, want
-    /// memory also where they were made and their answers wait.
+    /// memory also where they were made and their answers wait. So an event that does not want memory leaves nothing waiting for it where
+    /// nothing did.
     pub fn apply(&mut self, event: &Event) -> Applied
-        ensures { (first depth : ℕ) (old : Worldly) → IsBehind first depth old self.old.hub → LeadsTo first depth event.now old result self.new.hub }
+        ensures leads { (first depth : ℕ) (old : Worldly) → IsBehind first depth old self.old.hub → LeadsTo first depth event.now old result self.new.hub }
+        ensures spelled { (first depth : ℕ) (old : Worldly) → IsBehind first depth old self.old.hub → LeavesSpelled old result self.new.hub }
     {
         match event {
             Event::Ask {
@@ -39,7 +41,8 @@ impl World {
 
     /// Bytes go up, and each answer to them is spelled.
     fn up_spelled(&mut self, most: u32) -> Applied
-        ensures { (first depth : ℕ) (old : Worldly) → IsBehind first depth old self.old.hub → LeadsTo first depth (event.Up most) old result self.new.hub }
+        ensures leads { (first depth : ℕ) (old : Worldly) → IsBehind first depth old self.old.hub → LeadsTo first depth (event.Up most) old result self.new.hub }
+        ensures spelled { (first depth : ℕ) (old : Worldly) → IsBehind first depth old self.old.hub → LeavesSpelled old result self.new.hub }
     {
         let became = self.up(most);
         spelled(self.hub().link().is_late(), became)
@@ -47,7 +50,8 @@ impl World {
 
     /// The instrument makes this step, and each answer of it is spelled.
     fn dev_spelled(&mut self, does: DevEvent) -> Applied
-        ensures { (first depth : ℕ) (old : Worldly) → IsBehind first depth old self.old.hub → LeadsTo first depth (event.Dev does) old result self.new.hub }
+        ensures leads { (first depth : ℕ) (old : Worldly) → IsBehind first depth old self.old.hub → LeadsTo first depth (event.Dev does) old result self.new.hub }
+        ensures spelled { (first depth : ℕ) (old : Worldly) → IsBehind first depth old self.old.hub → LeavesSpelled old result self.new.hub }
     {
         let became = self.dev(does);
         spelled(self.hub().link().is_late(), became)
