@@ -51,3 +51,4 @@ pub mod WorkedRaces
 pub mod WorkedBeside
 pub mod WorkedNotices
 pub mod Given
+pub mod WorkedCancels
