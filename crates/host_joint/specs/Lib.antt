@@ -52,3 +52,4 @@ pub mod WorkedBeside
 pub mod WorkedNotices
 pub mod Given
 pub mod WorkedCancels
+pub mod WorkedKept
