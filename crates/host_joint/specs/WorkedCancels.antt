@@ -1,10 +1,10 @@
 -- the query `*IDN?` with its request and its read written ahead, all of which are unlinked behind their answers
-use Rattle.std.specs.Prelude.{List, [], ◌∷◌, ◌++◌}
+use Rattle.std.specs.Prelude.{List, [], ◌∷◌, ◌++◌, drop}
 use Rattle.usbip_wire.specs.declared.unlink.UnlinkHead.{UnlinkHead}
 use Rattle.usbip_wire.specs.Up as up
 use Rattle.tmc_law.specs.Put.{Unlinked, success}
 use Rattle.tmc_law.specs.Step.{Comes}
-use Rattle.tmc_law.specs.Run.{Entry}
+use Rattle.tmc_law.specs.Run.{Entry, inputs}
 use Rattle.tmc_law.specs.WorkedQuery.{asking, answering}
 use Rattle.tmc_law.specs.WorkedSession.{unlink, step}
 
@@ -22,3 +22,7 @@ missing =
 
 abbrev pub racing : List Entry
 racing = (asking ++ answering) ++ missing
+
+-- the messages behind its first transfer
+abbrev pub racing_behind : List up.Message
+racing_behind = drop 1 (inputs racing)

@@ -41,6 +41,7 @@ mod worked_recoveries;
 mod worked_remotes;
 mod worked_status_reads;
 mod worked_status_tickets;
+mod worked_steps;
 mod worked_triggers;
 mod worked_unplugging;
 
@@ -173,6 +174,8 @@ pub use worked_status_reads::worked_status_reads_are_read;
 pub use worked_status_reads::worked_status_reads_are_tied;
 pub use worked_status_tickets::worked_status_tickets_are_held;
 pub use worked_status_tickets::worked_status_tickets_are_read;
+pub use worked_steps::worked_messages_stay;
+pub use worked_steps::worked_steps_are_taken;
 pub use worked_triggers::worked_trigger_tickets_are_read;
 pub use worked_triggers::worked_trigger_tickets_are_tied;
 pub use worked_unplugging::worked_asks_are_unplugged;
