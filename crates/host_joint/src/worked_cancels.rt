@@ -1,6 +1,6 @@
 //! Worked cancels with several unlinks. Each function does nothing, and its contract is what holds of the example.
 
-ghost use Rattle.std.specs.Prelude.{ℕ, true, List, [], ◌∷◌, ◌++◌, drop};
+ghost use Rattle.std.specs.Prelude.{ℕ, true, List, [], ◌∷◌, drop};
 ghost use Rattle.usbip_wire.specs.declared.ret_unlink.RetUnlinkHead.{RetUnlinkHead};
 ghost use Rattle.usbip_wire.specs.Up as up;
 ghost use Rattle.tmc_law.specs.Endpoint.{BulkOut, BulkIn};

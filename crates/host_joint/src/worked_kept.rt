@@ -1,7 +1,7 @@
 //! Worked asks whose response is kept: what is unread behind a piece, what a read brings, and bytes that no device refuses. Each function
 //! does nothing, and its contract is what holds of the example.
 
-ghost use Rattle.std.specs.Prelude.{◌≡◌, ℕ, List, [], ◌∷◌, ◌++◌, take, Option};
+ghost use Rattle.std.specs.Prelude.{◌≡◌, ℕ, List, [], ◌∷◌, Option};
 ghost use Rattle.tmc_base.specs.declared.field.Field.{Field};
 ghost use Rattle.tmc_base.specs.declared.run_step.RunStep.{RunStep};
 ghost use Rattle.tmc_base.specs.Told.{in_bytes, IsFront};
@@ -20,7 +20,7 @@ ghost use Rattle.host_joint.specs.Given.{BringsPiece};
 ghost use Rattle.host_joint.specs.Hand.{Hand};
 ghost use Rattle.host_joint.specs.Joint.{TellsCalmly, TellsPlugged, Joint};
 ghost use Rattle.host_joint.specs.WorkedAsks.{query_ask};
-ghost use Rattle.host_joint.specs.WorkedLines.{halting_between, halted_between};
+ghost use Rattle.host_joint.specs.WorkedLines.{halted_between};
 ghost use Rattle.host_joint.specs.WorkedNotices.{deaf};
 ghost use Rattle.host_joint.specs.WorkedPieces.{first_data, second_piece, behind_first, behind_second, next_job, asked_with};
 ghost use Rattle.host_joint.specs.WorkedRecoveries.{abort_submit, cancelled_inside};

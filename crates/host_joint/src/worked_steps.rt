@@ -1,7 +1,7 @@
 //! Worked single steps: one step of a device or of a host, where the longer runs do not take it. Each function does nothing, and its contract is
 //! what holds of the example.
 
-ghost use Rattle.std.specs.Prelude.{◌≡◌, ℕ, Some, None, List, [], ◌∷◌, drop, true, false};
+ghost use Rattle.std.specs.Prelude.{ℕ, Some, None, List, [], ◌∷◌, drop, true, false};
 ghost use Rattle.tmc_base.specs.declared.run_step.RunStep.{RunStep};
 ghost use Rattle.tmc_base.specs.Told.{in_bytes, IsFront};
 ghost use Rattle.usbip_wire.specs.Up as up;
