@@ -1,5 +1,5 @@
 -- a step of a lawful device without its Interrupt-IN submits is one of a device that has none, or nothing of it is left
-use Rattle.std.proofs.Common.{◌≡◌, ◌≢◌, ◌∙◌, ◌⊎◌, inl, inr, ℕ, ◌+◌, ◌<◌, ◌≤◌, Bool, true, false, cond, eqb, ℤ, List, [], ◌∷◌, ◌++◌, length, map, min, None, refl, ap, sym, subst, length-append, arith}
+use Rattle.std.proofs.Common.{◌≡◌, ◌≢◌, ◌∙◌, ◌⊎◌, inl, inr, ℕ, ◌<◌, ◌≤◌, Bool, true, false, cond, eqb, ℤ, List, [], ◌∷◌, ◌++◌, length, map, min, None, refl, ap, sym, subst, length-append, arith}
 use Rattle.std.proofs.lemmas.Bool.{eq-eqb}
 use Rattle.usbip_wire.specs.declared.submit.SubmitHead.{SubmitHead}
 use Rattle.usbip_wire.specs.declared.unlink.UnlinkHead.{UnlinkHead}
@@ -12,11 +12,11 @@ use Rattle.instr_plain.specs.declared.log.LogEntry.{LogEntry}
 use Rattle.instr_plain.specs.declared.remote.RemoteAct.{RemoteAct}
 use Rattle.usbip_wire.specs.declared.ret_submit.RetSubmitHead.{RetSubmitHead}
 use Rattle.tmc_law.specs.Endpoint.{Endpoint, Control, BulkOut, BulkIn, InterruptIn, number_of, ends}
-use Rattle.tmc_law.specs.State.{State, Pending, Packet, StatusPacket, Transfer, Owed, Presence, Plugged, Running, Nothing, AbortsOut, AbortsIn, Clears, arrived, queue_of, pending, Avoids, is_halted}
+use Rattle.tmc_law.specs.State.{State, Pending, Packet, Transfer, Owed, Presence, Plugged, Running, Nothing, AbortsOut, AbortsIn, Clears, queue_of, pending, Avoids}
 use Rattle.tmc_law.specs.Put.{Put, Submitted, Unlinked, answer_of, ended, returned, unlink_answer, success, stalled}
 use Rattle.tmc_law.specs.Logging.{Logs, with_service}
 use Rattle.tmc_law.specs.Queues.{IsTaken, Arrives, Queued, TurnedAway, Unlinks, Hits, Polled, Misses, pending_most}
-use Rattle.tmc_law.specs.Halts.{all_ended, halts, halt_answers, HaltsItself, DoesHalt}
+use Rattle.tmc_law.specs.Halts.{all_ended, halts, HaltsItself, DoesHalt}
 use Rattle.tmc_law.specs.BulkOut as out
 use Rattle.tmc_law.specs.BulkIn as «in»
 use Rattle.tmc_law.specs.Standard.{Standard, GetDeviceStatus, GetInterfaceStatus, GetEndpointStatus, ClearHalt, GetDeviceDescriptor, GetConfigurationDescriptor, GetString, GetConfiguration, SetConfiguration, GetInterface, SetInterface, IsStandard, standard_layout, standard_effect}
@@ -27,7 +27,6 @@ use Rattle.tmc_law.specs.Class as class
 use Rattle.tmc_law.specs.Control.{Asks, control_answer, sent_back}
 use Rattle.tmc_law.specs.Status.{status_layout}
 use Rattle.tmc_wire.specs.ClassStatus.{STATUS_SUCCESS}
-use Rattle.tmc_law.specs.Acts.{FitsAt}
 use Rattle.tmc_law.specs.Reached.{AllFit}
 use Rattle.tmc_law.specs.Step.{Move, Comes, Refuses, Take, Exec, Begin, Fill, Answer, Pend, Poll, Notify, Halt, Unplug, Leads, Steps}
 use Rattle.tmc_law.specs.Run.{taken}

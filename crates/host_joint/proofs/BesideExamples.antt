@@ -1,5 +1,5 @@
 -- what worked hosts with a submit to Interrupt-IN need
-use Rattle.std.proofs.Common.{◌≡◌, ◌≢◌, ◌∙◌, ℕ, ◌+◌, ◌≤◌, true, false, Option, Some, None, List, [], ◌∷◌, ◌++◌, refl, ap, sym, subst, lit<, lit≤, arith}
+use Rattle.std.proofs.Common.{◌≡◌, ◌≢◌, ◌∙◌, ℕ, Option, Some, None, List, [], ◌∷◌, refl, ap, sym, lit≤, arith}
 use Rattle.usbip_wire.specs.declared.submit.SubmitHead.{SubmitHead}
 use Rattle.usbip_wire.specs.declared.ret_submit.RetSubmitHead.{RetSubmitHead}
 use Rattle.usbip_wire.specs.Up as up
@@ -13,9 +13,9 @@ use Rattle.tmc_law.specs.Step.{Steps, Comes, Halt}
 use Rattle.tmc_law.specs.Run.{Runs}
 use Rattle.tmc_law.specs.WorkedSession.{notify_submit, out_submit, answered}
 use Rattle.tmc_law.specs.WorkedParts.{spaces_text}
-use Rattle.host_joint.specs.Hand.{Hand, Free}
+use Rattle.host_joint.specs.Hand.{Free}
 use Rattle.host_joint.specs.Tie.{Tie, IsGiven}
-use Rattle.host_joint.specs.Bond.{Bound, Situation, Stands, Resting}
+use Rattle.host_joint.specs.Bond.{Stands, Resting}
 use Rattle.host_joint.specs.StatusReads.{IsNotify}
 use Rattle.host_joint.specs.Beside.{Doing, HasAsk, HasRecovery, Does, KeepsApart, messages_beside, answers_beside, device_beside, Beside, GivesBeside, ServiceBeside, OlderBeside, HaltBeside, DoesAsIt}
 use Rattle.host_joint.specs.WorkedTies.{telling}

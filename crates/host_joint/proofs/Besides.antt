@@ -1,5 +1,5 @@
 -- a host that keeps a submit to Interrupt-IN out while it does something else
-use Rattle.std.proofs.Common.{◌≡◌, ◌≢◌, ◌∙◌, ◌⊎◌, inl, inr, ℕ, ◌+◌, ◌<◌, ◌≤◌, Bool, true, false, cond, eqb, Option, Some, None, List, [], ◌∷◌, ◌++◌, length, refl, ap, sym, subst, append_assoc, append-nil, arith}
+use Rattle.std.proofs.Common.{◌≡◌, ◌≢◌, ◌∙◌, ◌⊎◌, inl, inr, ℕ, ◌+◌, ◌≤◌, Bool, true, false, cond, eqb, Option, Some, None, List, [], ◌∷◌, ◌++◌, length, refl, ap, sym, subst, append_assoc, append-nil, arith}
 use Rattle.std.proofs.lemmas.Bool.{eq-eqb, ne_eqb, eqb-true}
 use Rattle.usbip_wire.specs.declared.submit.SubmitHead.{SubmitHead}
 use Rattle.usbip_wire.specs.declared.unlink.UnlinkHead.{UnlinkHead}
@@ -14,13 +14,12 @@ use Rattle.usbip_wire.specs.Dirs as dirs
 use Rattle.usbip_wire.specs.Dirs.{find, submit_of, is_unlink}
 use Rattle.tmc_law.specs.Queues.{pending_most}
 use Rattle.tmc_law.specs.Endpoint.{Endpoint, Control, BulkOut, BulkIn, InterruptIn, number_of}
-use Rattle.tmc_law.specs.State.{State, Pending, Packet, StatusPacket, ServicePacket, start, queue_of}
-use Rattle.tmc_law.specs.Put.{Put, Submitted, Unlinked, success, stalled}
-use Rattle.tmc_law.specs.Status.{packet_bytes}
+use Rattle.tmc_law.specs.State.{State, Pending, Packet, StatusPacket, start, queue_of}
+use Rattle.tmc_law.specs.Put.{Put, Submitted, Unlinked}
 use Rattle.tmc_law.specs.AnswerFits.{AllAnswers}
 use Rattle.tmc_law.specs.Reached.{AllFit}
 use Rattle.tmc_law.specs.Numbers.{AllBelow, Rises, numbers, coming_out, effects, waits, numbers_of}
-use Rattle.tmc_law.specs.Step.{Move, Comes, Refuses, Take, Exec, Begin, Fill, Answer, Pend, Poll, Notify, Halt, Unplug, Steps}
+use Rattle.tmc_law.specs.Step.{Move, Comes, Halt, Unplug, Steps}
 use Rattle.tmc_law.specs.Run.{Entry, Runs, SpellsPut, taken, inputs, outputs}
 use Rattle.tmc_law.specs.Laws.{message_of}
 use Rattle.host_joint.specs.Lines.{Sent, sent_to, sent_heads, Event, Gives, Drops, events_of, without, LeftBy, heads, unlinks_in, unlinked_by, Line, Lines, Fitting, AllFitting, InOrder, NoneNumbered}
@@ -28,13 +27,13 @@ use Rattle.host_joint.specs.Unlinking.{AllHeads, AllUnlinks, IsNamed, Rising, Ar
 use Rattle.host_joint.specs.Positions.{IsAt, rests}
 use Rattle.host_joint.specs.Hand.{Hand, Free}
 use Rattle.host_joint.specs.Asking.{StaysPlugged}
-use Rattle.host_joint.specs.Tie.{IsUndisturbed, asked_of, IsGood, Tie}
+use Rattle.host_joint.specs.Tie.{IsUndisturbed, asked_of, Tie}
 use Rattle.host_joint.specs.Bond.{IsFit, Bond, Bound, Situation, Stands, Resting}
 use Rattle.host_joint.specs.Races.{Ticket, TicketHolds, Acts, ActRaces, ActIsLate, Triggers, TriggerRaces, TriggerIsLate}
-use Rattle.host_joint.specs.StatusReads.{packets_in, IsUsual, Brings, QuietHeld, Quiet, none_or_one, asked_by, IsEarlier, IsOther, IsNotify}
+use Rattle.host_joint.specs.StatusReads.{packets_in, IsUsual, Brings, Quiet, none_or_one, asked_by, IsEarlier, IsOther, IsNotify}
 use Rattle.host_joint.specs.Beside.{messages_beside, answers_beside, device_beside, Doing, HasAsk, HasRecovery, HasTicket, Does, MayHalt, waits_for, unlinks_for, asked_beside, AsksNoStatus, IfAny, NamesOther, KeepsApart, IsElsewhere, entries_beside, AreAllApart, DoesBeside, Beside, GivesBeside, ServiceBeside, OlderBeside, HaltBeside, DoesAsIt}
 use Rattle.host_joint.proofs.Flows.{lines_step, fitting_behind, order_behind}
-use Rattle.host_joint.proofs.Falling.{left_all, left_none}
+use Rattle.host_joint.proofs.Falling.{left_all}
 use Rattle.host_joint.proofs.Running.{sound}
 use Rattle.host_joint.proofs.Tying.{TieLaws, none_unlinked, in_order}
 use Rattle.host_joint.proofs.Hosting.{own_event, other_event}
@@ -43,7 +42,7 @@ use Rattle.host_joint.proofs.Booking.{submit_written}
 use Rattle.host_joint.proofs.Joining.{IsKind, IsKept, Never, rising_asked, apart_asked, few_asked}
 use Rattle.host_joint.proofs.UntilJoined.{Spelled}
 use Rattle.host_joint.proofs.Bonding.{fits_step}
-use Rattle.host_joint.proofs.Packeting.{brings_same, all_usual, Streams}
+use Rattle.host_joint.proofs.Packeting.{brings_same, all_usual}
 use Rattle.host_joint.proofs.StatusTied.{First, FirstService, FirstStatus, FirstHalt, first, first_asked_by, one_only}
 use Rattle.host_joint.proofs.Aside.{Left, Leaves, Goes, ReadsNone, AreRoomy, NamesNone, step_left, answers-append, messages-append, keep_put, drop_put, drop_message}
 use Rattle.host_joint.proofs.Reaching.{ReachLaws, reached_bare}

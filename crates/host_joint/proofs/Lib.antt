@@ -80,3 +80,4 @@ mod Bringing
 mod Suiting
 mod Remaining
 mod ListHitting
+mod RaceExamples

@@ -1,18 +1,16 @@
 -- what a device reached with submits to Interrupt-IN, it can have reached with each of them answered as soon as it came
 use Rattle.std.proofs.Common.{◌≡◌, ◌≢◌, ◌∙◌, ◌⊎◌, inl, inr, ℕ, ◌<◌, ◌≤◌, Bool, true, false, List, [], ◌∷◌, ◌++◌, length, refl, ap, sym, subst, append_assoc, append-nil, length-append, arith}
 use Rattle.usbip_wire.specs.declared.submit.SubmitHead.{SubmitHead}
-use Rattle.usbip_wire.specs.declared.unlink.UnlinkHead.{UnlinkHead}
 use Rattle.usbip_wire.specs.Up as up
-use Rattle.usb_setup.specs.declared.setup.Setup.{Setup}
 use Rattle.tmc_wire.specs.declared.class_request.ClassRequest.{ClassRequest}
 use Rattle.tmc_wire.specs.declared.class_request.ClassRequest.TheVariants.{AbortOut, CheckOut, AbortIn, CheckIn, Clear, CheckClear, Capabilities, Pulse, ReadStatus, Ren, GoLocal, Lockout}
 use Rattle.tmc_wire.specs.ControlTable.{IsRow}
 use Rattle.instr_plain.specs.declared.log.LogEntry.TheVariants as entry
 use Rattle.tmc_law.specs.Logging.{Logs}
-use Rattle.tmc_law.specs.Endpoint.{Endpoint, Control, BulkOut, BulkIn, InterruptIn, ends}
-use Rattle.tmc_law.specs.State.{State, Pending, Packet, Presence, Plugged, start, arrived, queue_of, pending, Avoids, is_halted}
+use Rattle.tmc_law.specs.Endpoint.{InterruptIn, ends}
+use Rattle.tmc_law.specs.State.{State, Pending, Packet, Presence, Plugged, start, arrived, pending, Avoids}
 use Rattle.tmc_law.specs.Put.{Put, ended, success}
-use Rattle.tmc_law.specs.Queues.{IsTaken, Arrives, Queued, TurnedAway, pending_most}
+use Rattle.tmc_law.specs.Queues.{Arrives, Queued, TurnedAway, pending_most}
 use Rattle.tmc_law.specs.Aborts.{Served}
 use Rattle.tmc_law.specs.Status as status
 use Rattle.tmc_law.specs.Status.{Polls, DoesPoll}
@@ -23,11 +21,10 @@ use Rattle.tmc_law.specs.Acts.{FitsAt}
 use Rattle.tmc_law.specs.Reached.{AllFit, AreDistinct}
 use Rattle.tmc_law.specs.Step.{Move, Comes, Refuses, Take, Exec, Begin, Fill, Answer, Pend, Poll, Notify, Halt, Unplug, Leads, Steps}
 use Rattle.tmc_law.specs.Run.{Entry, Runs}
-use Rattle.host_joint.specs.Lines.{Fitting}
 use Rattle.host_joint.specs.Beside.{answers_beside, device_beside, unclosed}
 use Rattle.host_joint.proofs.Queues.{IsSound}
 use Rattle.host_joint.proofs.Running.{AskLaws, sound}
-use Rattle.host_joint.proofs.Aside.{Left, Leaves, Goes, HitsOthers, take_left, exec_left, begin_left, fill_left, class_left, standard_left, unknown_left, pend_left, halt_left, submit_left, unlink_left, logs_beside, logged, queued_behind}
+use Rattle.host_joint.proofs.Aside.{Left, Leaves, Goes, HitsOthers, take_left, exec_left, begin_left, fill_left, class_left, standard_left, unknown_left, pend_left, halt_left, submit_left, unlink_left, logs_beside, logged}
 
 -- what this asks of the laws
 pub record ReachLaws : Type 0 where

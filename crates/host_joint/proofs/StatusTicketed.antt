@@ -1,22 +1,19 @@
 -- a status read in any of its situations, until the device is unplugged and over a link
 use Rattle.std.proofs.Common.{◌≡◌, ◌≢◌, ◌∙◌, ◌⊎◌, inl, inr, ℕ, Bool, true, false, Option, Some, None, List, [], ◌∷◌, ◌++◌, refl, ap, sym, subst, append_assoc, append-nil}
-use Rattle.tmc_base.specs.declared.field.Field.{Field}
 use Rattle.usbip_wire.specs.declared.submit.SubmitHead.{SubmitHead}
 use Rattle.usbip_wire.specs.declared.unlink.UnlinkHead.{UnlinkHead}
 use Rattle.usbip_wire.specs.Up as up
 use Rattle.usbip_wire.specs.Down.{SpellsAnswer}
 use Rattle.tmc_law.specs.Endpoint.{Endpoint, Control, BulkOut, BulkIn, InterruptIn}
-use Rattle.tmc_law.specs.State.{State, Pending, Packet, queue_of}
-use Rattle.tmc_law.specs.Put.{Put, Submitted, ended, returned, unplugged}
+use Rattle.tmc_law.specs.State.{State, Pending, Packet}
+use Rattle.tmc_law.specs.Put.{Put, ended, unplugged}
 use Rattle.tmc_law.specs.Halts.{all_ended, unplug_answers}
 use Rattle.tmc_law.specs.Laws.{message_of}
-use Rattle.tmc_law.specs.Step.{Unplug, Steps}
-use Rattle.tmc_law.specs.Run.{Entry, Runs, SpellsPut, inputs, outputs}
+use Rattle.tmc_law.specs.Run.{SpellsPut}
 use Rattle.host_joint.specs.Lines.{heads, Lines, AllFitting}
-use Rattle.host_joint.specs.Asking.{StaysPlugged}
 use Rattle.host_joint.specs.Joint.{entries_for, entries_of}
 use Rattle.host_joint.specs.Unplugged.{Until, TellsUnplugged, TellsOf, TellsBoth, TellsOne, TellsTwo, TellsNotify, NextBoth, BothPlugged, BothBefore, BothBehind}
-use Rattle.host_joint.specs.StatusReads.{StatusRead, Quiet, ReadsStatus, CancelledRead, LateRead, while, none_or_one, asked_by, IsOther}
+use Rattle.host_joint.specs.StatusReads.{while, none_or_one, asked_by, IsOther}
 use Rattle.host_joint.specs.Beside.{IfAny, AreAllApart}
 use Rattle.host_joint.specs.StatusTickets.{StatusTicket, NoRead, HasRead, StopsRead, StopsLate, StatusHolds, request_for, unlinks_of_read, entries_with}
 use Rattle.host_joint.proofs.Until.{its_answer}

@@ -1,6 +1,6 @@
 -- a host that keeps a submit to Interrupt-IN out while it does something else: an ask, a recovery, a remote or a trigger ticket (USB488 1.0,
 -- section 3.4)
-use Rattle.std.specs.Prelude.{◌≡◌, ◌≢◌, ◌⊎◌, ℕ, ◌==◌, if◌then◌else◌, Option, Some, None, List, [], ◌∷◌, ◌++◌}
+use Rattle.std.specs.Prelude.{◌≡◌, ◌≢◌, ℕ, ◌==◌, if◌then◌else◌, Option, Some, None, List, [], ◌∷◌, ◌++◌}
 use Rattle.tmc_base.specs.declared.run_step.RunStep.{RunStep}
 use Rattle.usb_setup.specs.declared.setup.Setup.{Setup}
 use Rattle.usb_setup.specs.Setup.{setup_layout}

@@ -51,3 +51,5 @@ pub mod WorkedRaces
 pub mod WorkedBeside
 pub mod WorkedNotices
 pub mod Given
+pub mod WorkedCancels
+pub mod WorkedKept

@@ -10,7 +10,7 @@ ghost use Rattle.usbip_wire.specs.declared.ret_unlink.RetUnlinkHead.{RetUnlinkHe
 ghost use Rattle.usbip_wire.specs.Up as up;
 ghost use Rattle.usbip_wire.specs.Down as down;
 ghost use Rattle.usbip_wire.specs.Down.{SpellsAnswer};
-ghost use Rattle.tmc_law.specs.Endpoint.{Endpoint, number_of};
+ghost use Rattle.tmc_law.specs.Endpoint.{Endpoint};
 ghost use Rattle.tmc_law.specs.State.{State, start};
 ghost use Rattle.tmc_law.specs.Put.{Put, Submitted, Unlinked, success, unlinked};
 ghost use Rattle.tmc_law.specs.AnswerFits.{AllAnswers};

@@ -10,7 +10,7 @@ ghost use Rattle.tmc_law.specs.Put.{Put};
 ghost use Rattle.tmc_law.specs.Logging.{unread};
 ghost use Rattle.tmc_law.specs.Numbers.{Rises, numbers};
 ghost use Rattle.tmc_law.specs.Step.{Move, Steps};
-ghost use Rattle.tmc_law.specs.Run.{Entry, Runs, taken, inputs, outputs};
+ghost use Rattle.tmc_law.specs.Run.{Entry, Runs, taken, inputs};
 ghost use Rattle.host_joint.specs.Lines.{AllFitting, InOrder, unlinks_in};
 ghost use Rattle.host_joint.specs.Asking.{Ask, Asking, IsSafe, StaysPlugged, Cancelled, WasAsking};
 ghost use Rattle.host_joint.specs.Hosted.{PieceEnd};

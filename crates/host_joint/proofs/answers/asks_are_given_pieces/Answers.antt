@@ -1,7 +1,5 @@
-use Rattle.std.proofs.Common.{ℕ, List, ◌++◌}
-use Rattle.usbip_wire.specs.declared.ret_submit.RetSubmitHead.{RetSubmitHead}
-use Rattle.host_joint.specs.Asking.{Ask}
-use Rattle.host_joint.specs.Pieces.{IsPiece, BeginsPiece, IsFaultless, IsWhole}
+use Rattle.std.proofs.Common.{◌++◌}
+use Rattle.host_joint.specs.Pieces.{IsFaultless}
 use Rattle.host_joint.specs.Given.{BringsPiece, BringsMore, BringsEnd}
 use Rattle.host_joint.proofs.Bringing.{brings}
 use Rattle.host_joint.proofs.answers.asks_are_given_pieces.Goals as goal

@@ -1,7 +1,7 @@
-use Rattle.std.proofs.Common.{◌≡◌, ℕ, Some, None, List, [], ◌∷◌, ◌++◌, replicate, codes, refl, sym, subst, lit≤, arith}
+use Rattle.std.proofs.Common.{Some, None, [], ◌∷◌, replicate, codes, refl, lit≤, arith}
 use Rattle.usbip_wire.specs.Up as up
-use Rattle.tmc_law.specs.State.{State, start}
-use Rattle.tmc_law.specs.Put.{Put, success, stalled}
+use Rattle.tmc_law.specs.State.{start}
+use Rattle.tmc_law.specs.Put.{success, stalled}
 use Rattle.tmc_law.specs.WorkedSession.{out_submit, notify_submit, answered}
 use Rattle.tmc_law.specs.WorkedParts.{spaces_text, spaced}
 use Rattle.host_joint.specs.Hand.{Free, WritesPart}

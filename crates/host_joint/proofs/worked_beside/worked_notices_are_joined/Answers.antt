@@ -1,11 +1,9 @@
-use Rattle.std.proofs.Common.{◌≡◌, ◌∙◌, ℕ, Some, None, List, [], ◌∷◌, ◌++◌, replicate, codes, refl, ap, sym, subst, append-nil, lit≤, arith}
-use Rattle.usbip_wire.specs.declared.ret_submit.RetSubmitHead.{RetSubmitHead}
+use Rattle.std.proofs.Common.{◌∙◌, ℕ, Some, None, List, [], ◌∷◌, ◌++◌, replicate, codes, refl, sym, append-nil, lit≤, arith}
 use Rattle.usbip_wire.specs.Up as up
 use Rattle.usbip_wire.specs.Down as down
 use Rattle.tmc_law.specs.Endpoint.{InterruptIn}
-use Rattle.tmc_law.specs.State.{State, start}
-use Rattle.tmc_law.specs.Put.{Put, Submitted, Unlinked, success, stalled}
-use Rattle.tmc_law.specs.Laws.{message_of}
+use Rattle.tmc_law.specs.State.{start}
+use Rattle.tmc_law.specs.Put.{success, stalled}
 use Rattle.tmc_law.specs.Run.{SpellsPut}
 use Rattle.tmc_law.specs.Step.{Comes, Halt}
 use Rattle.tmc_law.specs.WorkedSession.{devid, out_submit, notify_submit, answered}

@@ -1,4 +1,4 @@
-use Rattle.std.proofs.Common.{◌≡◌, Some, None, [], ◌∷◌, refl}
+use Rattle.std.proofs.Common.{Some, None, [], ◌∷◌, refl}
 use Rattle.usbip_wire.specs.Up as up
 use Rattle.tmc_law.specs.State.{StatusPacket, start}
 use Rattle.tmc_law.specs.Put.{success}

@@ -1,12 +1,12 @@
-use Rattle.std.proofs.Common.{◌≡◌, ◌⊎◌, inl, inr, ◌∙◌, ℕ, true, Some, None, List, [], ◌∷◌, ap, sym}
+use Rattle.std.proofs.Common.{◌≡◌, inl, ◌∙◌, ℕ, true, Some, None, List, [], ◌∷◌, ap, sym}
 use Rattle.usbip_wire.specs.declared.submit.SubmitHead.{SubmitHead}
 use Rattle.usbip_wire.specs.declared.ret_submit.RetSubmitHead.{RetSubmitHead}
 use Rattle.tmc_law.specs.State.{State, start}
-use Rattle.tmc_law.specs.Put.{Put, Submitted, success, stalled, unplugged}
+use Rattle.tmc_law.specs.Put.{Put, Submitted, unplugged}
 use Rattle.tmc_law.specs.WorkedSession.{notify_submit, unlink, answered}
 use Rattle.tmc_law.specs.WorkedStatus.{status_submit}
-use Rattle.host_joint.specs.Unplugged.{NextBoth, BothPlugged, BothBefore, BothBehind, TellsOf, TellsBoth, TellsOne, TellsTwo, TellsNotify}
-use Rattle.host_joint.specs.WorkedStatusReads.{first_read, both_sent, stopping_status, stopped_status, unplugging_status, unplugged_status}
+use Rattle.host_joint.specs.Unplugged.{NextBoth, BothPlugged, BothBefore, BothBehind, TellsBoth, TellsOne, TellsTwo, TellsNotify}
+use Rattle.host_joint.specs.WorkedStatusReads.{first_read, stopping_status, stopped_status, unplugging_status, unplugged_status}
 use Rattle.host_joint.specs.StatusTickets.{HasRead, StopsRead, StatusHolds}
 use Rattle.host_joint.proofs.StatusExamples.{two_submits, stops, unplugs_both, not_usual}
 use Rattle.host_joint.proofs.worked_status_tickets.worked_status_tickets_are_held.Goals as goal

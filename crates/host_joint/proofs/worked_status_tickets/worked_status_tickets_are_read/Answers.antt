@@ -1,4 +1,4 @@
-use Rattle.std.proofs.Common.{◌≡◌, ◌∙◌, ℕ, true, false, Option, Some, None, List, [], ◌∷◌, ◌++◌, take, drop, refl, ap, sym, subst, append_assoc, append-nil, arith}
+use Rattle.std.proofs.Common.{◌≡◌, ◌∙◌, ℕ, true, false, Option, Some, None, List, [], ◌∷◌, ◌++◌, take, drop, refl, ap, sym, append_assoc, append-nil, arith}
 use Rattle.tmc_base.specs.declared.run_step.RunStep.{RunStep}
 use Rattle.usbip_wire.specs.declared.submit.SubmitHead.{SubmitHead}
 use Rattle.usbip_wire.specs.declared.ret_unlink.RetUnlinkHead.{RetUnlinkHead}
@@ -8,7 +8,7 @@ use Rattle.tmc_law.specs.State.{State, start}
 use Rattle.tmc_law.specs.Put.{Put, Submitted, Unlinked, success, unlinked}
 use Rattle.tmc_law.specs.Laws.{message_of}
 use Rattle.tmc_law.specs.Run.{SpellsPut}
-use Rattle.tmc_law.specs.Told.{Means, Tells}
+use Rattle.tmc_law.specs.Told.{Tells}
 use Rattle.tmc_law.specs.WorkedSession.{devid, notify_submit, unlink}
 use Rattle.tmc_law.specs.WorkedStatus.{status_submit}
 use Rattle.tmc_law.specs.WorkedTold.{takes_in, puts_out}
