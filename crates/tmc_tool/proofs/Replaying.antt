@@ -1,5 +1,5 @@
 -- the events of a script in a fresh world
-use Rattle.std.proofs.Common.{ℕ, List, map, Option, sym, subst, ◌≡◌}
+use Rattle.std.proofs.Common.{ℕ, List, map, Option, refl, sym, subst, ◌≡◌}
 use Rattle.host_hub.specs.Behind.{HubParts}
 use Rattle.event_text.specs.declared.answer.EventAnswer.{EventAnswer}
 use Rattle.event_text.specs.declared.event.Script.{Script}
