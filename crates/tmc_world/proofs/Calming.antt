@@ -44,7 +44,7 @@ ready_acts (Paced rooms) false old ready is = ap (λ (l : Looped). l.acts) is
 wanting_acts : (pace : Pace) (late : Bool) (old new : Looped) → MayHaveMoved pace late old new → new.acts ≡ old.acts
 wanting_acts Calm late old new moved = ap (λ (l : Looped). l.acts) moved.is
 wanting_acts (Paced rooms) true old new moved = ap (λ (l : Looped). l.acts) moved.is
-wanting_acts (Paced rooms) false old new is = ap (λ (l : Looped). l.acts) is
+wanting_acts (Paced rooms) false old new moved = absurd moved
 
 polls_acts : (old new : Looped) (size : ℕ) (step : PollStep) (bytes : List ℕ) → Polls old size step bytes new → new.acts ≡ old.acts
 polls_acts old new size (poll.Got n) bytes polls =

@@ -1,5 +1,5 @@
 -- a node that is fed
-use Rattle.std.proofs.Common.{◌≡◌, ◌≢◌, ◌∙◌, ◌⊎◌, inl, inr, ℕ, Bool, true, false, not, if◌then◌else◌, List, [], ◌++◌, length, take, Option, Some, Result, Ok, Err, OnOk, is_err, refl, sym, ap, subst, arith}
+use Rattle.std.proofs.Common.{◌≡◌, ◌≢◌, ◌∙◌, ◌⊎◌, inl, inr, ℕ, Bool, true, false, not, if◌then◌else◌, List, [], ◌++◌, length, take, Option, Some, Result, Ok, Err, OnOk, is_err, is_ok, refl, sym, ap, subst, arith}
 use Rattle.std.proofs.lemmas.List.{length-append, take-append-le, take_all}
 use Rattle.tmc_base.specs.declared.field.Field.{Field}
 use Rattle.tmc_base.specs.declared.memory.Memory.{Memory}
@@ -50,6 +50,10 @@ pub on_ok : (result : Result (Unit {0}) Memory) (P : Type 0) → OnOk result P �
 on_ok (Ok u) P told is = told
 on_ok (Err e) P told is = cc
 
+pub where_ok : (result : Result (Unit {0}) Memory) (P : Type 0) → OnOk result P → is_ok result ≡ true → P
+where_ok (Ok u) P told is = told
+where_ok (Err e) P told is = cc
+
 pub sound_on : (old new : Crossing) → IsSound old → Works [] [] old.node new.node → new.sent ≡ old.sent → new.fed ≡ old.fed
     → (new.late ≡ false → new.node.puts ≡ []) → IsSound new
 sound_on old new sound works sent fed spelled = record {
@@ -62,11 +66,11 @@ sound_on old new sound works sent fed spelled = record {
 
 -- the node was fed these bytes, or none
 pub hears_on : (bytes : List ℕ) (old mid new : Seen) (late spelled : Bool) → old.imported ≡ true → (IsOpen old → WorksBy AreArrivals bytes [] old mid)
-    → (IsShut old → mid ≡ old) → WorksBy AreArrivals [] [] mid new → (spelled ≡ true → IsOpen new → IsCaughtUp new) → late ≡ not spelled → Hears bytes old new late
+    → (IsShut old → mid ≡ old) → WorksBy AreArrivals [] [] mid new → (spelled ≡ true → IsOpen new → IsCaughtUp new) → (late ≡ false → spelled ≡ true) → Hears bytes old new late
 hears_on bytes old mid new late spelled was works same rest caught is = record {
   opened = λ opened. arrivals_on bytes old mid new was (works opened) rest;
   shut = λ shut. subst (λ (s : Seen). WorksBy AreArrivals [] [] s new) (same shut) rest;
-  caught_up = λ unlate opened. caught (not_false spelled (sym is ∙ unlate)) opened;
+  caught_up = λ unlate opened. caught (is unlate) opened;
 }
 
 pub sound_sent : (bytes : List ℕ) (old new : Crossing) (shut : Bool) → IsSound old → Hears bytes old.node new.node new.late → shut ≡ is_closed (standing old.node).presence

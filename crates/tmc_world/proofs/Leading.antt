@@ -173,7 +173,7 @@ acts_goes : (first depth : ℕ) (does : DevEvent) (old : Worldly) (step : TendSt
     → IsBehind first depth (record { past = old.past; link = new.link }) new → LeadsTo first depth (event.Dev does) old (applied_step step) new
 acts_goes first depth does old tend.Did new t b = record { new = record { past = old.past; link = new.link }; goes = (refl, t); behind = b }
 acts_goes first depth does old tend.NotNow new t b = record { new = record { past = old.past; link = new.link }; goes = (refl, t); behind = b }
-acts_goes first depth does old tend.Memory new t b = record { new = record { past = old.past; link = new.link }; goes = inl (refl, t); behind = b }
+acts_goes first depth does old tend.Memory new t b = record { new = record { past = old.past; link = new.link }; goes = (refl, t); behind = b }
 
 pub acts_lead : (first depth : ℕ) (does : DevEvent) (old : Worldly) (hub new : HubParts Looped) (step : TendStep) → Tends hub.link (act.Dev does) step new.link
     → new.core ≡ hub.core

@@ -16,8 +16,7 @@ pub mod RestTries
 pub mod RestLoops
 pub mod RestStands
 pub mod Passing
-pub mod Late
-pub mod Spelled
 pub mod Facts
 pub mod Keeping
 pub mod Calming
+pub mod Unchanged

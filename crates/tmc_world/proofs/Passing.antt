@@ -174,7 +174,7 @@ up_leads first depth most old hub new turn.Memory b may t =
     let sent = either_sent s most t.sent t.came old t.new t.turns b.unwanted t.answers.2 in
     let refrains = up_refrains s most t.sent t.came old t.new t.turns sent in
     let link = closed_same old.link old.link t.turns.later t.new.link (rooms_up most) b.idle b.unwanted refrains.1 t.turns.link in
-    record { new = t.new; goes = inl (may, same_world old t.new (t.stays refl) link); behind = t.behind }
+    record { new = t.new; goes = (may, same_world old t.new (t.stays refl) link); behind = t.behind }
 
 -- ---- down: no send has room
 
@@ -233,7 +233,7 @@ moved_shut : (late : Bool) (between later new : Looped) (rooms : _) → between.
 moved_shut true between later new rooms pace moved done =
     subst (λ (l : Looped). MayHaveMoved shut true (record between { pace = shut }) l) (sym done)
     (record { works = moved.works; tells = moved.tells; is = ap (λ (l : Looped). record l { pace = shut }) moved.is })
-moved_shut false between later new rooms pace same done = done ∙ ap (λ (l : Looped). record l { pace = shut }) same
+moved_shut false between later new rooms pace moved done = absurd moved
 
 down_polls : (old : Looped) (bytes : List ℕ) (new : Looped) → Polls old 8192 poll.Memory bytes new → old.wants ≡ false → MayHaveMoved old.pace old.late old new
 down_polls old bytes new (inl p) none = let wanted = p.wanted in cc

@@ -75,7 +75,7 @@ worlds_alike a b p l = ap₂ (λ x y. record { past = x; link = y }) p l
 
 -- ---- a step of the instrument
 
-caught_up : (late : Bool) (old ready : Looped) → late ≡ false → CatchesUp late old ready → ready ≡ old
+pub caught_up : (late : Bool) (old ready : Looped) → late ≡ false → CatchesUp late old ready → ready ≡ old
 caught_up true old ready unlate c = cc
 caught_up false old ready unlate c = c
 

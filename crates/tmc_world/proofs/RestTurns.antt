@@ -74,7 +74,7 @@ ends_sent room ready (poll.Got n) bytes new e = ap (λ (l : Looped). l.sent) e.i
 ends_sent room ready poll.Idle bytes new e = ap (λ (l : Looped). l.sent) e.is
 ends_sent room ready poll.Closed bytes new e = ap (λ (l : Looped). l.sent) e.is
 ends_sent room ready poll.Failed bytes new e = absurd e
-ends_sent room ready poll.Memory bytes new e = ap (λ (l : Looped). l.sent) e
+ends_sent room ready poll.Memory bytes new e = absurd e
 
 polls_sent : (old : Looped) (size : ℕ) (step : PollStep) (bytes : List ℕ) (new : Looped) → (step ≡ poll.Memory → ⊥) → Polls old size step bytes new → new.sent ≡ old.sent
 polls_sent old size (poll.Got n) bytes new well p = ends_sent (poll_room old.pace size) p.ready (poll.Got n) bytes new p.ends ∙ readies_sent old.pace old.late old p.ready p.begins.readies

@@ -133,7 +133,7 @@ ready_of (Paced rooms) false old ready readies = same_ready old ready readies
 wants_ready : (pace : Pace) (late : Bool) (old new : Looped) → MayHaveMoved pace late old new → IsReady old new
 wants_ready Calm late old new moved = moved_ready AreCalming old new moved
 wants_ready (Paced rooms) true old new moved = moved_ready AreArrivals old new moved
-wants_ready (Paced rooms) false old new is = same_ready old new is
+wants_ready (Paced rooms) false old new moved = absurd moved
 
 ready_front : (old ready new : Looped) → IsReady old ready → new.run ≡ ready.run → IsFront old.run new.run
 ready_front old ready new is same = (is.tells.0, same ∙ is.tells.1)

@@ -99,14 +99,14 @@ readies_paced (Paced rooms) false old ready same is = of_pace ready _ (ap (λ (l
 moved_paced : (p : Pace) (late : Bool) (old new : Looped) → MayHaveMoved p late old new → IsPaced old.pace → IsPaced new.pace
 moved_paced Calm late old new moved is = of_pace new _ (ap (λ (l : Looped). l.pace) moved.is) is
 moved_paced (Paced rooms) true old new moved is = of_pace new _ (ap (λ (l : Looped). l.pace) moved.is) is
-moved_paced (Paced rooms) false old new same is = of_pace new _ (ap (λ (l : Looped). l.pace) same) is
+moved_paced (Paced rooms) false old new moved is = absurd moved
 
 ends_paced : (room : ℕ) (ready : Looped) (step : PollStep) (bytes : List ℕ) (new : Looped) → PollEnds room ready step bytes new → IsPaced ready.pace → IsPaced new.pace
 ends_paced room ready (poll.Got n) bytes new e is = of_pace new _ (ap (λ (l : Looped). l.pace) e.is) (poll_paced ready.pace is)
 ends_paced room ready poll.Idle bytes new e is = of_pace new _ (ap (λ (l : Looped). l.pace) e.is) (poll_paced ready.pace is)
 ends_paced room ready poll.Closed bytes new e is = of_pace new _ (ap (λ (l : Looped). l.pace) e.is) (poll_paced ready.pace is)
 ends_paced room ready poll.Failed bytes new e is = absurd e
-ends_paced room ready poll.Memory bytes new e is = of_pace new _ (ap (λ (l : Looped). l.pace) e) is
+ends_paced room ready poll.Memory bytes new e is = absurd e
 
 polls_paced : (old : Looped) (size : ℕ) (step : PollStep) (bytes : List ℕ) (new : Looped) → Polls old size step bytes new → IsPaced old.pace → IsPaced new.pace
 polls_paced old size (poll.Got n) bytes new p is =
@@ -146,7 +146,7 @@ ready_wants (Paced rooms) false old ready same = ap (λ (l : Looped). l.wants) s
 moved_wants : (p : Pace) (late : Bool) (old new : Looped) → MayHaveMoved p late old new → new.wants ≡ old.wants
 moved_wants Calm late old new moved = ap (λ (l : Looped). l.wants) moved.is
 moved_wants (Paced rooms) true old new moved = ap (λ (l : Looped). l.wants) moved.is
-moved_wants (Paced rooms) false old new same = ap (λ (l : Looped). l.wants) same
+moved_wants (Paced rooms) false old new moved = absurd moved
 
 polls_unwanted : (old : Looped) (size : ℕ) (step : PollStep) (bytes : List ℕ) (new : Looped) → Polls old size step bytes new → new.wants ≡ false
 polls_unwanted old size (poll.Got n) bytes new p =

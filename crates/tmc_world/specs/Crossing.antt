@@ -16,6 +16,15 @@ pub record Crossing : Type 0 where
   -- whether something in the node waits for memory
   pub late : Bool
 
+-- the bytes that were taken, and room for so many more
+pub record Taped : Type 0 where
+  pub bytes : List ℕ
+  pub room : ℕ
+
+-- unless memory is wanting, there is room for each byte that waits to be taken
+abbrev pub HasRoom : (late : Bool) → Seen → (room : ℕ) → Type 0
+HasRoom late node room = late ≡ false → length node.out ≤ room
+
 -- an imported instrument at power-on, and nothing sent or taken
 abbrev pub uncrossed : Crossing
 uncrossed = record { node = begun true; sent = []; fed = 0; taken = []; late = false }

@@ -190,19 +190,19 @@ PollEnds room ready (poll.Got n) bytes new = Takes n room ready bytes new
 PollEnds room ready poll.Idle bytes new = Idles ready new
 PollEnds room ready poll.Closed bytes new = Closes ready new
 PollEnds room ready poll.Failed bytes new = ⊥
-PollEnds room ready poll.Memory bytes new = new ≡ ready
+PollEnds room ready poll.Memory bytes new = ⊥
 
 pub record PollGoes (old : Looped) (size : ℕ) (step : PollStep) (bytes : List ℕ) (new : Looped) : Type 0 where
   pub ready : Looped
   pub begins : PollBegins old ready
   pub ends : PollEnds (poll_room old.pace size) ready step bytes new
 
--- Memory is wanting. A paced link is as before, but that some of what waits for memory may have been taken in and spelled;
--- the node of a calm one may have made some of its moves.
+-- Memory is wanting. A paced link in which nothing waits for it wants none; else some of what waits may have been taken in and spelled, and
+-- nothing else has changed. The node of a calm one may have made some of its moves.
 abbrev pub MayHaveMoved : Pace → (late : Bool) → (old new : Looped) → Type 0
 MayHaveMoved Calm late old new = HasMoved AreCalming old new
 MayHaveMoved (Paced rooms) true old new = HasMoved AreArrivals old new
-MayHaveMoved (Paced rooms) false old new = new ≡ old
+MayHaveMoved (Paced rooms) false old new = ⊥
 
 pub record PollWants (old new : Looped) : Type 0 where
   pub unwanted : old.wants ≡ false

@@ -44,24 +44,14 @@ abbrev pub applied_turn : Turn → Applied
 applied_turn turn.Memory = applied.Memory
 applied_turn said = applied.Answer answer.Done
 
--- what became of an event behind which answers wait for memory, or do not
-abbrev pub spelled_by : (late : Bool) → Applied → Applied
-spelled_by true (applied.Answer said) = applied.Memory
-spelled_by late became = became
-
 -- ---- want of memory
-
--- The event was enabled and made its step, and what it put out waits for memory in the node.
-pub record MadeLate (s : Setting) (does : Event) (old new : Worldly) : Type 0 where
-  pub made : Steps s does old answer.Done new
-  pub late : new.link.late ≡ true
 
 -- bytes may go up, and nothing has changed
 abbrev pub WantsUp : Setting → (most : ℕ) → (old new : Worldly) → Type 0
 WantsUp s most old new = MayGoUp s most old × (new ≡ old)
 
--- Bytes may go down, and nothing has changed but that the link counted that it did not send, where the outbox is not empty, and that
--- what waits for memory in the node may be taken in and spelled in part.
+-- Bytes may go down, and something waited for memory in the node. Nothing has changed but that the link counted that it did not send, where
+-- the outbox is not empty, and that what waits may be taken in and spelled in part.
 pub record WantsDown (s : Setting) (most : ℕ) (old new : Worldly) : Type 0 where
   pub due : MayGoDown most old
   pub past : new.past ≡ old.past
@@ -73,11 +63,11 @@ pub record WantsDown (s : Setting) (most : ℕ) (old new : Worldly) : Type 0 whe
 abbrev pub WantsDev : DevEvent → (old new : Worldly) → Type 0
 WantsDev does old new = (new.past ≡ old.past) × Tends old.link (act.Dev does) tend.Memory new.link
 
--- Memory is wanting for a move. One that moves bytes up, or a step of the instrument, may have been made, where its answers wait.
+-- memory is wanting for a move
 abbrev pub MoveWants : Setting → Event → (old new : Worldly) → Type 0
-MoveWants s (event.Up most) old new = WantsUp s most old new ⊎ MadeLate s (event.Up most) old new
+MoveWants s (event.Up most) old new = WantsUp s most old new
 MoveWants s (event.Down most) old new = WantsDown s most old new
-MoveWants s (event.Dev does) old new = WantsDev does old new ⊎ MadeLate s (event.Dev does) old new
+MoveWants s (event.Dev does) old new = WantsDev does old new
 MoveWants s _ old new = ⊥
 
 -- Memory is wanting for an event. A call that asks has no cause to refuse, and nothing has changed. Where nothing was to be left to do, some moves
@@ -99,9 +89,11 @@ pub record LeadsTo (first depth : ℕ) (does : Event) (old : Worldly) (became : 
   pub goes : Applies (setting_of first depth) does old became new
   pub behind : IsBehind first depth new hub
 
--- where nothing waited for memory in the world, and the event did not want it, nothing waits behind the event
-abbrev pub LeavesSpelled : (old : Worldly) → Applied → (hub : HubParts Looped) → Type 0
-LeavesSpelled old became hub = old.link.late ≡ false → became ≢ applied.Memory → hub.link.late ≡ false
+-- Where nothing waited for memory in the world, and an event other than a rest wants it, nothing has changed: the same world stands behind
+-- the hub.
+abbrev pub LeavesWorld : (first depth : ℕ) → Event → (old : Worldly) → Applied → (hub : HubParts Looped) → Type 0
+LeavesWorld first depth does old became hub =
+    does ≢ event.Rest → old.link.late ≡ false → became ≡ applied.Memory → IsBehind first depth old hub
 
 -- One turn of a hub that runs led it to behind a world, and answered so. The hub has ended behind it by what the link answered, or
 -- runs on. Where memory was wanting, nothing happened at the hub.

@@ -3,7 +3,7 @@
 ghost use Rattle.std.specs.Prelude.{◌≡◌, ◌↔◌, ℕ, IsTrue};
 ghost use Rattle.event_text.specs.declared.event.Event.TheVariants as event;
 ghost use Rattle.tmc_world.specs.World.{Worldly, IsBehind, setting_of};
-ghost use Rattle.tmc_world.specs.WorldEvents.{LeadsTo, LeavesSpelled, applied_turn, spelled_by};
+ghost use Rattle.tmc_world.specs.WorldEvents.{LeadsTo, LeavesWorld, applied_turn};
 ghost use Rattle.tmc_world.specs.WorldSteps.{MayGoDown, MayGoUp};
 
 use crate::{Applied, World};
@@ -14,13 +14,19 @@ use usbip_export::DevEvent;
 impl World {
     /// Does what this event does, once. A call that wants memory answers that alone.
     ///
-    /// Where memory is wanting for an event other than a rest, nothing has changed, but that what waits for memory in the node may be
-    /// taken in and spelled, and that a `down` may have counted that nothing was sent. An `up`, and a step of the instrument, want
-    /// memory also where they were made and their answers wait. So an event that does not want memory leaves nothing waiting for it where
-    /// nothing did.
+    /// Where memory is wanting for an event other than a rest, nothing has changed. Only where something waited for memory in the node
+    /// before, what waits may have been taken in and spelled, and a `down` may have counted that nothing was sent. What an `up` or a step of
+    /// the instrument makes the node answer may wait for memory behind it, as [`is_late`](World::is_late) says.
     pub fn apply(&mut self, event: &Event) -> Applied
         ensures leads { (first depth : ℕ) (old : Worldly) → IsBehind first depth old self.old.hub → LeadsTo first depth event.now old result self.new.hub }
-        ensures spelled { (first depth : ℕ) (old : Worldly) → IsBehind first depth old self.old.hub → LeavesSpelled old result self.new.hub }
+        ensures unchanged { (first depth : ℕ) (old : Worldly) → IsBehind first depth old self.old.hub → LeavesWorld first depth event.now old result self.new.hub }
+    {
+        self.happens(event)
+    }
+
+    /// What the event does happens, if it is enabled.
+    fn happens(&mut self, event: &Event) -> Applied
+        ensures { (first depth : ℕ) (old : Worldly) → IsBehind first depth old self.old.hub → LeadsTo first depth event.now old result self.new.hub }
     {
         match event {
             Event::Ask {
@@ -30,31 +36,13 @@ impl World {
             } => self.ask(*session, *limit, message.as_slice()),
             Event::Tell { session, message } => self.tell(*session, message.as_slice()),
             Event::GiveUp => self.give_up(),
-            Event::Up(most) => self.up_spelled(*most),
+            Event::Up(most) => self.up(*most),
             Event::Down(most) => self.down(*most),
-            Event::Dev(does) => self.dev_spelled(*does),
+            Event::Dev(does) => self.dev(*does),
             Event::FailSend => self.fail_send(),
             Event::FailPoll => self.fail_poll(),
             Event::Rest => self.rest_applied(),
         }
-    }
-
-    /// Bytes go up, and each answer to them is spelled.
-    fn up_spelled(&mut self, most: u32) -> Applied
-        ensures leads { (first depth : ℕ) (old : Worldly) → IsBehind first depth old self.old.hub → LeadsTo first depth (event.Up most) old result self.new.hub }
-        ensures spelled { (first depth : ℕ) (old : Worldly) → IsBehind first depth old self.old.hub → LeavesSpelled old result self.new.hub }
-    {
-        let became = self.up(most);
-        spelled(self.hub().link().is_late(), became)
-    }
-
-    /// The instrument makes this step, and each answer of it is spelled.
-    fn dev_spelled(&mut self, does: DevEvent) -> Applied
-        ensures leads { (first depth : ℕ) (old : Worldly) → IsBehind first depth old self.old.hub → LeadsTo first depth (event.Dev does) old result self.new.hub }
-        ensures spelled { (first depth : ℕ) (old : Worldly) → IsBehind first depth old self.old.hub → LeavesSpelled old result self.new.hub }
-    {
-        let became = self.dev(does);
-        spelled(self.hub().link().is_late(), became)
     }
 
     /// At most so many bytes of the outbox go up, by one turn.
@@ -87,16 +75,6 @@ impl World {
         ensures { (first depth : ℕ) (old : Worldly) → IsBehind first depth old self.now.hub → IsTrue result ↔ MayGoDown most old }
     {
         most > 0 && self.hub().end().is_none() && self.hub().link().has_more()
-    }
-}
-
-/// What became of an event behind which answers wait for memory, or do not.
-fn spelled(late: bool, became: Applied) -> Applied
-    ensures { result ≡ spelled_by late became }
-{
-    match became {
-        Applied::Answer(_) if late => Applied::Memory,
-        became => became,
     }
 }
 

@@ -20,6 +20,7 @@ mod rest_tests;
 mod resting;
 mod runs;
 mod tally;
+mod tape;
 #[cfg(test)]
 mod tests;
 mod world;

@@ -5,8 +5,9 @@ ghost use Rattle.usbip_export.specs.Seen.{Seen, standing, IsCaughtUp};
 ghost use Rattle.usbip_export.specs.Serving.{WorksBy};
 ghost use Rattle.usbip_export.specs.Steps.{AreArrivals, AreCalming};
 ghost use Rattle.usbip_export.specs.Events.{Drives, IsDeclined, IsDue, IsCalm};
-ghost use Rattle.tmc_world.specs.Crossing.{uncrossed, IsOpen, IsShut, IsSound, HasFed, Hears};
+ghost use Rattle.tmc_world.specs.Crossing.{uncrossed, IsOpen, IsShut, IsSound, HasFed, HasRoom, Hears};
 
+use crate::tape::Tape;
 use std::alloc::Global;
 use std::marker::Model;
 use tmc_base::Memory;
@@ -20,19 +21,19 @@ pub(crate) struct Line {
     sent: Vec<u8>,
     /// How many bytes the node was fed: all that were sent while it was open.
     fed: usize,
-    taken: Vec<u8>,
-    /// Whether something in the node waits for memory.
+    taken: Tape,
+    /// Whether something in the node waits for memory: to be taken in or spelled, or room for the bytes that are to be taken.
     late: bool,
 }
 
 impl Model for Line {
-    ghost use Rattle.tmc_world.specs.Crossing.{Crossing, IsSound};
+    ghost use Rattle.tmc_world.specs.Crossing.{Crossing, IsSound, HasRoom};
 
     ghost Value = { Crossing };
 
-    ghost view = { λ a. record { node = a.node; sent = a.sent.items; fed = a.fed; taken = a.taken.items; late = a.late } };
+    ghost view = { λ a. record { node = a.node; sent = a.sent.items; fed = a.fed; taken = a.taken.bytes; late = a.late } };
 
-    ghost invariant = { λ a. IsSound (record { node = a.node; sent = a.sent.items; fed = a.fed; taken = a.taken.items; late = a.late }) };
+    ghost invariant = { λ a. IsSound (record { node = a.node; sent = a.sent.items; fed = a.fed; taken = a.taken.bytes; late = a.late }) × HasRoom a.late a.node a.taken.room };
 }
 
 impl Line {
@@ -44,7 +45,7 @@ impl Line {
             node: Node::imported(alloc)?,
             sent: Vec::new(alloc),
             fed: 0,
-            taken: Vec::new(alloc),
+            taken: Tape::new(alloc),
             late: false,
         })
     }
@@ -103,7 +104,8 @@ impl Line {
             return Err(Memory);
         }
         self.fed = fed(shut, self.fed, self.sent.as_slice().len());
-        self.late = !spell(&mut self.node);
+        let spelled = spell(&mut self.node);
+        self.late = lacks(&self.node, &mut self.taken, spelled);
         Ok(())
     }
 
@@ -118,7 +120,8 @@ impl Line {
     {
         let drove = self.node.drive(event);
         if let Drove::Applied = drove {
-            self.late = self.node.wants_memory();
+            let spelled = !self.node.wants_memory();
+            self.late = lacks(&self.node, &mut self.taken, spelled);
         }
         drove
     }
@@ -129,7 +132,8 @@ impl Line {
         ensures is { self.new ≡ record self.old { node = self.new.node; late = self.new.late } }
         ensures sound { IsSound self.new }
     {
-        self.late = !catch_up(&mut self.node);
+        let spelled = catch_up(&mut self.node);
+        self.late = lacks(&self.node, &mut self.taken, spelled);
     }
 
     /// Makes calm moves until none is enabled.
@@ -139,26 +143,35 @@ impl Line {
         ensures is { self.new ≡ record self.old { node = self.new.node; late = self.new.late } }
         ensures sound { IsSound self.new }
     {
-        self.late = self.node.calm().is_err();
+        let spelled = self.node.calm().is_ok();
+        self.late = lacks(&self.node, &mut self.taken, spelled);
     }
 
-    /// Takes the first bytes that wait into the front of `buf`.
-    pub(crate) fn take(&mut self, buf: &mut [u8], count: usize) -> Result<(), Memory>
+    /// Takes the first bytes that wait into the front of `buf`. Takes no memory.
+    pub(crate) fn take(&mut self, buf: &mut [u8], count: usize)
+        requires unlate { self.old.late ≡ false }
         requires there { count ≤ length self.old.node.out }
         requires room { count ≤ length buf.old }
-        ensures bytes { OnOk result (take count buf.new ≡ take count self.old.node.out) }
-        ensures taken { OnOk result (self.new ≡ record self.old {
+        ensures bytes { take count buf.new ≡ take count self.old.node.out }
+        ensures taken { self.new ≡ record self.old {
           node = record self.old.node { out = drop count self.old.node.out };
           taken = self.old.taken ++ take count self.old.node.out;
-        }) }
-        ensures err { OnErr result (self.new ≡ self.old) }
+        } }
     {
         let front = &self.node.pending_out()[..count];
-        self.taken.extend_from_slice(front)?;
+        self.taken.push(front);
         buf[..count].copy_from_slice(front);
         self.node.sent_out(count);
-        Ok(())
     }
+}
+
+/// Whether something waits for memory: what is not spelled, or room for the bytes that are to be taken.
+fn lacks(node: &Node, taken: &mut Tape, spelled: bool) -> bool
+    ensures bytes { taken.new.bytes ≡ taken.old.bytes }
+    ensures spelled { result ≡ false → spelled ≡ true }
+    ensures room { HasRoom result node.now taken.new.room }
+{
+    !spelled || !taken.reserve(node.pending_out().len())
 }
 
 /// How many bytes a node was fed behind a send: as many as before where it is shut, or all that were sent.

@@ -1,4 +1,4 @@
-ghost use Rattle.std.specs.Prelude.{◌≡◌, ◌≢◌, ◌⊎◌, ◌↔◌, ◌<◌, ◌≤◌, [], false, length, take, IfOk, IsTrue};
+ghost use Rattle.std.specs.Prelude.{◌≡◌, ◌≢◌, ◌⊎◌, ◌↔◌, ◌<◌, ◌≤◌, [], true, false, length, take, IfOk, IsTrue};
 ghost use Rattle.tmc_base.specs.Link.{got_count, SendCounts, PollCounts};
 ghost use Rattle.usbip_export.specs.Seen.{standing};
 ghost use Rattle.tmc_world.specs.declared.pace.Pace.TheVariants as pace;
@@ -197,7 +197,7 @@ impl LoopLink {
     /// What the node does before bytes are taken from it.
     fn ready(&mut self)
         ensures readies { self.new.late ≡ false → Readies self.old.pace self.old.late self.old self.new }
-        ensures moved { MayHaveMoved self.old.pace self.old.late self.old self.new }
+        ensures moved { self.new.late ≡ true → MayHaveMoved self.old.pace self.old.late self.old self.new }
     {
         match self.pace {
             Pace::Calm => self.calm_down(),
@@ -223,7 +223,7 @@ impl LoopLink {
         self.history = self.history.and(&self.line);
     }
 
-    /// Takes bytes that wait, where there are some.
+    /// Takes bytes that wait, where there are some. Takes no memory.
     fn take(&mut self, buf: &mut [u8], room: usize) -> PollStep
         requires some { 0 < room }
         requires within { room ≤ length buf.old }
@@ -241,9 +241,7 @@ impl LoopLink {
             self.tally.idle();
             return PollStep::Idle;
         }
-        if self.line.take(buf, count).is_err() {
-            return PollStep::Memory;
-        }
+        self.line.take(buf, count);
         self.pace = self.pace.poll_shut();
         PollStep::Got(count)
     }

@@ -75,8 +75,8 @@ impl World {
         }
     }
 
-    /// Whether something in the node waits for memory.
-    fn is_late(&self) -> bool
+    /// Whether something in the node waits for memory: so the instrument may be ahead of the run that the link tells.
+    pub fn is_late(&self) -> bool
         ensures { result ≡ self.now.hub.link.late }
     {
         self.hub().link().is_late()
