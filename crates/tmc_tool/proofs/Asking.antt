@@ -1,5 +1,5 @@
 -- an ask of a fresh world
-use Rattle.std.proofs.Common.{◌≡◌, ℕ, zero, suc, ◌+◌, ◌<◌, ◌||◌, ◌≤◌, Bool, true, false, ltb, eqb, cond, List, [], ◌∷◌, length, Option, Some, None, refl, sym, ◌∙◌, subst, arith}
+use Rattle.std.proofs.Common.{◌≡◌, ℕ, zero, suc, ◌+◌, ◌<◌, ◌||◌, ◌≤◌, Bool, true, false, ltb, eqb, cond, List, [], ◌∷◌, length, Option, Some, None, refl, sym, ap, ◌∙◌, subst, arith}
 use Rattle.std.proofs.Math.Dec.{eqb-suc-zero}
 use Rattle.std.proofs.lemmas.Bool.{le-ltb}
 use Rattle.host_hub.specs.declared.refusals.AskFault.{AskFault}
@@ -12,13 +12,13 @@ use Rattle.event_text.specs.declared.event.Event.TheVariants.{Ask as ask, Rest a
 use Rattle.tmc_world.specs.declared.applied.Applied.{Applied}
 use Rattle.tmc_world.specs.LoopLink.{Looped}
 use Rattle.tmc_world.specs.World.{Worldly, IsBehind, begun, setting_of}
-use Rattle.tmc_world.specs.WorldEvents.{LeadsTo, LeavesSpelled}
+use Rattle.tmc_world.specs.WorldEvents.{LeadsTo}
 use Rattle.tmc_world.specs.WorldSteps.{Asks, Goes, asking_of_ask}
 use Rattle.tmc_tool.specs.Command.{IsLimit}
 use Rattle.tmc_tool.specs.Line.{IsAsked}
 use Rattle.tmc_tool.specs.Told.{AskedOnce, Tells, asked_once}
 use Rattle.tmc_tool.specs.Going.{HasAsked, LedBy, applied_as}
-use Rattle.tmc_tool.proofs.Going.{goes_as, leaves_so}
+use Rattle.tmc_tool.proofs.Going.{goes_as}
 use Rattle.tmc_tool.proofs.Holding.{LeaveCalm, owns_so}
 
 not_zero : (n : ℕ) → 0 < n → eqb n 0 ≡ false
@@ -60,31 +60,25 @@ rested old new (Some (answer.NotCleared why)) goes = absurd goes
 rested old new (Some answer.Done) goes = goes
 
 pub asked_so : (limit : ℕ) (message : List ℕ) (old hub next : HubParts Looped) (became : Applied) (said : Option EventAnswer) → IsLimit limit → IsAsked message → HasAsked limit message old hub
-    → ((first depth : ℕ) (world : Worldly) → IsBehind first depth world hub → LeadsTo first depth rest world became next)
-    → ((first depth : ℕ) (world : Worldly) → IsBehind first depth world hub → LeavesSpelled world became next) → became ≡ applied_as said
+    → ((first depth : ℕ) (world : Worldly) → IsBehind first depth world hub → LeadsTo first depth rest world became next) → became ≡ applied_as said
     → IsBehind 1 1 begun old → LedBy 1 1 begun (asked_once limit message) next
-asked_so limit message old hub next became said within asked has rests leaves same behind =
+asked_so limit message old hub next became said within asked has rests same behind =
     let leads = has.leads 1 1 begun behind in
     let goes = first_ticket limit message has.said leads.new within asked (goes_as 1 1 (ask 0 limit message) begun leads.new (applied_as has.said) has.said refl leads.goes) in
     let last = rests 1 1 leads.new leads.behind in
     let done = rested leads.new last.new said (goes_as 1 1 rest leads.new last.new became said same last.goes) in
-    let unlate = leaves_so 1 1 begun leads.new hub (applied_as has.said) has.said refl leads.behind (has.spelled 1 1 begun behind) refl in
-    record {
-      new = last.new;
-      goes = (leads.new, goes, (last.new, done, refl));
-      behind = last.behind;
-      spelled = leaves_so 1 1 leads.new last.new next became said same last.behind (leaves 1 1 leads.new leads.behind) unlate;
-    }
+    record { new = last.new; goes = (leads.new, goes, (last.new, done, refl)); behind = last.behind }
 
 pub reported_so : LeaveCalm → (limit : ℕ) (message : List ℕ) (hub : HubParts Looped) (text : List ℕ) → LedBy 1 1 begun (asked_once limit message) hub
-    → ((now : Worldly) → IsBehind 1 1 now hub → Tells 1 1 now [] text) → AskedOnce limit message text
-reported_so leave limit message hub text led tells =
+    → hub.link.late ≡ false → ((now : Worldly) → IsBehind 1 1 now hub → Tells 1 1 now [] text) → AskedOnce limit message text
+reported_so leave limit message hub text led late tells =
+    let unlate = ap (λ (l : Looped). l.late) (sym led.behind.link) ∙ late in
     let told = tells led.new led.behind in
     record {
       begins = record { number = omega arith; some = omega arith; most = omega arith };
       world = led.new;
       goes = led.goes;
       tells = told;
-      spelled = led.spelled;
-      owns = owns_so leave 1 1 (asked_once limit message) led.new [] text (omega arith) led.goes led.spelled told;
+      spelled = unlate;
+      owns = owns_so leave 1 1 (asked_once limit message) led.new [] text (omega arith) led.goes unlate told;
     }

@@ -1,15 +1,14 @@
 -- events that are applied to a world, one more behind the others
-use Rattle.std.proofs.Common.{◌≡◌, ◌≢◌, ℕ, false, List, [], ◌∷◌, ◌++◌, map, Option, Some, None, refl, sym, ap, ◌∙◌, subst}
+use Rattle.std.proofs.Common.{◌≡◌, ℕ, List, [], ◌∷◌, ◌++◌, map, Option, Some, None, refl, sym, ap, ◌∙◌, subst}
 use Rattle.std.proofs.lemmas.List.{map-append}
 use Rattle.host_hub.specs.Behind.{HubParts}
 use Rattle.host_hub.specs.Order.{Setting}
 use Rattle.event_text.specs.declared.answer.EventAnswer.{EventAnswer}
 use Rattle.event_text.specs.declared.event.Event.{Event}
 use Rattle.tmc_world.specs.declared.applied.Applied.{Applied}
-use Rattle.tmc_world.specs.declared.applied.Applied.TheVariants as applied
 use Rattle.tmc_world.specs.LoopLink.{Looped}
 use Rattle.tmc_world.specs.World.{Worldly, IsBehind, setting_of}
-use Rattle.tmc_world.specs.WorldEvents.{Applies, LeadsTo, LeavesSpelled}
+use Rattle.tmc_world.specs.WorldEvents.{Applies, LeadsTo}
 use Rattle.tmc_world.specs.WorldSteps.{Answered, Goes, GoThrough}
 use Rattle.tmc_tool.specs.Going.{Went, applied_as}
 
@@ -20,13 +19,13 @@ go_on s old mid new (first ∷ run) one goes last = (goes.0, goes.1, go_on s goe
 
 -- before the first event
 pub went_none : (first depth : ℕ) (old : Worldly) (hub : HubParts Looped) → IsBehind first depth old hub → Went first depth old [] [] hub
-went_none first depth old hub behind = record { run = []; done = refl; said = refl; new = old; goes = refl; behind = behind; spelled = λ unlate. unlate }
+went_none first depth old hub behind = record { run = []; done = refl; said = refl; new = old; goes = refl; behind = behind }
 
 went_on : (first depth : ℕ) (old : Worldly) (events : List Event) (answers : List (Option EventAnswer)) (hub next : HubParts Looped)
     → (went : Went first depth old events answers hub) (does : Event) (said : Option EventAnswer) (new : Worldly)
     → Goes (setting_of first depth) does went.new said new → IsBehind first depth new next
-    → (went.new.link.late ≡ false → new.link.late ≡ false) → Went first depth old (events ++ does ∷ []) (answers ++ said ∷ []) next
-went_on first depth old events answers hub next went does said new goes behind spelled =
+    → Went first depth old (events ++ does ∷ []) (answers ++ said ∷ []) next
+went_on first depth old events answers hub next went does said new goes behind =
     let one : Answered = record { event = does; said = said } in
     record {
       run = went.run ++ one ∷ [];
@@ -35,19 +34,7 @@ went_on first depth old events answers hub next went does said new goes behind s
       new = new;
       goes = go_on (setting_of first depth) old went.new new went.run one went.goes goes;
       behind = behind;
-      spelled = λ unlate. spelled (went.spelled unlate);
     }
-
--- what was answered is no want of memory
-pub well : (said : Option EventAnswer) → applied_as said ≢ applied.Memory
-well (Some said) = λ is. cc
-well None = λ is. cc
-
--- an event that was answered leaves nothing waiting for memory where nothing did
-pub leaves_so : (first depth : ℕ) (old new : Worldly) (hub : HubParts Looped) (became : Applied) (said : Option EventAnswer) → became ≡ applied_as said
-    → IsBehind first depth new hub → LeavesSpelled old became hub → old.link.late ≡ false → new.link.late ≡ false
-leaves_so first depth old new hub became said same behind leaves unlate =
-    ap (λ (l : Looped). l.late) (sym behind.link) ∙ leaves unlate (λ is. well said (sym same ∙ is))
 
 -- what an event that was applied answered
 pub goes_as : (first depth : ℕ) (does : Event) (old new : Worldly) (became : Applied) (said : Option EventAnswer) → became ≡ applied_as said
@@ -64,11 +51,10 @@ all_none begun = λ first depth old behind. went_none first depth old begun behi
 
 pub all_on : (events all : List Event) (answers later : List (Option EventAnswer)) (begun now next : HubParts Looped) (does : Event) (became : Applied) (said : Option EventAnswer)
     → AllWent events answers begun now → ((first depth : ℕ) (old : Worldly) → IsBehind first depth old now → LeadsTo first depth does old became next)
-    → ((first depth : ℕ) (old : Worldly) → IsBehind first depth old now → LeavesSpelled old became next) → became ≡ applied_as said → all ≡ events ++ does ∷ [] → later ≡ answers ++ said ∷ [] → AllWent all later begun next
-all_on events all answers later begun now next does became said so_far leads leaves same more longer = λ first depth old behind.
+    → became ≡ applied_as said → all ≡ events ++ does ∷ [] → later ≡ answers ++ said ∷ [] → AllWent all later begun next
+all_on events all answers later begun now next does became said so_far leads same more longer = λ first depth old behind.
     let went = so_far first depth old behind in
     let last = leads first depth went.new went.behind in
     let goes = goes_as first depth does went.new last.new became said same last.goes in
-    let on = went_on first depth old events answers now next went does said last.new goes last.behind
-    (leaves_so first depth went.new last.new next became said same last.behind (leaves first depth went.new went.behind)) in
+    let on = went_on first depth old events answers now next went does said last.new goes last.behind in
     subst (λ xs. Went first depth old xs later next) (sym more) (subst (λ ys. Went first depth old (events ++ does ∷ []) ys next) (sym longer) on)

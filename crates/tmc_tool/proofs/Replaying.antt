@@ -1,5 +1,5 @@
 -- the events of a script in a fresh world
-use Rattle.std.proofs.Common.{ℕ, List, map, Option, refl, sym, subst, ◌≡◌}
+use Rattle.std.proofs.Common.{ℕ, false, List, map, Option, sym, ap, subst, ◌≡◌, ◌∙◌}
 use Rattle.host_hub.specs.Behind.{HubParts}
 use Rattle.event_text.specs.declared.answer.EventAnswer.{EventAnswer}
 use Rattle.event_text.specs.declared.event.Script.{Script}
@@ -12,9 +12,10 @@ use Rattle.tmc_tool.specs.Going.{Went}
 use Rattle.tmc_tool.proofs.Holding.{LeaveCalm, owns_so}
 
 pub replayed_so : LeaveCalm → (script : Script) (answers : List (Option EventAnswer)) (hub : HubParts Looped) (text : List ℕ)
-    → MayBegin script.first script.depth → Went script.first script.depth begun script.events answers hub
+    → MayBegin script.first script.depth → Went script.first script.depth begun script.events answers hub → hub.link.late ≡ false
     → ((now : Worldly) → IsBehind script.first script.depth now hub → Tells script.first script.depth now answers text) → Replayed script text
-replayed_so leave script answers hub text begins went tells =
+replayed_so leave script answers hub text begins went late tells =
+    let unlate = ap (λ (l : Looped). l.late) (sym went.behind.link) ∙ late in
     let told = subst (λ (xs : List (Option EventAnswer)). Tells script.first script.depth went.new xs text) (sym went.said) (tells went.new went.behind) in
     record {
       run = went.run;
@@ -24,7 +25,7 @@ replayed_so leave script answers hub text begins went tells =
         world = went.new;
         goes = went.goes;
         tells = told;
-        spelled = went.spelled refl;
-        owns = owns_so leave script.first script.depth went.run went.new _ text begins.number went.goes (went.spelled refl) told;
+        spelled = unlate;
+        owns = owns_so leave script.first script.depth went.run went.new _ text begins.number went.goes unlate told;
       };
     }

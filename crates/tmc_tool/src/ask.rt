@@ -8,7 +8,7 @@ ghost use Rattle.tmc_tool.specs.Told.{AskedOnce, asked_once};
 ghost use Rattle.tmc_tool.specs.Going.{HasAsked, LedBy};
 
 use crate::replay::said;
-use crate::report::report;
+use crate::report::{all_spelled, report};
 use event_text::Event;
 use std::alloc::Global;
 use tmc_base::{Memory, Octets};
@@ -38,6 +38,7 @@ fn ask_in(alloc: Global, world: &mut World, limit: u32, message: &[u8]) -> Resul
     ensures { IfOk result (λ text. IsBehind 1 1 begun world.old.hub → AskedOnce limit message.now text.items) }
 {
     ask_and_rest(alloc, world, limit, message)?;
+    all_spelled(world)?;
     world_runs_keep_the_laws();
     report(alloc, &[], world)
 }

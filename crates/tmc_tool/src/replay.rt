@@ -6,7 +6,7 @@ ghost use Rattle.tmc_world.specs.World.{Worldly, IsBehind, begun};
 ghost use Rattle.tmc_tool.specs.Told.{Replayed};
 ghost use Rattle.tmc_tool.specs.Going.{Went, applied_as};
 
-use crate::report::report;
+use crate::report::{all_spelled, report};
 use event_text::{Event, EventAnswer, Script};
 use std::alloc::Global;
 use tmc_base::Memory;
@@ -27,6 +27,7 @@ fn replay_in(alloc: Global, world: &mut World, script: &Script) -> Result<Vec<u8
     ensures { IfOk result (λ text. IsBehind script.now.first script.now.depth begun world.old.hub → Replayed script.now text.items) }
 {
     let answers = apply_all(alloc, world, script.events.as_slice())?;
+    all_spelled(world)?;
     world_runs_keep_the_laws();
     report(alloc, &answers, world)
 }

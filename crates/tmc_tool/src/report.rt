@@ -1,6 +1,6 @@
 //! The report of a world.
 
-ghost use Rattle.std.specs.Prelude.{ℕ, IfOk};
+ghost use Rattle.std.specs.Prelude.{◌≡◌, ℕ, false, IfOk};
 ghost use Rattle.tmc_world.specs.World.{Worldly, IsBehind};
 ghost use Rattle.tmc_tool.specs.Told.{Tells};
 
@@ -8,6 +8,16 @@ use event_text::{EventAnswer, put_report};
 use std::alloc::Global;
 use tmc_base::Memory;
 use tmc_world::World;
+
+/// Wants memory where an answer of the instrument waits for it: then the run that is told is not all that it did.
+pub(crate) fn all_spelled(world: &World) -> Result<(), Memory>
+    ensures { IfOk result (λ _. world.now.hub.link.late ≡ false) }
+{
+    if world.is_late() {
+        return Err(Memory);
+    }
+    Ok(())
+}
 
 /// Reports what events answered, the book of the hub, the log of the instrument, and the bytes that crossed the link.
 pub(crate) fn report(

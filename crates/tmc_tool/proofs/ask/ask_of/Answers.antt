@@ -4,5 +4,4 @@ pub returns : goal.returns
 returns c = record {
   said = c.in_ok-said.field-0;
   leads = λ first depth world behind. rw (← c.in_ok-said.ensures, ← c.in_ok-from_slice.ensures) (c.apply.ensures.leads first depth world behind);
-  spelled = λ first depth world behind. rw (← c.in_ok-said.ensures) (c.apply.ensures.spelled first depth world behind);
 }
