@@ -1,5 +1,5 @@
 -- a node that is fed
-use Rattle.std.proofs.Common.{◌≡◌, ◌≢◌, ◌∙◌, ◌⊎◌, inl, inr, ℕ, Bool, true, false, not, if◌then◌else◌, List, [], ◌++◌, length, take, Option, Some, Result, Ok, Err, OnOk, is_err, is_ok, refl, sym, ap, subst, arith}
+use Rattle.std.proofs.Common.{◌≡◌, ◌≢◌, ◌∙◌, ◌⊎◌, inl, inr, ℕ, Bool, true, false, if◌then◌else◌, List, [], ◌++◌, length, take, Option, Some, Result, Ok, Err, OnOk, is_err, is_ok, refl, sym, ap, subst, arith}
 use Rattle.std.proofs.lemmas.List.{length-append, take-append-le, take_all}
 use Rattle.tmc_base.specs.declared.field.Field.{Field}
 use Rattle.tmc_base.specs.declared.memory.Memory.{Memory}
@@ -41,10 +41,6 @@ took_it result node (inl is) refused opened = is
 took_it result node (inr (f, is)) refused opened = absurd (open_shut node opened (refused_shut node f (refused f is)))
 
 -- ---- a line that is sound stays so
-
-pub not_false : (b : Bool) → not b ≡ false → b ≡ true
-not_false true is = refl
-not_false false is = cc
 
 pub on_ok : (result : Result (Unit {0}) Memory) (P : Type 0) → OnOk result P → is_err result ≡ false → P
 on_ok (Ok u) P told is = told

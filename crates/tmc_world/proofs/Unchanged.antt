@@ -11,7 +11,7 @@ use Rattle.tmc_world.specs.declared.applied.Applied.TheVariants as applied
 use Rattle.tmc_world.specs.declared.loop_act.LoopAct.TheVariants as act
 use Rattle.tmc_world.specs.LoopLink.{Looped, MayHaveMoved, Tends}
 use Rattle.tmc_world.specs.World.{Worldly, IsBehind, setting_of, shut}
-use Rattle.tmc_world.specs.WorldEvents.{LeadsTo, LeavesWorld, Wants, WantsDev}
+use Rattle.tmc_world.specs.WorldEvents.{LeadsTo, LeavesWorld, Wants}
 use Rattle.tmc_world.proofs.RestTries.{caught_up, worlds_alike}
 
 tend_same : (does : DevEvent) (old new : Looped) → Tends old (act.Dev does) tend.Memory new → old.late ≡ false → new ≡ old

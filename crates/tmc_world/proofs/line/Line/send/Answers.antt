@@ -1,4 +1,4 @@
-use Rattle.std.proofs.Common.{◌∙◌, ℕ, List, if◌then◌else◌, length, refl, ap}
+use Rattle.std.proofs.Common.{◌∙◌, ℕ, List, if◌then◌else◌, length, ap}
 use Rattle.tmc_world.proofs.Feeding.{hears_on, sound_sent}
 use Rattle.tmc_world.proofs.line.Line.send.Goals as goal
 

@@ -1,4 +1,4 @@
-use Rattle.std.proofs.Common.{◌∙◌, sym, ap}
+use Rattle.std.proofs.Common.{◌∙◌, ap}
 use Rattle.tmc_world.specs.LoopLink.{Looped}
 use Rattle.tmc_world.proofs.Moving.{telling_taken}
 use Rattle.tmc_world.proofs.loop_link.LoopLink.take.Goals as goal
