@@ -1,5 +1,5 @@
 -- what a book has room for, so that what comes takes no memory
-use Rattle.std.specs.Prelude.{◌≡◌, ◌≤◌, ℕ, ◌+◌, suc, Bool, true, false, List, [], ◌∷◌, length, vec_capacity, if◌then◌else◌}
+use Rattle.std.specs.Prelude.{◌≡◌, ◌≤◌, ℕ, ◌+◌, ◌==◌, suc, Bool, true, false, ◌||◌, List, [], ◌∷◌, length, vec_capacity, if◌then◌else◌}
 use Rattle.std.specs.Global.{Vec}
 use Rattle.host_hub.specs.declared.book.BookEntry.{BookEntry}
 use Rattle.host_hub.specs.declared.book.BookEntry.TheVariants as entry
@@ -28,6 +28,12 @@ abbrev pub has_given_up : List BookEntry → Bool
 has_given_up [] = false
 has_given_up (entry.GaveUp ∷ entries) = true
 has_given_up (e ∷ entries) = has_given_up entries
+
+-- it was entered that this ticket is cancelled
+abbrev pub has_cancel : ℕ → List BookEntry → Bool
+has_cancel ticket [] = false
+has_cancel ticket (entry.Cancel other ∷ entries) = (other == ticket) || has_cancel ticket entries
+has_cancel ticket (e ∷ entries) = has_cancel ticket entries
 
 -- the entries that are still to come, beside those of calls that take memory: each ticket that is not settled is settled,
 -- and a hub that was not given up is

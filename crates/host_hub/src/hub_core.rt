@@ -11,24 +11,63 @@ ghost use Rattle.host_hub.specs.Fed.{Reads};
 use crate::book::Book;
 use crate::notes::{Mark, Notes};
 use crate::{End, Outcome};
+use host_recover::{Need, Recover};
 use host_transfers::{Assembly, Tags};
 use host_urbs::Urbs;
 use std::alloc::Global;
 use tmc_base::Memory;
+use tmc_wire::ClassRequest;
 use usb_setup::Ends;
 use usbip_wire::DownReader;
 
-/// Which submit of the active ticket is out.
+/// What is out.
 #[derive(Clone, Copy, Debug)]
 pub(crate) enum Phase {
-    /// None: no ticket is live.
+    /// Nothing: no ticket is live.
     Idle,
-    /// A part of its message.
+    /// A part of the active ticket's message.
     Message,
     /// A request of a piece of its response.
     Request,
     /// A read of this piece.
     Response,
+    /// The unlink of a submit.
+    Unlink(Race),
+    /// A submit of a recovery.
+    Recovery(Repair),
+}
+
+/// An unlink races the answer to the submit that it names: what became of that.
+#[derive(Clone, Copy, Debug)]
+pub(crate) enum Race {
+    /// It is out, and its ticket is live.
+    Out(Submit),
+    /// It was answered and made no outcome: its ticket is live, and this recovery will be called for.
+    Missed(Option<Need>),
+    /// It was answered and made the outcome of its ticket, which is settled.
+    Settled,
+}
+
+/// A submit of a ticket.
+#[derive(Clone, Copy, Debug)]
+pub(crate) enum Submit {
+    /// A part of its message.
+    Part,
+    /// A request of a piece of its response.
+    Request,
+    /// A read of this piece.
+    Read,
+}
+
+/// A submit of a recovery.
+#[derive(Clone, Copy, Debug)]
+pub(crate) enum Repair {
+    /// A class request.
+    Class(ClassRequest),
+    /// The clearing of an endpoint's halt.
+    ClearHalt,
+    /// A read, whose data is dropped.
+    Drain,
 }
 
 /// A hub without its link.
@@ -51,8 +90,12 @@ pub(crate) struct HubCore {
     pub(crate) parts: u32,
     /// The length of the submit that is out.
     pub(crate) asked: u32,
+    /// The tag of the transfer to Bulk-OUT that was written last.
+    pub(crate) tag: u8,
     /// The piece of the active ticket's response that was requested last.
     pub(crate) assembly: Assembly,
+    /// The recovery that began last.
+    pub(crate) recover: Recover,
     /// How many whole messages were taken.
     pub(crate) taken: u32,
     pub(crate) turned: u64,
@@ -81,7 +124,9 @@ impl HubCore {
             phase: Phase::Idle,
             parts: 0,
             asked: 0,
+            tag: 0,
             assembly: Assembly::new(1, 1),
+            recover: Recover::new(Need::Full, ends),
             taken: 0,
             turned: 0,
             end: None,
@@ -105,7 +150,7 @@ impl HubCore {
         ensures waiting { (s : Setting) (past : Past) (sent : List ℕ) (knows : Knows s past sent self.now) → result ≡ knows.waiting }
         ensures few { result ≤ TICKETS_MAX }
     {
-        self.book.tickets() + 1 - self.active
+        self.book.live() as u32
     }
 
     /// Settles the active ticket.
@@ -117,9 +162,16 @@ impl HubCore {
         ensures births { self.new.notes.births ≡ self.old.notes.births }
         ensures rest { self.new ≡ record self.old { book = self.new.book; notes = self.new.notes; active = self.old.active + 1 } }
     {
+        self.settle_ticket(self.active, outcome);
+    }
+
+    /// Settles this ticket. The first one that is not settled then is the active one.
+    pub(crate) fn settle_ticket(&mut self, ticket: u32, outcome: Outcome) {
         let mark = self.mark();
-        self.book.settle(self.active, outcome);
+        self.book.settle(ticket, outcome);
         self.notes.mark(mark);
-        self.active += 1;
+        'settled: while self.active <= self.book.tickets() && !self.book.is_live(self.active) {
+            self.active += 1;
+        }
     }
 }

@@ -40,6 +40,7 @@ pub(crate) fn number_of(address: u8) -> u32
 struct Written {
     number: u32,
     asked: u32,
+    tag: u8,
     eom: bool,
 }
 
@@ -71,6 +72,7 @@ fn put_part(urbs: &mut Urbs, tags: &mut Tags, ep: u32, message: &[u8], count: us
     Written {
         number,
         asked: (BULK_HEADER + part.text.len() + padding) as u32,
+        tag,
         eom: part.eom,
     }
 }
@@ -149,6 +151,7 @@ impl HubCore {
             self.parts as usize,
         );
         self.asked = written.asked;
+        self.tag = written.tag;
         self.parts += 1;
         self.phase = Phase::Message;
         if written.eom {
@@ -196,6 +199,7 @@ impl HubCore {
         let ep = number_of(self.ends.bulk_out);
         submit_transfer(&mut self.urbs, ep, OutHeader::Request { tag, size }, &[]);
         self.asked = BULK_HEADER as u32;
+        self.tag = tag;
         self.assembly = Assembly::new(tag, size);
         self.phase = Phase::Request;
     }
