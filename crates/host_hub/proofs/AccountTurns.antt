@@ -28,7 +28,7 @@ use Rattle.host_hub.specs.Hand.{ended}
 use Rattle.host_hub.specs.Joined.{IsPlain, ReadsOn}
 use Rattle.host_hub.specs.Order.{Setting, message_of}
 use Rattle.host_hub.specs.Outstanding.{Sent, awaited_by, outstanding}
-use Rattle.host_hub.specs.Record.{Asked, Cancelled, Cleared, Fell, GaveUp, Past, Recovers, Settled, Stopped, Took, Wrote, written}
+use Rattle.host_hub.specs.Record.{Asked, Cancelled, Cleared, Fell, GaveUp, Past, Recovers, Settled, Stopped, Took, Wrote}
 use Rattle.host_hub.specs.Stands.{Rests, Stands}
 use Rattle.host_hub.specs.Tied.{EndShows, NothingLies, below, entries_sent, stopped, takes_all_by}
 use Rattle.host_hub.proofs.Exchanging.{exchanged_in, exchanged_out}

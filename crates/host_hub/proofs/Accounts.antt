@@ -30,7 +30,6 @@ use Rattle.host_hub.specs.Hand.{ended}
 use Rattle.host_hub.specs.Joined.{IsJoined, IsPlain, ReadsOn}
 use Rattle.host_hub.specs.Law.{Lawful}
 use Rattle.host_hub.specs.Order.{Setting, message_of}
-use Rattle.host_hub.specs.Outstanding.{outstanding}
 use Rattle.host_hub.specs.Record.{Asked, Cancelled, Cleared, Fell, GaveUp, Past, Recovers, Settled, Stopped, Took, Wrote, next, written}
 use Rattle.host_hub.specs.Refusals.{limits}
 use Rattle.host_hub.specs.Stands.{Rests}

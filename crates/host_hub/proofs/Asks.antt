@@ -1,5 +1,5 @@
 -- a ticket is asked of a hub
-use Rattle.std.proofs.Common.{◌≡◌, ◌≢◌, ◌≤◌, ◌<◌, ℕ, ◌+◌, zero, suc, Bool, true, false, List, [], ◌∷◌, ◌++◌, length, Option, Some, None, refl, sym, subst, ◌∙◌, ap, arith, append_assoc}
+use Rattle.std.proofs.Common.{◌≡◌, ◌≢◌, ◌≤◌, ◌<◌, ℕ, ◌+◌, Bool, true, false, List, [], ◌∷◌, ◌++◌, length, Option, Some, None, refl, sym, subst, ◌∙◌, ap, arith, append_assoc}
 use Rattle.std.specs.Prelude.{◌==◌, ◌||◌, ◌&&◌, nat_lt, nat_le, if◌then◌else◌}
 use Rattle.std.proofs.lemmas.Bool.{ltb-false, eqb-false}
 use Rattle.host_hub.specs.declared.hub_core.HubCore.{HubCore}
@@ -25,7 +25,7 @@ use Rattle.host_recover.specs.declared.need.Need.TheVariants as need
 use Rattle.host_hub.specs.Needs.{need_of}
 use Rattle.host_hub.specs.Recovery.{AreRecovered, is_called, is_served, wanted}
 use Rattle.host_hub.specs.Proper.{IsProper}
-use Rattle.host_hub.specs.Knows.{Knows, Tells, upwards}
+use Rattle.host_hub.specs.Knows.{Knows, Tells}
 use Rattle.host_hub.specs.Stands.{GoesTo, IsIdle, IsOut, Rests, Stands}
 use Rattle.host_hub.specs.Writes.{Ready}
 use Rattle.host_hub.specs.Asks.{Enters}
@@ -34,7 +34,7 @@ use Rattle.host_hub.proofs.Lists.{differ, first_added, neither, own, first_has, 
 use Rattle.host_hub.proofs.Pasts.{live_known, unasked_begun}
 use Rattle.host_hub.proofs.Stepping.{asked_works, waiting_kept}
 use Rattle.host_hub.proofs.Begins.{same_next, speaks}
-use Rattle.host_hub.proofs.Knowing.{knows_roomier}
+use Rattle.host_hub.proofs.Knowing.{active_next, knows_roomier}
 
 pub tells : (s : Setting) (past : Past) (sent : List ℕ) (core : HubCore) → Knows s past sent core → Tells s past core
 tells s past sent core k = record { over = sym k.over; count = sym k.shows.count; limit_sum = sym k.limit_sum; number = sym (same_next s past sent core k) }
@@ -283,7 +283,7 @@ pub idle_ready : (s : Setting) (past : Past) (sent : List ℕ) (core : HubCore) 
 idle_ready s past sent core a b n sum r running idle k =
     let h : IsIdle past core = subst (λ (p : Phase). Stands p s past core) idle (r.stands running) in
     let over : ended past ≡ None = sym r.knows.over ∙ running in
-    let here : core.active ≡ tickets past + 1 = none_up core.active r.knows.waiting (tickets past + 1) (sym h.none ∙ r.knows.row) r.knows.next_ticket in
+    let here : core.active ≡ tickets past + 1 = active_next s past sent core r.knows h.none in
     record {
       knows = k;
       working = asked_works s past a r.kept over;
@@ -294,13 +294,6 @@ idle_ready s past sent core a b n sum r running idle k =
       recovered = recovered_asked past a h.recovered;
       queue = h.queue;
     }
-  where
-    none_up : (m count t : ℕ) → [] ≡ upwards m count → m + count ≡ t → m ≡ t
-    none_up m zero t e h = omega (arith, h)
-    none_up m (suc c) t e h = absurd (no e)
-      where
-        no : [] ≡ m ∷ upwards (m + 1) c → ⊥
-        no k = cc
 
 -- ---- the entry, and what follows
 

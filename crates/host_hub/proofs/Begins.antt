@@ -45,7 +45,7 @@ use Rattle.host_hub.proofs.Pasts.{unreached}
 use Rattle.host_hub.proofs.Quiets.{as_law, listens_wrote}
 use Rattle.host_hub.proofs.Stepping.{begins_planned, written_kept}
 use Rattle.host_hub.proofs.Within.{none_unbegun}
-use Rattle.host_hub.proofs.Knowing.{known_ticket, seen_there}
+use Rattle.host_hub.proofs.Knowing.{known_first, known_ticket, seen_there}
 use Rattle.host_hub.proofs.Wrote.{knows_wrote, numbers_set, starts_first}
 
 -- ---- nothing is out
@@ -167,7 +167,7 @@ begins_rests s past sent core seen u b q n r few found puts ends size starts =
           (same_device s (part_of (next_tag past) 0 seen.message) core.urbs u puts) refl
           (rw (sym number) (ends seen found))
           refl refl refl (numbers_set core.notes.starts (core.active - 1) core.urbs.next)
-          (rw number (starts_first s past core.active (part_of (next_tag past) 0 seen.message) core.notes.starts r.knows.from_first r.fresh r.knows.starts));
+          (rw number (starts_first s past core.active (part_of (next_tag past) 0 seen.message) core.notes.starts (known_first s past sent core r.knows) r.fresh r.knows.starts));
       kept = written_kept s past core.active (asking_seen seen) (part_of (next_tag past) 0 seen.message) r.knows.shallow r.working plan.0 plan.1
           (submit_may s past (part_of (next_tag past) 0 seen.message) r.working.lawful refl (subst (λ (k : ℕ). k ≤ LAST_SUBMIT) number few) (none_taken past r.none_out));
       stands = λ e. record {
@@ -272,10 +272,8 @@ knows_parts s past sent core n k = record {
   over = k.over;
   proper = k.proper;
   few = k.few;
-  waiting = k.waiting;
-  row = k.row;
-  next_ticket = k.next_ticket;
-  from_first = k.from_first;
+  lives = k.lives;
+  turn = k.turn;
   room = k.room;
 }
 

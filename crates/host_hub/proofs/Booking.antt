@@ -1,20 +1,20 @@
 -- how a book's tickets are seen, and what it has room for, as it changes
 use Rattle.std.proofs.Common.{◌≡◌, ◌≤◌, ◌<◌, ℕ, ◌+◌, ◌-◌, zero, suc, Bool, true, false, List, [], ◌∷◌, ◌++◌, length, Some, None, refl, sym, subst, ◌∙◌, ap, arith}
-use Rattle.std.specs.Prelude.{◌==◌, slice_get, slice_set, get_or, vec_capacity}
+use Rattle.std.specs.Prelude.{◌*◌, ◌==◌, slice_get, slice_set, get_or, vec_capacity}
 use Rattle.std.specs.Global.{Vec}
 use Rattle.std.proofs.lemmas.Option.{slice_get-get_or}
 use Rattle.host_hub.specs.declared.book.BookEntry.{BookEntry}
 use Rattle.host_hub.specs.declared.book.BookEntry.TheVariants as entry
 use Rattle.host_hub.specs.declared.outcome.Outcome.{Outcome}
-use Rattle.host_hub.specs.declared.outcome.Outcome.TheVariants.{Done}
+use Rattle.host_hub.specs.declared.outcome.Outcome.TheVariants.{Done, Live}
 use Rattle.host_hub.specs.declared.ticket.Ticket.{Ticket}
 use Rattle.host_hub.specs.BookSeen.{BookSeen, Seen, IsTicket, seen_of, all_seen, ticket_of}
-use Rattle.host_hub.specs.BookRoom.{is_open, open_count, HaveRoom, has_given_up, to_come}
-use Rattle.host_hub.specs.BookRoom.{IsRoomy}
+use Rattle.host_hub.specs.BookRoom.{IsRoomy, HaveRoom, comes_from, ending, has_given_up, is_open, open_count, opens, to_come}
 use Rattle.host_hub.specs.BookChanges.{with_seen, with_settled, with_asked}
 use Rattle.host_hub.specs.declared.service.Service.{Service}
 use Rattle.host_hub.proofs.Lists.{clash, differ}
 use Rattle.host_hub.proofs.Seen.{seen_at, seen_count}
+use Rattle.host_hub.proofs.Opens.{comes_asked, comes_entered, comes_most, comes_settled, opens_added, opens_at, opens_same, opens_set}
 
 -- ---- a ticket is written anew
 
@@ -87,6 +87,14 @@ open_less (z ∷ zs) (suc i) x y e was is = step (open_less zs i x y e was is) (
     step again true h = rw h (ap suc again)
     step again false h = rw h again
 
+pub open_most : (xs : List Seen) → open_count xs ≤ length xs
+open_most [] = omega arith
+open_most (x ∷ xs) = step (is_open x.outcome) refl (open_most xs)
+  where
+    step : (b : Bool) → is_open x.outcome ≡ b → open_count xs ≤ length xs → open_count (x ∷ xs) ≤ suc (length xs)
+    step true h again = rw h (omega (arith, again))
+    step false h again = rw h (omega (arith, again))
+
 pub open_added : (xs : List Seen) (x : Seen) → is_open x.outcome ≡ true → open_count (xs ++ x ∷ []) ≡ open_count xs + 1
 open_added [] x e = rw e refl
 open_added (y ∷ ys) x e = step (open_added ys x e) (is_open y.outcome) refl
@@ -94,6 +102,10 @@ open_added (y ∷ ys) x e = step (open_added ys x e) (is_open y.outcome) refl
     step : open_count (ys ++ x ∷ []) ≡ open_count ys + 1 → (b : Bool) → is_open y.outcome ≡ b → open_count (y ∷ (ys ++ x ∷ [])) ≡ open_count (y ∷ ys) + 1
     step again true h = rw h (omega (arith, again))
     step again false h = rw h again
+
+pub not_open : (o : Outcome) → (o ≡ Live → ⊥) → is_open o ≡ false
+not_open Live h = absurd (h refl)
+not_open o h = refl
 
 -- ---- the ticket of a number
 
@@ -169,75 +181,106 @@ settled_anew kept made service book n x y d seen outcome all e there is found pu
     ∙ ap (λ (s : Seen). slice_set (all_seen kept) (n - 1) s)
     (ap seen_of put ∙ ap (λ (s : Seen). record s { outcome = outcome }) (sym (seen_is kept book n y d seen (tickets_in kept made service book e) there is found))))))
 
-pub roomy_set : (kept : List Ticket) (made : Vec BookEntry) (live : ℕ) (given : Bool) (i : ℕ) (x y : Ticket) → IsRoomy kept made live given → slice_get kept i ≡ Some y
-    → x.outcome ≡ y.outcome → x.limit ≡ y.limit → vec_capacity y.bytes ≤ vec_capacity x.bytes → IsRoomy (slice_set kept i x) made live given
-roomy_set kept made live given i x y r found same limit more = record {
+pub roomy_set : (kept : List Ticket) (made : Vec BookEntry) (live : ℕ) (i : ℕ) (x y : Ticket) → IsRoomy kept made live → slice_get kept i ≡ Some y
+    → x.outcome ≡ y.outcome → x.limit ≡ y.limit → vec_capacity y.bytes ≤ vec_capacity x.bytes → IsRoomy (slice_set kept i x) made live
+roomy_set kept made live i x y r found same limit more = record {
   count = r.count ∙ sym (ap open_count (seen_set kept i x)
       ∙ open_set (all_seen kept) i (seen_of x) (seen_of y) (seen_at kept i y found) (ap is_open same));
   bytes = room_set kept i x r.bytes (λ lives. omega (arith, limit, more, room_at kept i y r.bytes found (subst (λ (o : Outcome). is_open o ≡ true) same lives)));
-  given = r.given;
-  entries = r.entries;
+  entries =
+      let still : to_come (all_seen (slice_set kept i x)) made.items ≡ to_come (all_seen kept) made.items =
+      ap (λ (l : List Seen). to_come l made.items) (seen_set kept i x)
+      ∙ ap (λ (l : List Bool). comes_from 1 l made.items) (opens_same (all_seen kept) i (seen_of x) (seen_of y) (seen_at kept i y found) (ap is_open same)) in
+      omega (arith, r.entries, still);
 }
 
 -- one that is not settled stands there
-pub some_open : (kept : List Ticket) (made : Vec BookEntry) (live : ℕ) (given : Bool) (i : ℕ) (y : Ticket) → IsRoomy kept made live given → slice_get kept i ≡ Some y
+pub some_open : (kept : List Ticket) (made : Vec BookEntry) (live : ℕ) (i : ℕ) (y : Ticket) → IsRoomy kept made live → slice_get kept i ≡ Some y
     → is_open y.outcome ≡ true → 1 ≤ live
-some_open kept made live given i y r found lives =
+some_open kept made live i y r found lives =
     omega (arith, r.count, open_less (all_seen kept) i (record (seen_of y) { outcome = Done }) (seen_of y) (seen_at kept i y found) lives refl)
 
-pub has_place : (kept : List Ticket) (made : Vec BookEntry) (live : ℕ) (given : Bool) → IsRoomy kept made live given → 1 ≤ live → length made.items < vec_capacity made
-has_place kept made live true r some = omega (arith, r.entries, some)
-has_place kept made live false r some = omega (arith, r.entries, some)
+-- once it is settled, there is one entry less to come
+less_to_come : (kept : List Ticket) (entries : List BookEntry) (i : ℕ) (x y : Ticket) → slice_get kept i ≡ Some y → is_open y.outcome ≡ true → is_open x.outcome ≡ false
+    → to_come (all_seen (slice_set kept i x)) entries + 1 ≤ to_come (all_seen kept) entries
+less_to_come kept entries i x y found lives settled =
+    let there : slice_get (opens (all_seen kept)) i ≡ Some true = opens_at (all_seen kept) i (seen_of y) (seen_at kept i y found) ∙ ap Some lives in
+    let anew : opens (all_seen (slice_set kept i x)) ≡ slice_set (opens (all_seen kept)) i false =
+    ap opens (seen_set kept i x) ∙ (opens_set (all_seen kept) i (seen_of x) ∙ ap (slice_set (opens (all_seen kept)) i) settled) in
+    rw anew (comes_settled 1 i (opens (all_seen kept)) entries there)
 
-less_to_come : (a b live cap : ℕ) (given : Bool) → 1 ≤ live → a + to_come live given ≤ cap → b ≡ a + 1 → b + to_come (live - 1) given ≤ cap
-less_to_come a b live cap true some h e = omega (arith, h, e, some)
-less_to_come a b live cap false some h e = omega (arith, h, e, some)
+pub has_place : (kept : List Ticket) (made : Vec BookEntry) (live : ℕ) (i : ℕ) (y : Ticket) → IsRoomy kept made live → slice_get kept i ≡ Some y
+    → is_open y.outcome ≡ true → length made.items < vec_capacity made
+has_place kept made live i y r found lives =
+    omega (arith, r.entries, less_to_come kept made.items i (record y { outcome = Done }) y found lives refl)
 
 length_more : (xs : List BookEntry) (x : BookEntry) → length (xs ++ x ∷ []) ≡ length xs + 1
 length_more [] x = refl
 length_more (y ∷ ys) x = omega (arith, length_more ys x)
 
-pub roomy_settled : (kept : List Ticket) (made all : Vec BookEntry) (live : ℕ) (given : Bool) (n i : ℕ) (x y : Ticket) → IsRoomy kept made live given
+pub roomy_settled : (kept : List Ticket) (made all : Vec BookEntry) (live : ℕ) (n i : ℕ) (x y : Ticket) → IsRoomy kept made live
     → slice_get kept i ≡ Some y → is_open y.outcome ≡ true → is_open x.outcome ≡ false → all.items ≡ made.items ++ entry.Settled n ∷ []
-    → vec_capacity all ≡ vec_capacity made → IsRoomy (slice_set kept i x) all (live - 1) given
-roomy_settled kept made all live given n i x y r found lives settled more cap = record {
+    → vec_capacity all ≡ vec_capacity made → IsRoomy (slice_set kept i x) all (live - 1)
+roomy_settled kept made all live n i x y r found lives settled more cap = record {
   count = sym (ap open_count (seen_set kept i x)
       ∙ (let e : open_count (all_seen kept) ≡ suc (open_count (slice_set (all_seen kept) i (seen_of x))) =
       open_less (all_seen kept) i (seen_of x) (seen_of y) (seen_at kept i y found) lives settled in
       omega (arith, e, r.count)));
   bytes = room_set kept i x r.bytes (λ e. clash (sym settled ∙ e));
-  given = r.given ∙ sym (ap has_given_up more ∙ given_added made.items (entry.Settled n) refl);
-  entries = subst (λ (k : ℕ). length all.items + to_come (live - 1) given ≤ k) (sym cap)
-      (less_to_come (length made.items) (length all.items) live (vec_capacity made) given (some_open kept made live given i y r found lives) r.entries
-      (ap (λ (l : List BookEntry). length l) more ∙ length_more made.items (entry.Settled n)));
+  entries =
+      let less : to_come (all_seen (slice_set kept i x)) made.items + 1 ≤ to_come (all_seen kept) made.items = less_to_come kept made.items i x y found lives settled in
+      let still : to_come (all_seen (slice_set kept i x)) all.items ≡ to_come (all_seen (slice_set kept i x)) made.items =
+      ap (to_come (all_seen (slice_set kept i x))) more ∙ comes_entered 1 (opens (all_seen (slice_set kept i x))) made.items (entry.Settled n) (λ u. refl) in
+      let count : length all.items ≡ length made.items + 1 = ap (λ (l : List BookEntry). length l) more ∙ length_more made.items (entry.Settled n) in
+      let given : ending (has_given_up all.items) ≡ ending (has_given_up made.items) =
+      ap (λ (l : List BookEntry). ending (has_given_up l)) more ∙ ap ending (given_added made.items (entry.Settled n) refl) in
+      omega (arith, r.entries, less, still, count, given, cap);
 }
 
-pub roomy_given : (kept : List Ticket) (made all : Vec BookEntry) (live : ℕ) (given : Bool) → IsRoomy kept made live given → has_given_up made.items ≡ false
-    → all.items ≡ made.items ++ entry.GaveUp ∷ [] → vec_capacity all ≡ vec_capacity made → IsRoomy kept all live true
-roomy_given kept made all live given r none more cap = record {
+pub roomy_given : (kept : List Ticket) (made all : Vec BookEntry) (live : ℕ) → IsRoomy kept made live → has_given_up made.items ≡ false
+    → all.items ≡ made.items ++ entry.GaveUp ∷ [] → vec_capacity all ≡ vec_capacity made → IsRoomy kept all live
+roomy_given kept made all live r none more cap = record {
   count = r.count;
   bytes = r.bytes;
-  given = sym (ap has_given_up more ∙ given_now made.items);
   entries =
-      let room : length made.items + to_come live false ≤ vec_capacity made =
-      subst (λ (b : Bool). length made.items + to_come live b ≤ vec_capacity made) (r.given ∙ none) r.entries in
-      omega (arith, room, cap, ap (λ (l : List BookEntry). length l) more ∙ length_more made.items entry.GaveUp);
+      let still : to_come (all_seen kept) all.items ≡ to_come (all_seen kept) made.items =
+      ap (to_come (all_seen kept)) more ∙ comes_entered 1 (opens (all_seen kept)) made.items entry.GaveUp (λ u. refl) in
+      let count : length all.items ≡ length made.items + 1 = ap (λ (l : List BookEntry). length l) more ∙ length_more made.items entry.GaveUp in
+      let before : ending (has_given_up made.items) ≡ 1 = ap ending none in
+      let given : ending (has_given_up all.items) ≡ 0 = ap (λ (l : List BookEntry). ending (has_given_up l)) more ∙ ap ending (given_now made.items) in
+      omega (arith, r.entries, still, count, before, given, cap);
 }
 
-more_to_come : (a b live cap high : ℕ) (given : Bool) → a + (live + 3) ≤ high → b ≡ a + 1 → cap ≡ high → b + to_come (live + 1) given ≤ cap
-more_to_come a b live cap high true h e same = omega (arith, h, e, same)
-more_to_come a b live cap high false h e same = omega (arith, h, e, same)
+more_ends : (given : Bool) → ending given ≤ 1
+more_ends true = omega arith
+more_ends false = omega arith
 
-pub roomy_asked : (kept tickets : List Ticket) (made all : Vec BookEntry) (live n high : ℕ) (given : Bool) (x : Ticket) → IsRoomy kept made live given → is_open x.outcome ≡ true
-    → x.limit ≤ vec_capacity x.bytes → tickets ≡ kept ++ x ∷ [] → all.items ≡ made.items ++ entry.Asked n ∷ [] → length made.items + (live + 3) ≤ high
-    → vec_capacity all ≡ high → IsRoomy tickets all (live + 1) given
-roomy_asked kept tickets made all live n high given x r lives room put more spare cap = record {
+pub roomy_asked : (kept tickets : List Ticket) (made all : Vec BookEntry) (live n high : ℕ) (x : Ticket) → IsRoomy kept made live → is_open x.outcome ≡ true
+    → x.limit ≤ vec_capacity x.bytes → tickets ≡ kept ++ x ∷ [] → all.items ≡ made.items ++ entry.Asked n ∷ [] → length made.items + (2 * live + 4) ≤ high
+    → vec_capacity all ≡ high → IsRoomy tickets all (live + 1)
+roomy_asked kept tickets made all live n high x r lives room put more spare cap = record {
   count = sym (ap (λ (l : List Ticket). open_count (all_seen l)) put ∙ (ap open_count (seen_added kept x)
       ∙ (open_added (all_seen kept) (seen_of x) lives ∙ ap (λ (k : ℕ). k + 1) (sym r.count))));
   bytes = subst HaveRoom (sym put) (room_added kept x r.bytes (λ e. room));
-  given = r.given ∙ sym (ap has_given_up more ∙ given_added made.items (entry.Asked n) refl);
-  entries = more_to_come (length made.items) (length all.items) live (vec_capacity all) high given spare
-      (ap (λ (l : List BookEntry). length l) more ∙ length_more made.items (entry.Asked n)) cap;
+  entries =
+      let anew : opens (all_seen tickets) ≡ opens (all_seen kept) ++ true ∷ [] =
+      ap (λ (l : List Ticket). opens (all_seen l)) put ∙ (ap opens (seen_added kept x)
+      ∙ (opens_added (all_seen kept) (seen_of x) ∙ ap (λ (b : Bool). opens (all_seen kept) ++ b ∷ []) lives)) in
+      let come : to_come (all_seen tickets) all.items ≡ comes_from 1 (opens (all_seen kept) ++ true ∷ []) made.items =
+      ap (λ (l : List Bool). comes_from 1 l all.items) anew ∙ (ap (comes_from 1 (opens (all_seen kept) ++ true ∷ [])) more
+      ∙ comes_entered 1 (opens (all_seen kept) ++ true ∷ []) made.items (entry.Asked n) (λ u. refl)) in
+      let count : length all.items ≡ length made.items + 1 = ap (λ (l : List BookEntry). length l) more ∙ length_more made.items (entry.Asked n) in
+      omega (
+        arith,
+        comes_asked 1 (opens (all_seen kept)) made.items,
+        comes_most 1 (all_seen kept) made.items,
+        come,
+        count,
+        more_ends (has_given_up all.items),
+        spare,
+        cap,
+        r.count,
+      );
 }
 
 pub asked_anew : (kept tickets : List Ticket) (made all : List BookEntry) (service : Service) (book : BookSeen) (n : ℕ) (x : Ticket) → shown kept made service ≡ book

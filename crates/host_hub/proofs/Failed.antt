@@ -211,7 +211,6 @@ module _ (core : HubCore) (head : RetSubmitHead) (failed : head.status ≢ pos 0
       past = took past head bytes;
       sent = all;
       knows = failed_taken;
-      keeps = lawful_book s (took past head bytes) failed_lawful.0;
       turn = failed_turn;
     }
 

@@ -51,10 +51,8 @@ knows_fell s past all core m e u k running follows same = record {
   over = refl;
   proper = k.proper;
   few = k.few;
-  waiting = k.waiting;
-  row = k.row;
-  next_ticket = k.next_ticket;
-  from_first = k.from_first;
+  lives = k.lives;
+  turn = k.turn;
   room = omega (arith, k.room);
 }
 

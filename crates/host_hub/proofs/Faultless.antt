@@ -1,7 +1,6 @@
 -- what holds of a hub by each account of it: over a lawful device that nothing disturbs it has not ended with a fault
-use Rattle.std.proofs.Common.{◌≡◌, ◌≢◌, ◌∙◌, ◌≤◌, ◌<◌, ◌+◌, ◌-◌, ℕ, ℤ, pos, Bool, true, false, List, [], ◌∷◌, ◌++◌, length, take, drop, Option, Some, None, refl, sym, ap, subst, arith, append_assoc, append-nil, length-append, take-append-drop}
+use Rattle.std.proofs.Common.{◌≡◌, ◌≢◌, ◌∙◌, ◌≤◌, ◌<◌, ◌+◌, ℕ, ℤ, pos, Bool, true, false, List, [], ◌∷◌, ◌++◌, length, Option, Some, None, refl, sym, ap, subst, arith, append_assoc, append-nil, length-append}
 use Rattle.std.proofs.lemmas.Bool.{lt-ltb}
-use Rattle.std.proofs.lemmas.List.{length-drop}
 use Rattle.std.specs.Int.{w32, to_be_bytes}
 use Rattle.std.specs.Ordering.{int_eq}
 use Rattle.std.specs.Prelude.{is_some, if◌then◌else◌}
@@ -36,9 +35,9 @@ use Rattle.host_hub.specs.Order.{Setting, is_bulk, message_of}
 use Rattle.host_hub.specs.Outstanding.{Sent, awaited_by, find, outstanding}
 use Rattle.host_hub.specs.Book.{or_else}
 use Rattle.host_hub.specs.Owned.{Owned}
-use Rattle.host_hub.specs.Record.{Asked, Cancelled, Cleared, Fell, GaveUp, Happening, Past, Recovers, Settled, Stopped, Took, Wrote, next, written}
+use Rattle.host_hub.specs.Record.{Asked, Cancelled, Cleared, Fell, GaveUp, Happening, Past, Recovers, Settled, Stopped, Took, Wrote, next}
 use Rattle.host_hub.specs.Shown.{ShowsTicket}
-use Rattle.host_hub.specs.Tied.{AreSent, IsRefused, below, bytes_of, entries_sent, spelled, stopped}
+use Rattle.host_hub.specs.Tied.{IsRefused, below, entries_sent, stopped}
 use Rattle.host_hub.specs.Undisturbed.{AllOwned, IsFaultless, IsJoinedTo, Undisturbed}
 use Rattle.host_hub.proofs.Accounts.{next_counts}
 use Rattle.host_hub.proofs.Counts.{all_sent, stands_so}
@@ -51,7 +50,6 @@ use Rattle.host_hub.proofs.Owns.{ran_as}
 use Rattle.host_hub.proofs.Plain.{NoneOut, OneOut, Out}
 use Rattle.host_hub.proofs.PlainStands.{stands}
 use Rattle.host_hub.proofs.Sound.{book_ok, caused, recovered, traffic, unlinked, waiting}
-use Rattle.host_hub.proofs.Undisturbing.{cut_front, spelled_join}
 
 -- what the laws say
 pub record Says : Type 0 where

@@ -10,7 +10,7 @@ use Rattle.host_hub.specs.declared.outcome.End.{End}
 use Rattle.host_hub.specs.declared.outcome.End.TheVariants as end
 use Rattle.host_hub.specs.BookSeen.{BookSeen, Seen}
 use Rattle.host_hub.specs.BookChanges.{with_given_up}
-use Rattle.host_hub.specs.BookRoom.{has_given_up}
+use Rattle.host_hub.specs.BookRoom.{has_given_up, opens, to_come}
 use Rattle.host_hub.specs.Noted.{Noted, with_mark}
 use Rattle.host_hub.specs.Order.{Setting}
 use Rattle.host_hub.specs.Record.{Past, Asked, Cancelled, Cleared, GaveUp, Settled, Stopped, Wrote, Took, Fell, Recovers, Marked, Happening, book}
@@ -35,6 +35,7 @@ use Rattle.host_hub.proofs.Quiets.{none_planned_idle}
 use Rattle.host_hub.proofs.Booking.{given_added, given_now}
 use Rattle.host_hub.proofs.Begins.{cons_none, ended_rests}
 use Rattle.host_hub.proofs.Endings.{gave_up_kept, not_given}
+use Rattle.host_hub.proofs.Opens.{comes_entered}
 use Rattle.host_hub.proofs.Knowing.{at_number, entered, entries_added, marked_too, no_number}
 
 -- ---- whether it was entered
@@ -71,7 +72,10 @@ pub knows_given : (s : Setting) (past : Past) (sent : List ℕ) (core : HubCore)
     → b ≡ with_given_up core.book → n ≡ with_mark (mark_of core) core.notes
     → Knows s (Stopped end.GivenUp ∷ GaveUp ∷ past) sent (record core { book = b; notes = n; end = Some end.GivenUp })
 knows_given s past sent core b n k running gives notes =
-    let room : k.waiting + 1 ≤ core.notes.room = subst (λ (e : Option End). k.waiting + spare e ≤ core.notes.room) running k.room in
+    let room : to_come core.book.tickets core.book.entries + 1 ≤ core.notes.room =
+    subst (λ (e : Option End). to_come core.book.tickets core.book.entries + spare e ≤ core.notes.room) running k.room in
+    let come : to_come core.book.tickets (core.book.entries ++ entry.GaveUp ∷ []) ≡ to_come core.book.tickets core.book.entries =
+    comes_entered 1 (opens core.book.tickets) core.book.entries entry.GaveUp (λ u. refl) in
     rw gives (rw notes (record {
       shallow = k.shallow;
       first_number = k.first_number;
@@ -94,11 +98,9 @@ knows_given s past sent core b n k running gives notes =
       over = refl;
       proper = k.proper;
       few = k.few;
-      waiting = k.waiting;
-      row = k.row;
-      next_ticket = k.next_ticket;
-      from_first = k.from_first;
-      room = omega (arith, room);
+      lives = k.lives;
+      turn = k.turn;
+      room = omega (arith, room, come);
     }))
 
 -- the tickets that settle, in the record
@@ -178,11 +180,9 @@ fresh_rests s core depth first ends urbs follows book notes tags limits active i
     over = running;
     proper = λ t a e. no_asking a e;
     few = omega arith;
-    waiting = 0;
-    row = refl;
-    next_ticket = omega (arith, active);
-    from_first = omega (arith, active);
-    room = rw running (omega (arith, ap (λ (n : Noted). n.room) notes));
+    lives = rw book refl;
+    turn = rw book active;
+    room = rw book (rw running (omega (arith, ap (λ (n : Noted). n.room) notes)));
   };
   kept = start_kept s;
   stands = λ _. subst (λ (p : Phase). Stands p s [] core) (sym idle) (record {

@@ -1,5 +1,5 @@
 -- a hub that is joined to a device stays so, whatever happens at it
-use Rattle.std.proofs.Common.{◌≡◌, ◌⊎◌, ℕ, ◌+◌, ◌-◌, Bool, true, false, List, [], ◌∷◌, ◌++◌, Option, Some, None, inl, inr, refl, sym, subst, ◌∙◌, ap, arith}
+use Rattle.std.proofs.Common.{◌≡◌, ◌⊎◌, ℕ, Bool, true, false, List, [], ◌∷◌, ◌++◌, Option, Some, None, inl, inr, refl, sym, subst, ◌∙◌, ap, arith}
 use Rattle.std.specs.Prelude.{◌==◌, is_some, if◌then◌else◌}
 use Rattle.std.proofs.lemmas.Bool.{eqb-true}
 use Rattle.tmc_base.specs.declared.run_step.RunStep.{RunStep}
@@ -26,7 +26,6 @@ use Rattle.host_hub.proofs.Plain.{AtEnd, AtPart, AtRead, AtRequest, HasCome, InH
 use Rattle.host_hub.proofs.PlainStands.{stands}
 use Rattle.host_hub.proofs.Within.{none_unbegun}
 use Rattle.host_hub.proofs.JoiningWrites.{Laws, joined_with, joint_now, owns_kept}
-use Rattle.host_hub.proofs.JoiningAnswers.{behind}
 
 -- ---- the book
 

@@ -1,5 +1,5 @@
 -- a hub that is joined to a device takes an answer
-use Rattle.std.proofs.Common.{◌≡◌, ◌≢◌, ℕ, pos, ◌+◌, ◌-◌, ◌<◌, ◌≤◌, Bool, true, false, List, [], ◌∷◌, ◌++◌, length, Option, Some, None, refl, sym, subst, ◌∙◌, ap, arith, length-append}
+use Rattle.std.proofs.Common.{◌≡◌, ◌≢◌, ℕ, pos, ◌+◌, ◌<◌, ◌≤◌, Bool, true, false, List, [], ◌∷◌, ◌++◌, length, Option, Some, None, refl, sym, subst, ◌∙◌, ap, arith, length-append}
 use Rattle.std.specs.Prelude.{◌==◌, is_some, if◌then◌else◌}
 use Rattle.std.proofs.lemmas.Bool.{eqb-true, le-ltb, lt-ltb}
 use Rattle.std.proofs.lemmas.List.{append-nil}
@@ -32,7 +32,7 @@ use Rattle.host_hub.specs.Record.{Asking, Of, Past, Took, next, written}
 use Rattle.host_hub.specs.Book.{asking_of, has, live}
 use Rattle.host_hub.specs.Crossings.{crossings}
 use Rattle.host_hub.specs.Hand.{ended}
-use Rattle.host_hub.specs.Joined.{IsJoined, IsPlainOrder, IsSimple, OwnsPiece, OwnsWhole, hand_in, hand_of, hand_with, head_in, ran, waits_in, waits_of}
+use Rattle.host_hub.specs.Joined.{IsJoined, IsPlainOrder, IsSimple, OwnsPiece, OwnsWhole, hand_in, hand_of, hand_with, head_in, waits_in, waits_of}
 use Rattle.host_hub.specs.Law.{Lawful}
 use Rattle.host_hub.specs.Outstanding.{Sent, awaited_by, outstanding}
 use Rattle.host_hub.specs.Owned.{IsFront}
@@ -42,10 +42,9 @@ use Rattle.host_hub.proofs.InHand.{head_of, is_submit, pauses_is, reads_is, whol
 use Rattle.host_hub.proofs.Lists.{clash}
 use Rattle.host_hub.proofs.Numbers.{same_outstanding}
 use Rattle.host_hub.proofs.Plain.{AtEnd, AtPart, AtRead, AtRequest, InHand, NoneOut, OneOut, Out, Stage, Stands}
-use Rattle.host_hub.proofs.PlainWrites.{later}
 use Rattle.host_hub.proofs.PlainAnswers.{Answered, answered_one, pieces_out, pieces_read, pieces_took}
 use Rattle.host_hub.proofs.PlainStands.{stands}
-use Rattle.host_hub.proofs.JoiningWrites.{Laws, joined_with, joint_now, owns_kept, sizes}
+use Rattle.host_hub.proofs.JoiningWrites.{Laws, joined_with, joint_now, owns_kept}
 
 -- ---- an answer is taken
 

@@ -5,7 +5,6 @@ use Rattle.std.proofs.lemmas.Bool.{eqb-true}
 use Rattle.std.proofs.lemmas.List.{length-replicate, length-take}
 use Rattle.tmc_base.specs.declared.run_step.RunStep.{RunStep}
 use Rattle.tmc_base.specs.Told.{out_bytes}
-use Rattle.usbip_wire.specs.declared.dirs.Outstanding.TheVariants.{Submit}
 use Rattle.usbip_wire.specs.declared.submit.SubmitHead.{SubmitHead}
 use Rattle.usbip_wire.specs.Down as down
 use Rattle.usbip_wire.specs.Down.{SpellsAnswer}
@@ -16,7 +15,6 @@ use Rattle.tmc_wire.specs.Transfer.{InText, alignment_of}
 use Rattle.instr_plain.specs.declared.log.LogEntry.{LogEntry}
 use Rattle.tmc_law.specs.State.{State}
 use Rattle.tmc_law.specs.Put.{Put}
-use Rattle.tmc_law.specs.Laws.{message_of}
 use Rattle.host_transfers.specs.Piece.{data_of, eom_of}
 use Rattle.host_joint.specs.Hand.{Hand, Free, Said, Pauses, Writes}
 use Rattle.host_joint.specs.Joint.{Joint, IsNextAnswer, entries_for}
@@ -25,7 +23,7 @@ use Rattle.host_joint.specs.Tie.{Tie}
 use Rattle.host_hub.specs.declared.outcome.End.{End}
 use Rattle.host_hub.specs.Order.{Order, Read, Setting, size_of, text_of}
 use Rattle.host_hub.specs.Order as order
-use Rattle.host_hub.specs.Record.{Asking, Of, Past, Wrote, next, written}
+use Rattle.host_hub.specs.Record.{Asking, Of, Past, Wrote, next}
 use Rattle.host_hub.specs.Calls.{All}
 use Rattle.host_hub.specs.Hand.{ended}
 use Rattle.host_hub.specs.Joined.{IsJoined, IsPlain, IsPlainOrder, IsServed, IsSimple, OwnsPiece, OwnsWhole, hand_of, head_in, ran, waits_in, waits_of}
@@ -33,7 +31,7 @@ use Rattle.host_hub.specs.Law.{Lawful}
 use Rattle.host_hub.specs.Outstanding.{Sent}
 use Rattle.host_hub.specs.Owned.{IsFront}
 use Rattle.host_hub.specs.Pieces.{Piece, data_in, got, opened, pieces, requested}
-use Rattle.host_hub.specs.Plan.{ended_at, last, message_end, next_tag, part_of, parts}
+use Rattle.host_hub.specs.Plan.{ended_at, message_end, next_tag, part_of, parts}
 use Rattle.host_hub.specs.Tied.{bytes_of}
 use Rattle.host_hub.proofs.InHand.{head_of, is_submit, spells, wrote_writes}
 use Rattle.host_hub.proofs.Lists.{clash}

@@ -1,6 +1,6 @@
 -- what a hub's fields say of its record, as that goes on
 use Rattle.std.proofs.Common.{◌≡◌, ◌≤◌, ◌<◌, ◌⊎◌, ℕ, ◌+◌, ◌-◌, zero, suc, Bool, true, false, List, [], ◌∷◌, ◌++◌, length, Option, Some, None, refl, sym, subst, ◌∙◌, ap, arith, inl, inr}
-use Rattle.std.specs.Prelude.{◌==◌, slice_get, slice_set, if◌then◌else◌}
+use Rattle.std.specs.Prelude.{◌*◌, ◌==◌, drop, slice_get, slice_set, if◌then◌else◌}
 use Rattle.std.proofs.lemmas.Bool.{eqb-true, eqb-false}
 use Rattle.usbip_wire.specs.Up as up
 use Rattle.host_hub.specs.declared.book.BookEntry.{BookEntry}
@@ -19,10 +19,10 @@ use Rattle.host_hub.specs.Law.{Lawful}
 use Rattle.host_hub.specs.Book.{KeepsBook, active, first_of, tickets, live, remove, settled, asking_of, has}
 use Rattle.host_hub.specs.Shown.{ShowsBook, ShowsTicket, entries_in}
 use Rattle.host_hub.specs.Proper.{AllProper, IsProper}
-use Rattle.host_hub.specs.Knows.{Knows, upwards, marks_in, mark_in, mark_of, spare}
-use Rattle.host_hub.specs.BookRoom.{is_open}
+use Rattle.host_hub.specs.Knows.{Knows, marks_in, mark_in, mark_of, spare}
+use Rattle.host_hub.specs.BookRoom.{comes_from, first_open_from, is_open, open_count, open_from, open_tickets, opens, to_come}
 use Rattle.host_hub.proofs.Lawful.{lawful_book}
-use Rattle.host_hub.proofs.Tickets.{dead, settled_low}
+use Rattle.host_hub.proofs.Tickets.{settled_low}
 use Rattle.host_hub.proofs.Pasts.{unasked_begun}
 use Rattle.host_hub.proofs.Starts.{unbegun_start}
 use Rattle.host_hub.proofs.Within.{none_unbegun}
@@ -34,6 +34,7 @@ use Rattle.host_hub.specs.Causes.{named}
 use Rattle.host_hub.specs.declared.limits.TheConstants.{TICKETS_MAX}
 use Rattle.host_hub.proofs.Lists.{clash, differ, own, first_has, neither}
 use Rattle.host_hub.proofs.Messages.{written_same}
+use Rattle.host_hub.proofs.Opens.{comes_asked, comes_entered, comes_most, comes_settled, first_added, first_low, first_most, first_none, first_settled, first_there, none_there, open_added, open_at, open_first, open_removed, open_within, opens_added, opens_at, opens_get, opens_length, opens_same, opens_set, some_to_come}
 
 -- ---- lists
 
@@ -113,47 +114,32 @@ no_number a e = absurd (none e)
     none : None ≡ Some a → ⊥
     none k = cc
 
-first_up : (n count u : ℕ) → first_of (upwards n count) ≡ Some u → 1 ≤ count
-first_up n zero u e = no_number u e
-first_up n (suc k) u e = omega arith
-
-pub some_wait : (s : Setting) (past : Past) (sent : List ℕ) (core : HubCore) → (k : Knows s past sent core) → active past ≡ Some core.active → 1 ≤ k.waiting
-some_wait s past sent core k turn = first_up core.active k.waiting core.active (ap first_of (sym k.row) ∙ turn)
-
-up_above : (n count t : ℕ) → t < n → remove t (upwards n count) ≡ upwards n count
-up_above n zero t h = refl
-up_above n (suc k) t h = rw (differ n t (λ e. omega (arith, e, h))) (ap (λ (l : List ℕ). n ∷ l) (up_above (n + 1) k t (omega (arith, h))))
-
-pub up_rest : (n count : ℕ) → remove n (upwards n (suc count)) ≡ upwards (n + 1) count
-up_rest n count = rw (own n) (up_above (n + 1) count n (omega arith))
-
-up_pred : (n count : ℕ) → 1 ≤ count → remove n (upwards n count) ≡ upwards (n + 1) (count - 1)
-up_pred n zero h = absurd (omega (arith, h))
-up_pred n (suc k) h = up_rest n k ∙ ap (upwards (n + 1)) (omega arith)
-
 -- ---- the active one
 
+-- it is in the book, and open there
+pub live_ticket : (s : Setting) (past : Past) (sent : List ℕ) (core : HubCore) (t : ℕ) → Knows s past sent core → has t (live past) ≡ true → IsTicket core.book t
+live_ticket s past sent core t k lives =
+    let at : (1 ≤ t) × (t < 1 + length (opens core.book.tickets)) = open_within 1 t (opens core.book.tickets) (ap (has t) (sym k.lives) ∙ lives) in
+    record { first = at.0; last = omega (arith, at.1, opens_length core.book.tickets) }
+
+pub live_open : (s : Setting) (past : Past) (sent : List ℕ) (core : HubCore) (t : ℕ) → Knows s past sent core → has t (live past) ≡ true → (seen : Seen)
+    → ticket_of t core.book.tickets ≡ Some seen → is_open seen.outcome ≡ true
+live_open s past sent core t k lives seen found =
+    opens_get core.book.tickets (t - 1) seen true (open_at 1 t (opens core.book.tickets) (ap (has t) (sym k.lives) ∙ lives)) (at_number t core.book.tickets seen found).1
+
+pub live_room : (s : Setting) (past : Past) (sent : List ℕ) (core : HubCore) (t : ℕ) → Knows s past sent core → has t (live past) ≡ true → 0 < core.notes.room
+live_room s past sent core t k lives =
+    omega (arith, k.room, some_to_come 1 t (opens core.book.tickets) core.book.entries (ap (has t) (sym k.lives) ∙ lives))
+
 pub known_ticket : (s : Setting) (past : Past) (sent : List ℕ) (core : HubCore) → Knows s past sent core → active past ≡ Some core.active → IsTicket core.book core.active
-known_ticket s past sent core k turn = record {
-  first = k.from_first;
-  last = omega (arith, k.shows.count, k.next_ticket, some_wait s past sent core k turn);
-}
+known_ticket s past sent core k turn = live_ticket s past sent core core.active k (first_has core.active (live past) turn)
 
-pub known_room : (s : Setting) (past : Past) (sent : List ℕ) (core : HubCore) → Knows s past sent core → active past ≡ Some core.active → 0 < core.notes.room
-known_room s past sent core k turn = omega (arith, k.room, some_wait s past sent core k turn)
+pub known_first : (s : Setting) (past : Past) (sent : List ℕ) (core : HubCore) → Knows s past sent core → 1 ≤ core.active
+known_first s past sent core k = omega (arith, k.turn, first_low 1 (opens core.book.tickets))
 
-unsettled : (past : Past) (t : ℕ) → KeepsBook past → has t (live past) ≡ true → settled t past ≡ None
-unsettled past t book lives = step (settled t past) refl
-  where
-    step : (o : Option Outcome) → settled t past ≡ o → settled t past ≡ None
-    step None e = e
-    step (Some o) e = clash (sym (dead past t o book e) ∙ lives)
-
-pub known_open : (s : Setting) (past : Past) (sent : List ℕ) (core : HubCore) → Knows s past sent core → KeepsBook past → active past ≡ Some core.active → (seen : Seen)
+pub known_open : (s : Setting) (past : Past) (sent : List ℕ) (core : HubCore) → Knows s past sent core → active past ≡ Some core.active → (seen : Seen)
     → ticket_of core.active core.book.tickets ≡ Some seen → is_open seen.outcome ≡ true
-known_open s past sent core k keeps turn seen found =
-    let shows : ShowsTicket past core.active seen = k.shows.each core.active seen found in
-    rw shows.outcome (rw (unsettled past core.active keeps (first_has core.active (live past) turn)) refl)
+known_open s past sent core k turn = live_open s past sent core core.active k (first_has core.active (live past) turn)
 
 there_in : (xs : List Seen) (i : ℕ) → i < length xs → (seen : Seen) × (slice_get xs i ≡ Some seen)
 there_in [] i h = absurd (omega (arith, h))
@@ -164,6 +150,18 @@ pub seen_there : (book : BookSeen) (n : ℕ) → IsTicket book n → (seen : See
 seen_there book n there =
     let at : (seen : Seen) × (slice_get book.tickets (n - 1) ≡ Some seen) = there_in book.tickets (n - 1) (omega (arith, there.first, there.last)) in
     (at.0, from_number n book.tickets at.0 (differ n 0 (λ e. omega (arith, e, there.first))) at.1)
+
+pub never_none : (s : Setting) (past : Past) (sent : List ℕ) (core : HubCore) → Knows s past sent core → active past ≡ Some core.active
+    → ticket_of core.active core.book.tickets ≡ None → ⊥
+never_none s past sent core k turn none =
+    let at : (seen : Seen) × (ticket_of core.active core.book.tickets ≡ Some seen) = seen_there core.book core.active (known_ticket s past sent core k turn) in
+    no_some at.0 (sym none ∙ at.1)
+
+pub opens_is : (book : BookSeen) (n : ℕ) (b : Bool) → IsTicket book n → ((seen : Seen) → ticket_of n book.tickets ≡ Some seen → b ≡ is_open seen.outcome)
+    → slice_get (opens book.tickets) (n - 1) ≡ Some b
+opens_is book n b there is =
+    let at : (seen : Seen) × (ticket_of n book.tickets ≡ Some seen) = seen_there book n there in
+    opens_at book.tickets (n - 1) at.0 (at_number n book.tickets at.0 at.1).1 ∙ ap Some (sym (is at.0 at.1))
 
 -- ---- entries and their marks
 
@@ -213,21 +211,57 @@ book_settled s past shown t o seen first found h = record {
   service = h.service;
 }
 
-pub knows_settled : (s : Setting) (past : Past) (sent : List ℕ) (core : HubCore) (o : Outcome) (b : BookSeen) (n : Noted) → active past ≡ Some core.active
-    → Knows s past sent core → ((seen : Seen) → ticket_of core.active core.book.tickets ≡ Some seen → b ≡ with_settled core.active seen o core.book)
-    → n ≡ with_mark (mark_of core) core.notes
-    → Knows s (Settled core.active o ∷ past) sent (record core { book = b; notes = n; active = core.active + 1 })
-knows_settled s past sent core o b n turn k settles notes =
-    let at : (seen : Seen) × (ticket_of core.active core.book.tickets ≡ Some seen) = seen_there core.book core.active (known_ticket s past sent core k turn) in
-    let some : 1 ≤ k.waiting = some_wait s past sent core k turn in
+-- a ticket is seen anew, and is as open as it was
+pub anew_opens : (xs : List Seen) (t : ℕ) (old new : Seen) → ticket_of t xs ≡ Some old → is_open new.outcome ≡ is_open old.outcome
+    → opens (slice_set xs (t - 1) new) ≡ opens xs
+anew_opens xs t old new found same = opens_same xs (t - 1) new old (at_number t xs old found).1 same
+
+settled_opens : (xs : List Seen) (t : ℕ) (seen : Seen) (o : Outcome) → is_open o ≡ false
+    → opens (slice_set xs (t - 1) (record seen { outcome = o })) ≡ slice_set (opens xs) (t - 1) false
+settled_opens xs t seen o settled = opens_set xs (t - 1) (record seen { outcome = o }) ∙ ap (slice_set (opens xs) (t - 1)) settled
+
+-- the active ticket is one of them still, or the next
+pub settled_there : (s : Setting) (past : Past) (sent : List ℕ) (core : HubCore) (t : ℕ) (o : Outcome) (b : BookSeen) → has t (live past) ≡ true → Knows s past sent core
+    → ((seen : Seen) → ticket_of t core.book.tickets ≡ Some seen → b ≡ with_settled t seen o core.book) → core.active ≤ length b.tickets + 1
+settled_there s past sent core t o b lives k settles =
+    let at : (seen : Seen) × (ticket_of t core.book.tickets ≡ Some seen) = seen_there core.book t (live_ticket s past sent core t k lives) in
+    omega (
+      arith,
+      k.turn,
+      first_most 1 (opens core.book.tickets),
+      opens_length core.book.tickets,
+      ap (λ (x : BookSeen). length x.tickets) (settles at.0 at.1),
+      set_length core.book.tickets (t - 1) (record at.0 { outcome = o }),
+    )
+
+pub knows_settled : (s : Setting) (past : Past) (sent : List ℕ) (core : HubCore) (t : ℕ) (o : Outcome) (b : BookSeen) (n : Noted) (next : ℕ) → has t (live past) ≡ true
+    → is_open o ≡ false → Knows s past sent core
+    → ((seen : Seen) → ticket_of t core.book.tickets ≡ Some seen → b ≡ with_settled t seen o core.book)
+    → n ≡ with_mark (mark_of core) core.notes → next ≡ first_open_from core.active (drop (core.active - 1) (opens b.tickets))
+    → Knows s (Settled t o ∷ past) sent (record core { book = b; notes = n; active = next })
+knows_settled s past sent core t o b n next lives settled k settles notes is =
+    let there : IsTicket core.book t = live_ticket s past sent core t k lives in
+    let at : (seen : Seen) × (ticket_of t core.book.tickets ≡ Some seen) = seen_there core.book t there in
+    let now : opens (slice_set core.book.tickets (t - 1) (record at.0 { outcome = o })) ≡ slice_set (opens core.book.tickets) (t - 1) false =
+    settled_opens core.book.tickets t at.0 o settled in
+    let opened : opens b.tickets ≡ slice_set (opens core.book.tickets) (t - 1) false = ap (λ (x : BookSeen). opens x.tickets) (settles at.0 at.1) ∙ now in
+    let opened_there : slice_get (opens core.book.tickets) (t - 1) ≡ Some true = open_at 1 t (opens core.book.tickets) (ap (has t) (sym k.lives) ∙ lives) in
+    let less : comes_from 1 (slice_set (opens core.book.tickets) (t - 1) false) core.book.entries + 1 ≤ to_come core.book.tickets core.book.entries =
+    comes_settled 1 (t - 1) (opens core.book.tickets) core.book.entries opened_there in
+    let come : comes_from 1 (slice_set (opens core.book.tickets) (t - 1) false) (core.book.entries ++ entry.Settled t ∷ [])
+    ≡ comes_from 1 (slice_set (opens core.book.tickets) (t - 1) false) core.book.entries =
+    comes_entered 1 (slice_set (opens core.book.tickets) (t - 1) false) core.book.entries (entry.Settled t) (λ u. refl) in
+    let first : next ≡ first_open_from 1 (slice_set (opens core.book.tickets) (t - 1) false) =
+    is ∙ (ap (λ (l : List Bool). first_open_from core.active (drop (core.active - 1) l)) opened
+    ∙ sym (first_settled 1 core.active (t - 1) (opens core.book.tickets) (sym k.turn))) in
     rw (settles at.0 at.1) (rw notes (record {
       shallow = k.shallow;
       first_number = k.first_number;
       interface = k.interface;
       device = k.device;
       follows = k.follows;
-      shows = book_settled s past core.book core.active o at.0 k.from_first at.1 k.shows;
-      marks = marked_too s past sent core (entry.Settled core.active) k;
+      shows = book_settled s past core.book t o at.0 there.first at.1 k.shows;
+      marks = marked_too s past sent core (entry.Settled t) k;
       all_started = k.all_started;
       starts = k.starts;
       all_born = k.all_born;
@@ -237,11 +271,9 @@ knows_settled s past sent core o b n turn k settles notes =
       over = k.over;
       proper = k.proper;
       few = k.few;
-      waiting = k.waiting - 1;
-      row = rw k.row (up_pred core.active k.waiting some);
-      next_ticket = omega (arith, k.next_ticket, some);
-      from_first = omega arith;
-      room = omega (arith, k.room, some);
+      lives = ap (remove t) k.lives ∙ (open_removed t 1 (t - 1) (opens core.book.tickets) (omega (arith, there.first)) ∙ ap (open_from 1) (sym now));
+      turn = first ∙ ap (first_open_from 1) (sym now);
+      room = rw now (omega (arith, k.room, less, come));
     }))
 
 -- ---- a ticket is asked
@@ -279,13 +311,6 @@ seen_length (y ∷ ys) x = omega (arith, seen_length ys x)
 number_length : (xs : List ℕ) (x : ℕ) → length (xs ++ x ∷ []) ≡ length xs + 1
 number_length [] x = refl
 number_length (y ∷ ys) x = omega (arith, number_length ys x)
-
-up_more : (n k : ℕ) → upwards n k ++ (n + k) ∷ [] ≡ upwards n (k + 1)
-up_more n zero = ap (λ (m : ℕ). m ∷ []) (omega arith)
-up_more n (suc k) =
-    let same : n + suc k ≡ (n + 1) + k = omega arith in
-    let more : suc k + 1 ≡ suc (k + 1) = omega arith in
-    rw same (rw more (ap (λ (l : List ℕ). n ∷ l) (up_more (n + 1) k)))
 
 unbegun_end : (t : ℕ) (past : Past) → is_begun t past ≡ false → message_end t past ≡ 0
 unbegun_end t [] h = refl
@@ -354,10 +379,15 @@ proper_asked past a good h t one e = step (tickets past + 1 == t) e
     step false k = h t one k
 
 pub knows_asked : (s : Setting) (past : Past) (sent : List ℕ) (core : HubCore) (a : Asking) (room places sum : ℕ) (b : BookSeen) (n : Noted) → Lawful s past
-    → IsProper a → (k : Knows s past sent core) → core.end ≡ None → length core.book.tickets < TICKETS_MAX → k.waiting + 3 ≤ room → b ≡ with_asked (seen_asked a) core.book
+    → IsProper a → Knows s past sent core → core.end ≡ None → length core.book.tickets < TICKETS_MAX → 2 * open_count core.book.tickets + 4 ≤ room → b ≡ with_asked (seen_asked a) core.book
     → n ≡ with_ticket (mark_of core) core.turned (record core.notes { room = room; places = places }) → sum ≡ core.limits + a.limit
     → Knows s (asked past a) sent (record core { book = b; notes = n; limits = sum })
 knows_asked s past sent core a room places sum b n lawful good k running few spare asks notes total =
+    let opened : opens (core.book.tickets ++ seen_asked a ∷ []) ≡ opens core.book.tickets ++ true ∷ [] = opens_added core.book.tickets (seen_asked a) in
+    let number : tickets past + 1 ≡ 1 + length (opens core.book.tickets) = omega (arith, k.shows.count, opens_length core.book.tickets) in
+    let come : comes_from 1 (opens core.book.tickets ++ true ∷ []) (core.book.entries ++ entry.Asked (length core.book.tickets + 1) ∷ [])
+    ≡ comes_from 1 (opens core.book.tickets ++ true ∷ []) core.book.entries =
+    comes_entered 1 (opens core.book.tickets ++ true ∷ []) core.book.entries (entry.Asked (length core.book.tickets + 1)) (λ u. refl) in
     rw asks (rw notes (rw total (record {
       shallow = k.shallow;
       first_number = k.first_number;
@@ -375,11 +405,17 @@ knows_asked s past sent core a room places sum b n lawful good k running few spa
       over = k.over;
       proper = proper_asked past a good k.proper;
       few = omega (arith, few, k.shows.count);
-      waiting = k.waiting + 1;
-      row = rw k.row (ap (λ (m : ℕ). upwards core.active k.waiting ++ m ∷ []) (sym k.next_ticket) ∙ up_more core.active k.waiting);
-      next_ticket = omega (arith, k.next_ticket);
-      from_first = k.from_first;
-      room = rw running (omega (arith, spare));
+      lives = ap (λ (l : List ℕ). l ++ (tickets past + 1) ∷ []) k.lives
+          ∙ (ap (λ (m : ℕ). open_tickets core.book.tickets ++ m ∷ []) number
+          ∙ (sym (open_added 1 (opens core.book.tickets)) ∙ ap (open_from 1) (sym opened)));
+      turn = k.turn ∙ (sym (first_added 1 (opens core.book.tickets)) ∙ ap (first_open_from 1) (sym opened));
+      room = rw running (rw opened (omega (
+        arith,
+        spare,
+        come,
+        comes_asked 1 (opens core.book.tickets) core.book.entries,
+        comes_most 1 core.book.tickets core.book.entries,
+      )));
     })))
 
 pub knows_roomier : (s : Setting) (past : Past) (sent : List ℕ) (core : HubCore) (room places : ℕ) → (k : Knows s past sent core) → core.notes.room ≤ room
@@ -401,41 +437,25 @@ knows_roomier s past sent core room places k more = record {
   over = k.over;
   proper = k.proper;
   few = k.few;
-  waiting = k.waiting;
-  row = k.row;
-  next_ticket = k.next_ticket;
-  from_first = k.from_first;
+  lives = k.lives;
+  turn = k.turn;
   room = omega (arith, k.room, more);
 }
 
 -- ---- the hub ends
 
-none_waits : (n k : ℕ) → [] ≡ upwards n k → k ≡ 0
-none_waits n zero e = refl
-none_waits n (suc k) e = absurd (no e)
-  where
-    no : [] ≡ n ∷ upwards (n + 1) k → ⊥
-    no h = cc
+pub has_active : (s : Setting) (past : Past) (sent : List ℕ) (core : HubCore) → Knows s past sent core → core.active ≤ length core.book.tickets
+    → active past ≡ Some core.active
+has_active s past sent core k h =
+    rw k.lives (rw k.turn (first_there 1 (opens core.book.tickets) (omega (arith, h, k.turn, opens_length core.book.tickets))))
 
-pub has_active : (s : Setting) (past : Past) (sent : List ℕ) (core : HubCore) → (k : Knows s past sent core) → core.active ≤ length core.book.tickets → active past ≡ Some core.active
-has_active s past sent core k h = rw k.row (first (core.active) k.waiting (omega (arith, h, k.shows.count, k.next_ticket)))
-  where
-    first : (n count : ℕ) → 1 ≤ count → first_of (upwards n count) ≡ Some n
-    first n zero e = absurd (omega (arith, e))
-    first n (suc m) e = refl
+pub none_active : (s : Setting) (past : Past) (sent : List ℕ) (core : HubCore) → Knows s past sent core → length core.book.tickets < core.active → live past ≡ []
+none_active s past sent core k h = k.lives ∙ none_there 1 (opens core.book.tickets) (omega (arith, h, k.turn, opens_length core.book.tickets))
 
-pub none_active : (s : Setting) (past : Past) (sent : List ℕ) (core : HubCore) → (k : Knows s past sent core) → length core.book.tickets < core.active → live past ≡ []
-none_active s past sent core k h =
-    let none : k.waiting ≡ 0 = omega (arith, h, k.shows.count, k.next_ticket) in
-    k.row ∙ ap (upwards core.active) none
-
-pub live_one : (s : Setting) (past : Past) (sent : List ℕ) (core : HubCore) → (k : Knows s past sent core) → active past ≡ Some core.active
-    → live past ≡ core.active ∷ remove core.active (live past)
-live_one s past sent core k turn = step k.waiting k.row (some_wait s past sent core k turn)
-  where
-    step : (n : ℕ) → live past ≡ upwards core.active n → 1 ≤ n → live past ≡ core.active ∷ remove core.active (live past)
-    step zero e h = absurd (omega (arith, h))
-    step (suc n) e h = e ∙ ap (λ (l : List ℕ). core.active ∷ l) (sym (up_rest core.active n) ∙ ap (remove core.active) (sym e))
+-- the number of the next ticket
+pub active_next : (s : Setting) (past : Past) (sent : List ℕ) (core : HubCore) → Knows s past sent core → live past ≡ [] → core.active ≡ tickets past + 1
+active_next s past sent core k none =
+    omega (arith, k.turn, first_none 1 (opens core.book.tickets) (sym k.lives ∙ none), opens_length core.book.tickets, k.shows.count)
 
 pub knows_stopped : (s : Setting) (past : Past) (sent : List ℕ) (core : HubCore) (e : End) → core.end ≡ None → Knows s past sent core
     → Knows s (Stopped e ∷ past) sent (record core { end = Some e })
@@ -456,10 +476,8 @@ knows_stopped s past sent core e running k = record {
   over = refl;
   proper = k.proper;
   few = k.few;
-  waiting = k.waiting;
-  row = k.row;
-  next_ticket = k.next_ticket;
-  from_first = k.from_first;
+  lives = k.lives;
+  turn = k.turn;
   room = omega (arith, k.room);
 }
   where
@@ -478,6 +496,12 @@ pub record GoesOnTo (s : Setting) (e : End) (sent : List ℕ) (old now : HubCore
 
 pub begins : (s : Setting) (e : End) (sent : List ℕ) (core : HubCore) → GoesOnTo s e sent core core
 begins s e sent core = record { to = λ past keeps k. record { when = past; knows = k; keeps = keeps; same = refl } }
+
+pub live_one : (s : Setting) (past : Past) (sent : List ℕ) (core : HubCore) → Knows s past sent core → active past ≡ Some core.active
+    → live past ≡ core.active ∷ remove core.active (live past)
+live_one s past sent core k turn =
+    subst (λ (l : List ℕ). l ≡ core.active ∷ remove core.active l) (sym k.lives)
+    (open_first 1 core.active (opens core.book.tickets) (ap first_of (sym k.lives) ∙ turn))
 
 settles_next : (e : End) (t : ℕ) (ts : List ℕ) (past : Past) → live past ≡ t ∷ ts → live (Settled t (named e) ∷ past) ≡ ts
     → settle_all e (live (Settled t (named e) ∷ past)) (Settled t (named e) ∷ past) ≡ settle_all e (live past) past

@@ -4,6 +4,7 @@ pub mod Tickets
 pub mod Grows
 pub mod Orders
 pub mod Seen
+pub mod Opens
 pub mod Booking
 pub mod Knowing
 pub mod Lengths

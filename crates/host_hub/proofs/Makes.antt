@@ -20,7 +20,7 @@ use Rattle.host_transfers.specs.declared.limits.TheConstants.{PART_MAX}
 use Rattle.host_hub.specs.declared.outcome.Outcome.{Outcome}
 use Rattle.host_hub.specs.BookSeen.{BookSeen, Seen, ticket_of}
 use Rattle.host_hub.specs.Order.{Order, Part, Setting, endpoint_of, is_bulk, size_of}
-use Rattle.host_hub.specs.Record.{Asked, Asking, Cancelled, Cleared, Fell, GaveUp, Happening, Past, Recovers, Took, Settled, Stopped, Wrote}
+use Rattle.host_hub.specs.Record.{Asked, Asking, Cancelled, Cleared, Fell, GaveUp, Past, Recovers, Took, Settled, Stopped, Wrote}
 use Rattle.host_hub.specs.Hand.{ended}
 use Rattle.host_hub.specs.Outstanding.{Sent, find, outstanding}
 use Rattle.host_hub.specs.Book.{active, asking_of, has, live, or_else, remove}
@@ -44,7 +44,6 @@ use Rattle.host_hub.specs.Hears.{GoesByAnswer, Hears, HearsOut, IsBehind, OfItse
 use Rattle.host_hub.proofs.Answering.{HeardOut, answered_out, ends_fine, heard_out, hears_out}
 use Rattle.host_hub.proofs.PlainAnswers.{Answered, pieces_out, pieces_took}
 use Rattle.host_hub.proofs.Clean.{clean_answers, clean_recovered, clean_settles}
-use Rattle.host_hub.proofs.Lawful.{lawful_book}
 use Rattle.host_hub.proofs.Parts.{same_asking}
 use Rattle.host_hub.proofs.Knowing.{known_ticket, seen_there}
 use Rattle.host_hub.proofs.Begins.{asking_seen, one_added}
@@ -81,7 +80,7 @@ goes_behind s past all head bytes new g = record {
 -- ---- a ticket ends
 
 pub ends_active : (s : Setting) (past : Past) (all : List ℕ) (core : HubCore) (o : Outcome) → TicketEnds s past all core o → HasActive core
-ends_active s past all core o e = record { setting = s; past = past; sent = all; knows = e.knows; keeps = lawful_book s past e.working.lawful.0; turn = e.turn }
+ends_active s past all core o e = record { setting = s; past = past; sent = all; knows = e.knows; turn = e.turn }
 
 pub goes_settled : (s : Setting) (past : Past) (all : List ℕ) (new : HubCore) (t : ℕ) (o : Outcome) → GoesTo s (Settled t o ∷ past) all new → GoesTo s past all new
 goes_settled s past all new t o g = record {
@@ -100,7 +99,7 @@ gone t (x ∷ xs) = step (x == t) refl (gone t xs)
     step false e again = rw e again
 
 pub done_settled : (s : Setting) (past : Past) (all : List ℕ) (core new : HubCore) (o : Outcome) → TicketEnds s past all core o
-    → new ≡ record core { book = new.book; notes = new.notes; active = core.active + 1 } → Knows s (Settled core.active o ∷ past) all new
+    → new ≡ record core { book = new.book; notes = new.notes; active = new.active } → Knows s (Settled core.active o ∷ past) all new
     → Done s (Settled core.active o ∷ past) all new
 done_settled s past all core new o e rest k = record {
   knows = k;

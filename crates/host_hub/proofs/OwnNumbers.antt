@@ -15,7 +15,7 @@ use Rattle.host_recover.specs.Words.{Begins, Has, full, words_of}
 use Rattle.host_hub.specs.declared.kind.Kind.{Kind}
 use Rattle.host_hub.specs.declared.kind.Kind.TheVariants as kind
 use Rattle.host_hub.specs.Order.{Class, ClearHalt, Listen, Order, Part, Read, Request, Setting, Trigger, Unlink, is_unlink}
-use Rattle.host_hub.specs.Record.{Asked, Asking, Cleared, Of, Owner, Past, Recovery, Wrote, next}
+use Rattle.host_hub.specs.Record.{Asking, Of, Owner, Past, Recovery, Wrote, next}
 use Rattle.host_hub.specs.Book.{asking_of, has, live}
 use Rattle.host_hub.specs.Hand.{is_begun, is_of, start}
 use Rattle.host_hub.specs.Outstanding.{Sent, is_listening, outstanding}

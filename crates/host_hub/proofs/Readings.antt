@@ -35,7 +35,6 @@ use Rattle.host_hub.specs.Hears.{Hears, HearsOut, PieceEnds, TicketEnds}
 use Rattle.host_hub.proofs.Answering.{HeardOut, answered_out, ends_fine, heard_out, hears_out}
 use Rattle.host_hub.proofs.PlainAnswers.{Answered, pieces_read, pieces_took}
 use Rattle.host_hub.proofs.Clean.{clean_answers, clean_recovered, clean_settles}
-use Rattle.host_hub.proofs.Lawful.{lawful_book}
 use Rattle.host_hub.proofs.Makes.{due_fine, ends_now, made_fine, seen_asking}
 use Rattle.host_hub.proofs.Knowing.{known_open, known_ticket, seen_there}
 use Rattle.host_hub.proofs.Lists.{and_false}
@@ -244,7 +243,7 @@ module _ (laws : Assembles) (core : HubCore) (head : RetSubmitHead) (is : core.p
     pub read_room : (seen : Seen) → ticket_of core.active core.book.tickets ≡ Some seen → (is_open seen.outcome ≡ true) × (length seen.bytes + length (given_by said bytes) ≤ seen.limit)
     read_room seen found =
         let shows = h.rests.knows.shows.each core.active seen found in (
-          known_open s past all core h.rests.knows (lawful_book s past h.rests.kept.lawful) now_response.out.turn seen found,
+          known_open s past all core h.rests.knows now_response.out.turn seen found,
           (let most : length (got core.active (took past head bytes)) ≤ now_response.asking.limit = never_passes s (took past head bytes) read_lawful core.active now_response.asking now_response.out.asks in
               omega (
                 arith,

@@ -53,10 +53,8 @@ knows_aside s past all sent core u r k follows same = record {
   over = k.over;
   proper = k.proper;
   few = k.few;
-  waiting = k.waiting;
-  row = k.row;
-  next_ticket = k.next_ticket;
-  from_first = k.from_first;
+  lives = k.lives;
+  turn = k.turn;
   room = k.room;
 }
 

@@ -1,4 +1,5 @@
 -- an answer to the submit of the active ticket is taken
+use Rattle.std.specs.Prelude.{slice_set}
 use Rattle.std.proofs.Common.{◌≡◌, ◌≤◌, ℕ, pos, ◌+◌, ◌-◌, Bool, false, List, [], ◌∷◌, ◌++◌, length, Some, None, refl, sym, ◌∙◌, ap, arith}
 use Rattle.usbip_wire.specs.declared.ret_submit.RetSubmitHead.{RetSubmitHead}
 use Rattle.usbip_wire.specs.Down as down
@@ -26,7 +27,8 @@ use Rattle.host_hub.specs.Writes.{GoesOn}
 use Rattle.host_hub.proofs.Clean.{clean_answers}
 use Rattle.host_hub.proofs.Lists.{differ, own}
 use Rattle.host_hub.proofs.Stepping.{answer_works, no_unlinks_behind}
-use Rattle.host_hub.proofs.Knowing.{each_set, set_length}
+use Rattle.host_hub.specs.BookRoom.{first_open_from, open_from, opens}
+use Rattle.host_hub.proofs.Knowing.{anew_opens, each_set, known_first, set_length}
 
 -- ---- the submit that it answers
 
@@ -89,13 +91,15 @@ pub knows_took : (s : Setting) (past : Past) (sent : List ℕ) (core : HubCore) 
     → b ≡ with_seen core.active (record seen { bytes = got core.active (took past head bytes) }) core.book
     → Knows s (took past head bytes) sent (record core { urbs = u; book = b; taken = core.taken + 1 })
 knows_took s past sent core n order head bytes seen u b k found out plain follows same shows =
+    let opened : opens (slice_set core.book.tickets (core.active - 1) (record seen { bytes = got core.active (took past head bytes) })) ≡ opens core.book.tickets =
+    anew_opens core.book.tickets core.active seen (record seen { bytes = got core.active (took past head bytes) }) found refl in
     rw shows (record {
       shallow = k.shallow;
       first_number = k.first_number;
       interface = k.interface;
       device = same ∙ k.device;
       follows = follows;
-      shows = book_took s past core.book core.active n order head bytes seen k.from_first found out plain k.shows;
+      shows = book_took s past core.book core.active n order head bytes seen (known_first s past sent core k) found out plain k.shows;
       marks = k.marks;
       all_started = k.all_started;
       starts = k.starts;
@@ -106,11 +110,9 @@ knows_took s past sent core n order head bytes seen u b k found out plain follow
       over = k.over;
       proper = k.proper;
       few = k.few;
-      waiting = k.waiting;
-      row = k.row;
-      next_ticket = k.next_ticket;
-      from_first = k.from_first;
-      room = k.room;
+      lives = k.lives ∙ ap (open_from 1) (sym opened);
+      turn = k.turn ∙ ap (first_open_from 1) (sym opened);
+      room = rw opened k.room;
     })
 
 -- ---- the ticket goes on

@@ -46,10 +46,8 @@ knows_counted s past sent core n k = record {
   over = k.over;
   proper = k.proper;
   few = k.few;
-  waiting = k.waiting;
-  row = k.row;
-  next_ticket = k.next_ticket;
-  from_first = k.from_first;
+  lives = k.lives;
+  turn = k.turn;
   room = k.room;
 }
 

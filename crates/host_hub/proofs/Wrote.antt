@@ -24,7 +24,8 @@ use Rattle.host_hub.specs.Shown.{ShowsBook, ShowsTicket}
 use Rattle.host_hub.specs.Steps.{wrote}
 use Rattle.host_hub.specs.Knows.{Knows}
 use Rattle.host_hub.proofs.Lists.{differ, own}
-use Rattle.host_hub.proofs.Knowing.{each_set, set_length, some_number, no_number}
+use Rattle.host_hub.specs.BookRoom.{first_open_from, open_from, opens}
+use Rattle.host_hub.proofs.Knowing.{anew_opens, each_set, known_first, set_length, some_number, no_number}
 
 -- ---- the bytes of a ticket stay
 
@@ -139,13 +140,15 @@ pub knows_wrote : (s : Setting) (past : Past) (sent : List ℕ) (core : HubCore)
     → ((v m : ℕ) → slice_get n.starts v ≡ Some m → m ≡ start (v + 1) (wrote s past core.active order))
     → Knows s (wrote s past core.active order) sent (record core { urbs = u; tags = g; book = b; notes = n; phase = p; parts = q; asked = r; assembly = a })
 knows_wrote s past sent core order seen u g q r p a b n turn k found follows same tag shows marks births room count starts =
+    let opened : opens (slice_set core.book.tickets (core.active - 1) (record seen { last = ended_at (next s.first past) order seen.last })) ≡ opens core.book.tickets =
+    anew_opens core.book.tickets core.active seen (record seen { last = ended_at (next s.first past) order seen.last }) found refl in
     rw shows (rw tag (record {
       shallow = k.shallow;
       first_number = k.first_number;
       interface = k.interface;
       device = same ∙ k.device;
       follows = follows;
-      shows = book_wrote s past core.book core.active order seen k.from_first found k.shows;
+      shows = book_wrote s past core.book core.active order seen (known_first s past sent core k) found k.shows;
       marks = marks ∙ k.marks;
       all_started = count ∙ k.all_started;
       starts = starts;
@@ -156,9 +159,7 @@ knows_wrote s past sent core order seen u g q r p a b n turn k found follows sam
       over = k.over;
       proper = k.proper;
       few = k.few;
-      waiting = k.waiting;
-      row = k.row;
-      next_ticket = k.next_ticket;
-      from_first = k.from_first;
-      room = omega (arith, k.room, room);
+      lives = k.lives ∙ ap (open_from 1) (sym opened);
+      turn = k.turn ∙ ap (first_open_from 1) (sym opened);
+      room = rw opened (omega (arith, k.room, room));
     }))

@@ -1,5 +1,5 @@
 -- what a hub's fields say of its record
-use Rattle.std.specs.Prelude.{◌≡◌, ◌≤◌, ℕ, ◌+◌, ◌-◌, zero, suc, Option, Some, None, List, [], ◌∷◌, length, slice_get}
+use Rattle.std.specs.Prelude.{◌≡◌, ◌≤◌, ℕ, ◌+◌, ◌-◌, true, Option, Some, None, List, [], ◌∷◌, length, slice_get}
 use Rattle.host_urbs.specs.Held.{Follows}
 use Rattle.host_hub.specs.declared.hub_core.HubCore.{HubCore}
 use Rattle.host_hub.specs.declared.limits.TheConstants.{TICKETS_MAX}
@@ -9,16 +9,12 @@ use Rattle.host_hub.specs.Order.{Setting}
 use Rattle.host_hub.specs.Record.{Past, Marked, book, taken, next}
 use Rattle.host_hub.specs.Crossings.{crossings}
 use Rattle.host_hub.specs.Hand.{start, ended}
-use Rattle.host_hub.specs.Book.{KeepsBook, tickets, live, active}
+use Rattle.host_hub.specs.Book.{KeepsBook, tickets, live, active, has}
+use Rattle.host_hub.specs.BookRoom.{first_open, open_tickets, to_come}
 use Rattle.host_hub.specs.Plan.{last_tag}
 use Rattle.host_hub.specs.Proper.{AllProper}
 use Rattle.host_hub.specs.Refusals.{limits}
 use Rattle.host_hub.specs.Shown.{ShowsBook}
-
--- so many numbers in a row, from this one on
-abbrev pub upwards : (from count : ℕ) → List ℕ
-upwards from zero = []
-upwards from (suc count) = from ∷ upwards (from + 1) count
 
 -- the marks alone
 abbrev pub mark_in : Marked → Mark
@@ -38,7 +34,7 @@ spare None = 1
 spare (Some e) = 0
 
 -- The fields of a hub behind this record, when these bytes were sent: what it was made with, its messages, its book with the
--- marks, starts and births, and its counts. The tickets that are not settled are those from the active one on.
+-- marks, starts and births, and its counts. The active ticket is the first that is not settled.
 pub record Knows (s : Setting) (past : Past) (sent : List ℕ) (core : HubCore) : Type 0 where
   pub shallow : s.depth ≡ 1
   pub first_number : core.first ≡ s.first
@@ -56,19 +52,24 @@ pub record Knows (s : Setting) (past : Past) (sent : List ℕ) (core : HubCore) 
   pub over : core.end ≡ ended past
   pub proper : AllProper past
   pub few : tickets past ≤ TICKETS_MAX
-  pub waiting : ℕ
-  pub row : live past ≡ upwards core.active waiting
-  pub next_ticket : core.active + waiting ≡ tickets past + 1
-  pub from_first : 1 ≤ core.active
-  pub room : waiting + spare core.end ≤ core.notes.room
+  pub lives : live past ≡ open_tickets core.book.tickets
+  pub turn : core.active ≡ first_open core.book.tickets
+  pub room : to_come core.book.tickets core.book.entries + spare core.end ≤ core.notes.room
 
--- there is a record of these fields, and a ticket that is not settled
+-- there is a record of these fields, and this ticket is not settled
+pub record HasLive (core : HubCore) (ticket : ℕ) : Type 0 where
+  pub setting : Setting
+  pub past : Past
+  pub sent : List ℕ
+  pub knows : Knows setting past sent core
+  pub lives : has ticket (live past) ≡ true
+
+-- and the active ticket is not
 pub record HasActive (core : HubCore) : Type 0 where
   pub setting : Setting
   pub past : Past
   pub sent : List ℕ
   pub knows : Knows setting past sent core
-  pub keeps : KeepsBook past
   pub turn : active past ≡ Some core.active
 
 -- what a refusal goes by

@@ -111,7 +111,7 @@ impl HubCore {
         ensures no_less { OnErr result (self.old.notes.room ≤ self.new.notes.room) }
         ensures rest { self.new ≡ record self.old { book = self.new.book; notes = self.new.notes; limits = self.new.limits } }
     {
-        let live = self.live() as usize;
+        let live = self.book.live();
         let mark = self.mark();
         self.notes.reserve(live)?;
         let ticket = Ticket::new(self.alloc, session, kind, message, limit)?;

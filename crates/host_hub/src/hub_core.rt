@@ -1,10 +1,9 @@
-ghost use Rattle.std.specs.Prelude.{◌≡◌, ◌≤◌, ℕ, ◌+◌, ◌∷◌, [], List, Some, false, IfOk};
-ghost use Rattle.host_hub.specs.declared.limits.TheConstants.{TICKETS_MAX};
+ghost use Rattle.std.specs.Prelude.{◌≡◌, ◌≤◌, ℕ, ◌∷◌, [], List, Some, true, false, IfOk};
 ghost use Rattle.host_hub.specs.Order.{Setting};
 ghost use Rattle.host_hub.specs.Record.{Past, Settled};
-ghost use Rattle.host_hub.specs.Book.{active};
+ghost use Rattle.host_hub.specs.Book.{active, has, live};
 ghost use Rattle.host_hub.specs.BookRoom.{is_open};
-ghost use Rattle.host_hub.specs.Knows.{HasActive, HasRecord, Knows, mark_of};
+ghost use Rattle.host_hub.specs.Knows.{HasActive, HasLive, HasRecord, Knows, mark_of};
 ghost use Rattle.host_hub.specs.Stands.{Rests};
 ghost use Rattle.host_hub.specs.Fed.{Reads};
 
@@ -99,15 +98,6 @@ impl HubCore {
         }
     }
 
-    /// How many tickets are not settled.
-    pub(crate) fn live(&self) -> u32
-        requires { HasRecord self.now }
-        ensures waiting { (s : Setting) (past : Past) (sent : List ℕ) (knows : Knows s past sent self.now) → result ≡ knows.waiting }
-        ensures few { result ≤ TICKETS_MAX }
-    {
-        self.book.tickets() + 1 - self.active
-    }
-
     /// Settles the active ticket.
     pub(crate) fn settle(&mut self, outcome: Outcome)
         requires known { HasActive self.old }
@@ -115,11 +105,23 @@ impl HubCore {
         ensures goes { (s : Setting) (past : Past) (sent : List ℕ) → active past ≡ Some self.old.active → Knows s past sent self.old
             → Knows s (Settled self.old.active outcome ∷ past) sent self.new }
         ensures births { self.new.notes.births ≡ self.old.notes.births }
-        ensures rest { self.new ≡ record self.old { book = self.new.book; notes = self.new.notes; active = self.old.active + 1 } }
+        ensures rest { self.new ≡ record self.old { book = self.new.book; notes = self.new.notes; active = self.new.active } }
+    {
+        self.settle_ticket(self.active, outcome);
+    }
+
+    /// Settles this ticket. The first one then that is not settled is the active one.
+    fn settle_ticket(&mut self, ticket: u32, outcome: Outcome)
+        requires known { HasLive self.old ticket }
+        requires settled { is_open outcome ≡ false }
+        ensures goes { (s : Setting) (past : Past) (sent : List ℕ) → has ticket (live past) ≡ true → Knows s past sent self.old
+            → Knows s (Settled ticket outcome ∷ past) sent self.new }
+        ensures births { self.new.notes.births ≡ self.old.notes.births }
+        ensures rest { self.new ≡ record self.old { book = self.new.book; notes = self.new.notes; active = self.new.active } }
     {
         let mark = self.mark();
-        self.book.settle(self.active, outcome);
+        self.book.settle(ticket, outcome);
         self.notes.mark(mark);
-        self.active += 1;
+        self.active = self.book.first_live(self.active);
     }
 }

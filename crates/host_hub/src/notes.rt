@@ -1,4 +1,4 @@
-ghost use Rattle.std.specs.Prelude.{◌≡◌, ◌+◌, ◌<◌, ◌≤◌, [], length, IfOk, OnOk};
+ghost use Rattle.std.specs.Prelude.{◌≡◌, ◌+◌, ◌*◌, ◌<◌, ◌≤◌, [], length, IfOk, OnOk};
 ghost use Rattle.host_hub.specs.declared.limits.TheConstants.{TICKETS_MAX};
 ghost use Rattle.host_hub.specs.Noted.{with_mark, with_ticket, with_start, born_of};
 
@@ -53,16 +53,17 @@ impl Notes {
         })
     }
 
-    /// Takes the memory for a ticket more, where so many are not settled: for its marks and theirs, and that of giving up.
+    /// Takes the memory for a ticket more, where so many are not settled: for the mark of its asking, those of its cancel and its
+    /// settling, and theirs, and that of giving up.
     pub(crate) fn reserve(&mut self, live: usize) -> Result<(), Memory>
         requires { live ≤ TICKETS_MAX }
         ensures kept { self.new ≡ record self.old { room = self.new.room; places = self.new.places } }
-        ensures room { OnOk result (live + 3 ≤ self.new.room) }
+        ensures room { OnOk result (2 * live + 4 ≤ self.new.room) }
         ensures places { OnOk result (1 ≤ self.new.places) }
         ensures no_less { self.old.room ≤ self.new.room }
     {
-        self.marks.reserve(live + 3)?;
-        self.room = self.room.max(live + 3);
+        self.marks.reserve(2 * live + 4)?;
+        self.room = self.room.max(2 * live + 4);
         self.starts.reserve(self.places + 1)?;
         self.births.reserve(self.places + 1)?;
         self.places += 1;

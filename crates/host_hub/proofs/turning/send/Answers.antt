@@ -1,6 +1,9 @@
-use Rattle.std.proofs.Common.{◌≡◌, false, List, ℕ, [], length, Some, refl, sym, subst, take}
+use Rattle.std.proofs.Common.{◌≡◌, ◌∙◌, ap, false, List, ℕ, [], length, Some, refl, sym, subst, take}
 use Rattle.std.specs.Prelude.{◌==◌}
 use Rattle.tmc_base.specs.declared.link.SendStep.{SendStep}
+use Rattle.tmc_base.specs.declared.link.SendStep.TheVariants.{Took}
+use Rattle.host_hub.specs.declared.hub_core.HubCore.{HubCore}
+use Rattle.host_hub.specs.Behind.{births_of}
 use Rattle.tmc_base.specs.Link.{SendsWithin, took_count}
 use Rattle.tmc_base.specs.Told.{WentOut}
 use Rattle.host_hub.specs.HubCalls.{EndsSend}
@@ -45,4 +48,20 @@ returns-in-Idle g c = record {
       either_send
       (λ (x : SendStep). SendsOn (Some x) start (g.L.Link.told c.send-step.new.self) (g.L.Link.counts c.send-step.new.self) s past before received c.args.core.now.urbs.outbox c.args.core.now)
       c.send-step.result c.in-Idle.is acc acc;
+}
+
+pub returns-in-Took : goal.returns-in-Took
+returns-in-Took g c = record {
+  once = sends_once g.L.Link.sends c.args.core.now.urbs.outbox (Took c.in-Took.n) c.args.link.now c.send-step.new.self
+      (some_length c.args.core.now.urbs.outbox (subst (λ (l : List ℕ). false ≡ (length l == 0)) c.outbox.ensures c.if-is_empty.ensures))
+      (subst (λ (l : List ℕ). g.L.Link.sends c.args.link.now l (Took c.in-Took.n) c.send-step.new.self) c.outbox-2.ensures c.in-Took.ensures.goes);
+  within = subst (λ (l : List ℕ). SendsWithin (Took c.in-Took.n) (length l)) c.outbox-2.ensures c.in-Took.ensures.within;
+  counted = c.in-Took.ensures.counts;
+  ends = ap (λ (h : HubCore). h.end) c.sent.ensures.rest ∙ c.requires.running;
+  keeps = tt;
+  births = ap births_of c.sent.ensures.rest;
+  goes = λ start s past before received b.
+      c.accounts_are_turned.ensures.sent start _ _ _ (g.L.Link.counts c.send-step.new.self) s past before received c.args.core.now c.sent.new.self c.in-Took.n b c.requires.running
+      (subst (λ (l : List ℕ). WentOut (take c.in-Took.n l) (g.L.Link.told c.args.link.now) (g.L.Link.told c.send-step.new.self)) c.outbox-2.ensures c.in-Took.ensures.told)
+      (c.sent.ensures.goes s past before b.rests) c.sent.ensures.outbox (ap (λ (h : HubCore). h.reader) c.sent.ensures.rest);
 }

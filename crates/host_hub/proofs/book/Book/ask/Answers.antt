@@ -4,9 +4,15 @@ use Rattle.host_hub.specs.declared.book.BookEntry.{BookEntry}
 use Rattle.host_hub.specs.declared.book.BookEntry.TheVariants as entry
 use Rattle.host_hub.specs.declared.ticket.Ticket.{Ticket}
 use Rattle.host_hub.specs.BookSeen.{BookSeen, Seen, all_seen}
-use Rattle.host_hub.proofs.Booking.{roomy_asked, asked_anew, asked_length}
+use Rattle.host_hub.proofs.Booking.{roomy_asked, asked_anew, asked_length, open_most}
 use Rattle.host_hub.proofs.Seen.{seen_count}
 use Rattle.host_hub.proofs.book.Book.ask.Goals as goal
+
+pub overflow_mul-self-inside : goal.overflow_mul-self-inside
+overflow_mul-self-inside c = omega (arith, c.self.invariant.0, c.self.invariant.1.count, open_most (all_seen c.self.inside.tickets.items), seen_count c.self.inside.tickets.items)
+
+pub overflow_add-self-inside : goal.overflow_add-self-inside
+overflow_add-self-inside c = omega (arith, c.self.invariant.0, c.self.invariant.1.count, open_most (all_seen c.self.inside.tickets.items), seen_count c.self.inside.tickets.items)
 
 pub invariant_of-self-2 : goal.invariant_of-self-2
 invariant_of-self-2 c =
@@ -20,7 +26,7 @@ invariant_of-self-2 c =
     let kept : length c.reserve-2.new.self.items ≡ length c.self.inside.entries.items = ap (λ (l : List BookEntry). length l) (c.in_ok-reserve-2.ensures.items) in (
       omega (arith, c.requires.few, count, seen_count c.self.inside.tickets.items, ap (λ (l : List Seen). length l) same),
       roomy_asked c.self.inside.tickets.items c.push_reserved.new.self.items c.self.inside.entries c.push_reserved-2.new.self c.self.inside.live c.len-number.result
-          (vec_capacity c.reserve-2.new.self) c.self.inside.given_up c.args.ticket c.self.invariant.1 c.requires.live c.requires.room put more
+          (vec_capacity c.reserve-2.new.self) c.args.ticket c.self.invariant.1 c.requires.live c.requires.room put more
           (omega (arith, kept, c.reserve-2.new.self.ok.0, c.in_ok-reserve-2.ensures.ok)) c.push_reserved-2.ensures.capacity,
     )
 

@@ -9,7 +9,7 @@ index_mut-requires c = omega (arith, c.self.inside.tickets.ok.0, within c.self.i
 pub invariant_of-self : goal.invariant_of-self
 invariant_of-self c = (
   omega (arith, c.self.invariant.0, length_set c.self.inside.tickets.items (c.args.ticket - 1) (record c.index_mut.result.now { last = c.args.number })),
-  roomy_set c.self.inside.tickets.items c.self.inside.entries c.self.inside.live c.self.inside.given_up (c.args.ticket - 1) _ c.index_mut.result.now c.self.invariant.1
+  roomy_set c.self.inside.tickets.items c.self.inside.entries c.self.inside.live (c.args.ticket - 1) _ c.index_mut.result.now c.self.invariant.1
       (kept_is c.self.inside.tickets.items c.args.self.now c.args.ticket c.index_mut.result.now _ (ap (λ (b : BookSeen). b.tickets) c.self.view_is) c.requires.there c.index_mut.ensures.value)
       refl refl (omega arith),
 )

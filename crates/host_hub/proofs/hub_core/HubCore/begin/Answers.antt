@@ -1,8 +1,10 @@
-use Rattle.std.proofs.Common.{arith, ap, ◌∙◌, ℕ}
+use Rattle.std.proofs.Common.{arith, ap, length, ◌∙◌, ℕ}
 use Rattle.host_hub.specs.declared.hub_core.HubCore.{HubCore}
 use Rattle.host_hub.specs.Noted.{Noted, with_start}
 use Rattle.host_hub.proofs.Lawful.{lawful_book}
 use Rattle.host_hub.proofs.Begins.{begins_can, begins_exhausted, begins_goes}
+use Rattle.host_hub.specs.BookSeen.{IsTicket}
+use Rattle.host_hub.proofs.Knowing.{known_first, known_ticket}
 use Rattle.host_hub.proofs.Leaving.{leaves_ended}
 use Rattle.host_hub.proofs.hub_core.HubCore.begin.Goals as goal
 
@@ -18,6 +20,24 @@ returns-then-next-gt-LAST_SUBMIT-clause-goes c = λ s past sent r.
 
 pub write_part-requires : goal.write_part-requires
 write_part-requires c = begins_can c.requires.setting c.requires.past c.requires.sent c.args.self.now c.requires.ready (omega arith)
+
+pub start-requires-clause-first : goal.start-requires-clause-first
+start-requires-clause-first c =
+    let k = c.requires in
+    omega (arith, ap (λ (h : HubCore). h.active) c.write_part.ensures.rest, known_first k.setting k.past k.sent c.args.self.now k.ready.knows)
+
+pub start-requires-clause-last : goal.start-requires-clause-last
+start-requires-clause-last c =
+    let k = c.requires in
+    let there : IsTicket c.args.self.now.book c.args.self.now.active = known_ticket k.setting k.past k.sent c.args.self.now k.ready.knows k.ready.turn in
+    omega (
+      arith,
+      ap (λ (h : HubCore). h.active) c.write_part.ensures.rest,
+      ap (λ (h : HubCore). length h.notes.starts) c.write_part.ensures.rest,
+      k.ready.knows.all_started,
+      k.ready.knows.shows.count,
+      there.last,
+    )
 
 pub returns-clause-goes : goal.returns-clause-goes
 returns-clause-goes c = λ s past sent r.

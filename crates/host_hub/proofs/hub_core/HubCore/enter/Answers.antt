@@ -11,7 +11,7 @@ returns-clause-goes c = λ s past sent lawful k.
     knows_asked s past sent c.args.self.now
     (record { session = c.args.session; kind = c.args.kind; limit = c.args.limit; message = c.args.message.now })
     c.reserve.new.self.room c.reserve.new.self.places (c.args.self.now.limits + c.args.limit) c.ask.new.self c.ask-2.new.self lawful c.requires.proper k c.requires.running c.requires.few
-    (omega (arith, c.in_ok-reserve.ensures.room, c.live-live.ensures.waiting s past sent k))
+    (omega (arith, c.in_ok-reserve.ensures.room, c.live-live.ensures.count))
     (c.in_ok-number.ensures.asked ∙ ap (λ (x : Seen). with_asked x c.args.self.now.book) c.in_ok-ticket.ensures.asked)
     (c.ask-2.ensures ∙ (ap (λ (n : Noted). with_ticket c.mark-mark.result c.args.self.now.turned n) c.reserve.ensures.kept
     ∙ ap (λ (m : Mark). with_ticket m c.args.self.now.turned (record c.args.self.now.notes { room = c.reserve.new.self.room; places = c.reserve.new.self.places })) c.mark-mark.ensures))

@@ -6,6 +6,7 @@ use Rattle.host_transfers.specs.Assembly.{Holds, Says, is_over}
 use Rattle.host_transfers.specs.declared.piece.Piece.TheVariants.{Bad, Data, Ended}
 use Rattle.host_hub.specs.Steps.{took}
 use Rattle.host_hub.proofs.Makes.{goes_behind}
+use Rattle.host_hub.proofs.Knowing.{known_ticket}
 use Rattle.host_hub.proofs.Readings.{Assembles, few_bytes, given_length, now_holds, read_bad, read_ends, read_reads, read_room, response_heard, response_hears}
 use Rattle.host_hub.proofs.hub_core.HubCore.read_answered.Goals as goal
 
@@ -64,6 +65,16 @@ returns-in-Bad-clause-goes c = λ s past sent h.
     (read_bad assembles c.args.self.now c.args.head c.requires.phase c.requires.fine (Bad c.in-Bad.field) (data_of c.args.self.now.reader)
     (λ before holds. subst (λ (l : List ℕ). Says c.args.self.now.assembly.tag c.args.self.now.assembly.size before l (nat_lt c.args.head.actual BULK_IN_SUBMIT) (Bad c.in-Bad.field)) c.data.ensures
     (c.in-Bad.ensures.says before holds)) s past sent h c.in-Bad.field refl)
+
+pub keep-requires-clause-there : goal.keep-requires-clause-there
+keep-requires-clause-there c =
+    let h = keep-requires-clause-heard c in
+    known_ticket h.setting h.past h.sent (record c.args.self.now { assembly = c.feed.new.self }) h.hears.knows h.hears.turn
+
+pub keep-requires-in-Ended-clause-there : goal.keep-requires-in-Ended-clause-there
+keep-requires-in-Ended-clause-there c =
+    let h = keep-requires-in-Ended-clause-heard c in
+    known_ticket h.setting h.past h.sent (record c.args.self.now { assembly = c.feed.new.self }) h.hears.knows h.hears.turn
 
 pub keep-requires-clause-room : goal.keep-requires-clause-room
 keep-requires-clause-room c = λ seen found.

@@ -1,11 +1,11 @@
-use Rattle.std.proofs.Common.{refl, sym, ◌∙◌, ◌≡◌, ◌∷◌, Some, ◌+◌, subst, arith, ap, ℕ}
+use Rattle.std.proofs.Common.{refl, ◌∙◌, ◌≡◌, ◌∷◌, List, Some, length, subst, arith, ap, ℕ}
 use Rattle.host_hub.specs.declared.outcome.Outcome.{Outcome}
 use Rattle.host_hub.specs.declared.hub_core.HubCore.{HubCore}
 use Rattle.host_hub.specs.Record.{Settled}
 use Rattle.host_hub.specs.Book.{active, live}
 use Rattle.host_hub.specs.Knows.{Knows}
 use Rattle.host_hub.proofs.Lists.{first_has}
-use Rattle.host_hub.proofs.Knowing.{begins, goes_further, all_settled, has_active}
+use Rattle.host_hub.proofs.Knowing.{begins, goes_further, all_settled, has_active, live_one}
 use Rattle.host_hub.proofs.hub_core.HubCore.settle_all.Goals as goal
 
 pub live-init : goal.live-init
@@ -14,7 +14,7 @@ live-init c = record { known = c.requires; goes = λ s sent. begins s c.args.end
 pub settle-requires-clause-known : goal.settle-requires-clause-known
 settle-requires-clause-known c =
     let k = c.live.invariant.known in
-    record { setting = k.setting; past = k.past; sent = k.sent; knows = k.knows; keeps = k.keeps; turn = has_active k.setting k.past k.sent c.live.self k.knows (omega arith) }
+    record { setting = k.setting; past = k.past; sent = k.sent; knows = k.knows; turn = has_active k.setting k.past k.sent c.live.self k.knows (omega arith) }
 
 pub live-preserved : goal.live-preserved
 live-preserved c =
@@ -32,8 +32,8 @@ live-preserved c =
           (λ past keeps knows. has_active s past sent c.live.self knows (omega arith))
           (λ past now knows. subst (λ (o : Outcome). Knows s (Settled c.live.self.active o ∷ past) sent c.settle.new.self) c.outcome_of-outcome.ensures.named
           (c.settle.ensures.goes s past sent now knows));
-      rest = c.settle.ensures.rest ∙ ap (λ (h : HubCore). record h { book = c.settle.new.self.book; notes = c.settle.new.self.notes; active = c.live.self.active + 1 }) c.live.invariant.rest
-          ∙ ap (λ (n : ℕ). record c.args.self.now { book = c.settle.new.self.book; notes = c.settle.new.self.notes; active = n }) (sym (ap (λ (h : HubCore). h.active) c.settle.ensures.rest));
+      rest = c.settle.ensures.rest
+          ∙ ap (λ (h : HubCore). record h { book = c.settle.new.self.book; notes = c.settle.new.self.notes; active = c.settle.new.self.active }) c.live.invariant.rest;
       births = c.settle.ensures.births ∙ c.live.invariant.births;
     }
 
@@ -42,7 +42,12 @@ live-smaller c =
     let k = c.live.invariant.known in
     let turn : active k.past ≡ Some c.live.self.active = has_active k.setting k.past k.sent c.live.self k.knows (omega arith) in
     let knows : Knows k.setting (Settled c.live.self.active c.outcome_of-outcome.result ∷ k.past) k.sent c.settle.new.self = c.settle.ensures.goes k.setting k.past k.sent turn k.knows in
-    omega (arith, knows.shows.count, k.knows.shows.count, ap (λ (h : HubCore). h.active) c.settle.ensures.rest)
+    omega (
+      arith,
+      ap (λ (l : List ℕ). length l) (live_one k.setting k.past k.sent c.live.self k.knows turn),
+      ap (λ (l : List ℕ). length l) k.knows.lives,
+      ap (λ (l : List ℕ). length l) knows.lives,
+    )
 
 pub returns-clause-goes : goal.returns-clause-goes
 returns-clause-goes c = λ s past sent keeps k. all_settled s c.args.end sent c.args.self.now c.live.self (c.live.invariant.goes s sent) (omega arith) past keeps k

@@ -1,4 +1,5 @@
-use Rattle.std.proofs.Common.{◌≡◌, ℕ, ◌+◌, ◌-◌, length, List}
+use Rattle.std.proofs.Common.{◌≡◌, ℕ, length, List}
+use Rattle.host_hub.specs.BookRoom.{open_tickets}
 use Rattle.host_hub.specs.Order.{Setting}
 use Rattle.host_hub.specs.Knows.{HasBook}
 use Rattle.host_hub.proofs.Knowing.{GoesOnTo}
@@ -13,4 +14,4 @@ invariant-live l = record {
 }
 
 abbrev pub decreases-live : goal.decreases-live
-decreases-live l = length l.self.book.tickets + 1 - l.self.active
+decreases-live l = length (open_tickets l.self.book.tickets)

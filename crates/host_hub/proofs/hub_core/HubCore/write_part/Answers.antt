@@ -6,7 +6,14 @@ use Rattle.host_hub.specs.Writes.{Puts}
 use Rattle.host_transfers.specs.Tags.{tag_behind}
 use Rattle.usb_setup.specs.declared.ends.Ends.{Ends}
 use Rattle.host_hub.proofs.Putting.{part_puts, part_size, same_seen, not_ended, nothing_ends}
+use Rattle.host_hub.proofs.Knowing.{known_ticket, never_none}
 use Rattle.host_hub.proofs.hub_core.HubCore.write_part.Goals as goal
+
+pub unreachable-requires : goal.unreachable-requires
+unreachable-requires c = never_none c.requires.can.setting c.requires.can.past c.requires.can.sent c.args.self.now c.requires.can.knows c.requires.can.turn c.in_default.ensures
+
+pub end_message-requires : goal.end_message-requires
+end_message-requires c = record { there = known_ticket c.requires.can.setting c.requires.can.past c.requires.can.sent c.args.self.now c.requires.can.knows c.requires.can.turn }
 
 pub returns-then-written-clause-urbs : goal.returns-then-written-clause-urbs
 returns-then-written-clause-urbs c = λ s d e seen found.

@@ -4,7 +4,11 @@ use Rattle.std.specs.Prelude.{replicate}
 use Rattle.usbip_wire.specs.declared.urb.Dir.TheVariants.{Out}
 use Rattle.host_hub.proofs.Shorts.{room_short}
 use Rattle.host_hub.proofs.Lengths.{transfer_length, alignment_length}
+use Rattle.host_hub.proofs.Knowing.{never_none}
 use Rattle.host_hub.proofs.hub_core.HubCore.write_request.Goals as goal
+
+pub unreachable-requires : goal.unreachable-requires
+unreachable-requires c = never_none c.requires.can.setting c.requires.can.past c.requires.can.sent c.args.self.now c.requires.can.knows c.requires.can.turn c.in_default.ensures
 
 pub submit_transfer-self-requires-clause-room : goal.submit_transfer-self-requires-clause-room
 submit_transfer-self-requires-clause-room c =
