@@ -16,6 +16,10 @@ with_asked seen book = record {
   service = book.service;
 }
 
+-- a ticket is cancelled
+abbrev pub with_cancelled : (ticket : ℕ) → BookSeen → BookSeen
+with_cancelled ticket book = record { tickets = book.tickets; entries = book.entries ++ entry.Cancel ticket ∷ []; service = book.service }
+
 -- a ticket is settled
 abbrev pub with_settled : (ticket : ℕ) → Seen → Outcome → BookSeen → BookSeen
 with_settled ticket seen outcome book = record {

@@ -19,6 +19,7 @@ pub mod Law
 pub mod Facts
 pub mod PlainOrders
 pub mod Calls
+pub mod Cancels
 pub mod Steps
 pub mod BookSeen
 pub mod BookRoom

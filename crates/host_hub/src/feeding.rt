@@ -66,6 +66,10 @@ impl HubCore {
                 self.hear(head);
                 Some(step.used)
             }
+            Down::RetUnlink(head) => {
+                self.hear_unlink(head);
+                Some(step.used)
+            }
             Down::Bad(field) => {
                 self.stop(End::PeerFault(field));
                 None

@@ -23,7 +23,7 @@ ghost use Rattle.host_hub.specs.Hears.{GoesByAnswer, Hears, HearsOut, IsHeard, I
 ghost use Rattle.host_hub.specs.Knows.{Knows};
 ghost use Rattle.host_hub.specs.OneOut.{OneOut};
 
-use crate::hub_core::{HubCore, Phase};
+use crate::hub_core::{HubCore, Phase, Race, Submit};
 use crate::transfers::pieces_are_assembled;
 use crate::{End, Kind, Outcome};
 use host_transfers::{PART_MAX, Piece};
@@ -31,14 +31,14 @@ use tmc_base::{BULK_IN_SUBMIT, Field, Layer, Name};
 use usbip_wire::RetSubmitHead;
 
 /// ENODEV and ESHUTDOWN: the device is gone.
-fn is_gone(status: i32) -> bool
+pub(crate) fn is_gone(status: i32) -> bool
     ensures { result ≡ is_gone status }
 {
     status == -19 || status == -108
 }
 
 /// An OUT submit was not transferred whole.
-const SHORT_OUT: Field = Field {
+pub(crate) const SHORT_OUT: Field = Field {
     layer: Layer::Urb,
     name: Name::ActualLength,
     offset: 24,
@@ -57,14 +57,24 @@ impl HubCore {
             return;
         }
         if head.status != 0 {
-            self.answer_failed(head);
+            self.hear_failure(head);
             return;
         }
         match self.phase {
-            Phase::Idle => unreachable!(),
             Phase::Message => self.part_answered(head),
             Phase::Request => self.request_answered(head),
             Phase::Response => self.read_answered(head),
+            Phase::Unlink(Race::Out(submit)) => self.race_answered(submit, head),
+            Phase::Recovery(repair) => self.repair_answered(repair, head),
+            Phase::Idle | Phase::Unlink(_) => unreachable!(),
+        }
+    }
+
+    /// A submit was answered with another status than 0.
+    fn hear_failure(&mut self, head: RetSubmitHead) {
+        match self.phase {
+            Phase::Recovery(repair) => self.repair_failed(repair, head),
+            _ => self.answer_failed(head),
         }
     }
 
@@ -164,7 +174,9 @@ impl HubCore {
             return Outcome::DeviceFault(status);
         }
         match self.phase {
-            Phase::Response => Outcome::Halted(self.ends.bulk_in % 16),
+            Phase::Response | Phase::Unlink(Race::Out(Submit::Read)) => {
+                Outcome::Halted(self.ends.bulk_in % 16)
+            }
             _ => Outcome::Halted(self.ends.bulk_out % 16),
         }
     }
@@ -202,7 +214,7 @@ impl HubCore {
     }
 
     /// The read that this answers is out no more, and these of its data are the ticket's.
-    fn keep(&mut self, head: RetSubmitHead, from: u32, to: u32)
+    pub(crate) fn keep(&mut self, head: RetSubmitHead, from: u32, to: u32)
         requires heard { IsHeard self.old head }
         requires ordered { from ≤ to }
         requires within { to ≤ length (data_of self.old.reader) }
@@ -225,7 +237,7 @@ impl HubCore {
     }
 
     /// The submit that this answers is out no more.
-    fn take(&mut self, head: RetSubmitHead)
+    pub(crate) fn take(&mut self, head: RetSubmitHead)
         requires { IsHeard self.old head }
         ensures goes { (s : Setting) (past : Past) (sent bytes : List ℕ) → Hears s past sent self.old head bytes → got self.old.active (took past head bytes) ≡ got self.old.active past
             → Knows s (took past head bytes) sent self.new }
@@ -243,7 +255,7 @@ impl HubCore {
     }
 
     /// The answer ends the hub.
-    fn fall(&mut self, head: RetSubmitHead, end: End)
+    pub(crate) fn fall(&mut self, head: RetSubmitHead, end: End)
         requires heard { IsHeard self.old head }
         requires running { self.old.end ≡ None }
         ensures goes { (s : Setting) (past : Past) (sent bytes : List ℕ) → Hears s past sent self.old head bytes → Kept s past

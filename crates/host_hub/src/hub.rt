@@ -2,12 +2,15 @@
 
 ghost use Rattle.std.specs.Prelude.{◌≡◌, ◌≤◌, ℕ, List, [], Some, None, IfErr, IfOk, MatchOption, OnErr, OnOk};
 ghost use Rattle.tmc_base.specs.Told.{Told};
+ghost use Rattle.host_hub.specs.declared.answers.CancelAnswer.TheVariants as cancel_answer;
+ghost use Rattle.host_hub.specs.declared.answers.DropAnswer.TheVariants as drop_answer;
 ghost use Rattle.host_hub.specs.declared.kind.Kind.TheVariants as kind;
 ghost use Rattle.host_hub.specs.declared.limits.TheConstants.{MAX_DEPTH};
 ghost use Rattle.host_hub.specs.Asks.{IsUnchanged};
 ghost use Rattle.host_hub.specs.Behind.{Behind, Holds, IsRecorded, births_of};
 ghost use Rattle.host_hub.specs.BookSeen.{IsView, ticket_of};
-ghost use Rattle.host_hub.specs.Calls.{AddsGivingUp};
+ghost use Rattle.host_hub.specs.Calls.{AddsCancel, AddsCancelSession, AddsGivingUp};
+ghost use Rattle.host_hub.specs.Cancels.{cancel_says, drop_says, has_live};
 ghost use Rattle.host_hub.specs.HubCalls.{AsksOf, HasView, LeadsOn, Turns};
 ghost use Rattle.host_hub.specs.Noted.{born_of};
 ghost use Rattle.host_hub.specs.Order.{Setting};
@@ -16,7 +19,7 @@ ghost use Rattle.host_hub.specs.Shown.{IsBorn};
 
 use crate::hub_core::HubCore;
 use crate::recorded::{accounts_are_entered, accounts_are_tended, accounts_begin, hubs_hold};
-use crate::{AskFault, Book, End, Kind, Turn, View, turning};
+use crate::{AskFault, Book, CancelAnswer, DropAnswer, End, Kind, Turn, View, turning};
 use std::alloc::Global;
 use std::marker::Model;
 use tmc_base::{Link, Memory, TendStep};
@@ -106,6 +109,39 @@ impl<L: Link> Hub<L> {
         hubs_hold();
         accounts_are_entered();
         self.core.ask(session, Kind::Tell, message, 0)
+    }
+
+    /// Cancels a ticket. One that has not begun is settled by that. Of one that has, what is not answered is unlinked, and it is
+    /// settled once that is answered: by what an answer that came first made of it, and else by the cancel.
+    pub fn cancel(&mut self, ticket: u32) -> CancelAnswer
+        ensures answer { result ≡ cancel_says (ticket_of ticket self.old.core.book.tickets) }
+        ensures cancels { (start : Told) (s : Setting) (past : Past) (sent received : List ℕ) → Behind L.told L.counts start s past sent received self.old
+            → LeadsOn start (L.told self.new.link) (L.counts self.new.link) s past sent received (AddsCancel past ticket) self.new.core }
+        ensures unchanged { (result ≡ cancel_answer.Begun → ⊥) → self.new ≡ self.old }
+        ensures runs { self.new.core.end ≡ self.old.core.end }
+        ensures births { births_of self.new.core ≡ births_of self.old.core }
+        ensures link { self.new.link ≡ self.old.link }
+        ensures holds { Holds L.told L.counts self.new }
+    {
+        hubs_hold();
+        accounts_are_entered();
+        self.core.cancel(ticket)
+    }
+
+    /// Cancels each live ticket of a session, in their order.
+    pub fn cancel_session(&mut self, session: u8) -> DropAnswer
+        ensures answer { result ≡ drop_says (has_live session self.old.core.book.tickets) }
+        ensures cancels { (start : Told) (s : Setting) (past : Past) (sent received : List ℕ) → Behind L.told L.counts start s past sent received self.old
+            → LeadsOn start (L.told self.new.link) (L.counts self.new.link) s past sent received (AddsCancelSession past session) self.new.core }
+        ensures unchanged { result ≡ drop_answer.NothingLive → self.new ≡ self.old }
+        ensures runs { self.new.core.end ≡ self.old.core.end }
+        ensures births { births_of self.new.core ≡ births_of self.old.core }
+        ensures link { self.new.link ≡ self.old.link }
+        ensures holds { Holds L.told L.counts self.new }
+    {
+        hubs_hold();
+        accounts_are_entered();
+        self.core.cancel_session(session)
     }
 
     /// Sends once where the outbox is not empty, and then, unless that ended the hub, polls once, at most 8,192 bytes. A hub that

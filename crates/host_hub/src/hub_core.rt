@@ -10,24 +10,63 @@ ghost use Rattle.host_hub.specs.Fed.{Reads};
 use crate::book::Book;
 use crate::notes::{Mark, Notes};
 use crate::{End, Outcome};
+use host_recover::{Need, Recover};
 use host_transfers::{Assembly, Tags};
 use host_urbs::Urbs;
 use std::alloc::Global;
 use tmc_base::Memory;
+use tmc_wire::ClassRequest;
 use usb_setup::Ends;
 use usbip_wire::DownReader;
 
-/// Which submit of the active ticket is out.
+/// What is out.
 #[derive(Clone, Copy, Debug)]
 pub(crate) enum Phase {
-    /// None: no ticket is live.
+    /// Nothing: no ticket is live.
     Idle,
-    /// A part of its message.
+    /// A part of the active ticket's message.
     Message,
     /// A request of a piece of its response.
     Request,
     /// A read of this piece.
     Response,
+    /// The unlink of a submit.
+    Unlink(Race),
+    /// A submit of a recovery.
+    Recovery(Repair),
+}
+
+/// An unlink races the answer to the submit that it names: what became of that.
+#[derive(Clone, Copy, Debug)]
+pub(crate) enum Race {
+    /// It is out, and its ticket is live.
+    Out(Submit),
+    /// It was answered and made no outcome: its ticket is live, and this recovery will be called for.
+    Missed(Option<Need>),
+    /// It was answered and made the outcome of its ticket, which is settled.
+    Settled,
+}
+
+/// A submit of a ticket.
+#[derive(Clone, Copy, Debug)]
+pub(crate) enum Submit {
+    /// A part of its message.
+    Part,
+    /// A request of a piece of its response.
+    Request,
+    /// A read of this piece.
+    Read,
+}
+
+/// A submit of a recovery.
+#[derive(Clone, Copy, Debug)]
+pub(crate) enum Repair {
+    /// A class request.
+    Class(ClassRequest),
+    /// The clearing of an endpoint's halt.
+    ClearHalt,
+    /// A read, whose data is dropped.
+    Drain,
 }
 
 /// A hub without its link.
@@ -52,6 +91,8 @@ pub(crate) struct HubCore {
     pub(crate) asked: u32,
     /// The piece of the active ticket's response that was requested last.
     pub(crate) assembly: Assembly,
+    /// The recovery that began last.
+    pub(crate) recover: Recover,
     /// How many whole messages were taken.
     pub(crate) taken: u32,
     pub(crate) turned: u64,
@@ -81,6 +122,7 @@ impl HubCore {
             parts: 0,
             asked: 0,
             assembly: Assembly::new(1, 1),
+            recover: Recover::new(Need::Full, ends),
             taken: 0,
             turned: 0,
             end: None,
@@ -111,7 +153,7 @@ impl HubCore {
     }
 
     /// Settles this ticket. The first one then that is not settled is the active one.
-    fn settle_ticket(&mut self, ticket: u32, outcome: Outcome)
+    pub(crate) fn settle_ticket(&mut self, ticket: u32, outcome: Outcome)
         requires known { HasLive self.old ticket }
         requires settled { is_open outcome ≡ false }
         ensures goes { (s : Setting) (past : Past) (sent : List ℕ) → has ticket (live past) ≡ true → Knows s past sent self.old

@@ -28,6 +28,13 @@ impl Tags {
         Tags { last: 0 }
     }
 
+    /// The tag that was drawn last, and 0 while none was.
+    pub fn last(&self) -> u8
+        ensures { result ≡ self.now }
+    {
+        self.last
+    }
+
     /// Draws the next tag.
     pub fn draw(&mut self) -> u8
         ensures tag { result ≡ tag_behind self.old }
