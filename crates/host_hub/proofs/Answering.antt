@@ -152,11 +152,9 @@ pub hears_out : (s : Setting) (past : Past) (all : List ℕ) (core : HubCore) (h
 hears_out s past all core head bytes asking order split h o plain = record {
   knows = h.rests.knows;
   lawful = h.rests.kept.lawful;
-  turn = o.turn;
-  order = order;
+  submit = record { number = o.number; owner = Of core.active; order = order };
+  found = one_found core.active o.number order head.seqnum (outstanding past) o.alone (heard_out s past all core head bytes asking order split h o plain).same;
   plain = (plain_submit order plain).0;
-  alone = o.alone ∙ ap (λ (n : ℕ). record { number = n; owner = Of core.active; order = order } ∷ [])
-      (sym (heard_out s past all core head bytes asking order split h o plain).same);
   queue = o.queue;
   raw = h.raw;
   spelled = h.spelled;

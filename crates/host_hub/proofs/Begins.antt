@@ -32,7 +32,7 @@ use Rattle.host_hub.specs.Steps.{Speaks, Working, settle_all, wrote}
 use Rattle.host_hub.specs.Status.{is_status_kind}
 use Rattle.host_hub.specs.Proper.{IsProper}
 use Rattle.host_hub.specs.Knows.{Knows}
-use Rattle.host_hub.specs.OneOut.{OneOut}
+use Rattle.host_hub.specs.Queued.{Queued}
 use Rattle.host_hub.specs.Stands.{GoesTo, Rests}
 use Rattle.host_hub.specs.Writes.{CanPart, Ends, Puts, Ready}
 use Rattle.host_hub.proofs.Clean.{clean_begins}
@@ -47,6 +47,7 @@ use Rattle.host_hub.proofs.Stepping.{begins_planned, written_kept}
 use Rattle.host_hub.proofs.Within.{none_unbegun}
 use Rattle.host_hub.proofs.Knowing.{known_first, known_ticket, seen_there}
 use Rattle.host_hub.proofs.Wrote.{knows_wrote, numbers_set, starts_first}
+use Rattle.host_hub.proofs.Queues.{queued_wrote, queued_none}
 
 -- ---- nothing is out
 
@@ -76,18 +77,6 @@ cons_none x h = absurd (no h)
   where
     no : x ∷ [] ≡ [] → ⊥
     no k = cc
-
-pub out_one : (h : Held) (x : Entry) → h.entries ≡ x ∷ [] → x.unsent ≡ length h.outbox → OneOut h
-out_one h x is rest = record {
-  none = λ e. cons_none x (sym is ∙ e);
-  one = λ y e. ap (λ (z : Entry). z.unsent) (sym (cons_same x y (sym is ∙ e))) ∙ rest;
-}
-
-pub out_now : (m : up.Message) (old new : Held) → old.entries ≡ [] → new ≡ held.wrote m old → OneOut new
-out_now m old new none e =
-    let x : Entry = record { message = unanswered_of m; unsent = length (old.outbox ++ held.bytes_of m) } in
-    subst OneOut (sym e) (out_one (held.wrote m old) (record { message = unanswered_of m; unsent = length (old.outbox ++ held.bytes_of m) })
-    (ap (λ (l : List Entry). l ++ record { message = unanswered_of m; unsent = length (old.outbox ++ held.bytes_of m) } ∷ []) none) refl)
 
 pub same_device : (s : Setting) (order : Order) (old new : Held) → Puts s order old new → new.devid ≡ old.devid
 same_device s order old new p = ap (λ (h : Held). h.devid) p.written
@@ -186,8 +175,7 @@ begins_rests s past sent core seen u b q n r few found puts ends size starts =
           clean = clean_begins s past core.active (part_of (next_tag past) 0 seen.message) r.recovered r.fresh refl;
           counted = rw (own core.active) (ap (λ (k : ℕ). k + 1) (unbegun_parts core.active past r.fresh));
           whole = size;
-          queue = out_now (message_of s core.urbs.next (part_of (next_tag past) 0 seen.message)) core.urbs u
-              (none_entries s past sent core r.working.lawful r.knows r.none_out) puts.written;
+          queue = queued_wrote (message_of s core.urbs.next (part_of (next_tag past) 0 seen.message)) core.urbs u puts.written;
         };
         none = rw (own core.active) (none_unbegun core.active past r.fresh);
       };
@@ -292,7 +280,7 @@ begins_can s past sent core r few =
         turn = r.turn;
         asks = asks;
         none = none;
-        nothing = r.queue.none none;
+        nothing = queued_none core.urbs none r.queue;
         last = few;
       };
       there = omega (arith, (r.knows.proper core.active (asking_seen at.0) asks).some);

@@ -22,7 +22,7 @@ use Rattle.host_hub.specs.Crossings.{crossings}
 use Rattle.host_hub.specs.Outstanding.{Sent, awaited_by, outstanding}
 use Rattle.host_hub.specs.Law.{Lawful}
 use Rattle.host_hub.specs.Knows.{Knows}
-use Rattle.host_hub.specs.OneOut.{OneOut}
+use Rattle.host_hub.specs.Queued.{Queued, last_unsent}
 use Rattle.host_hub.specs.Tied.{AreSent, below, bytes_of, entries_sent, spelled}
 use Rattle.host_hub.proofs.Begins.{none_entries}
 use Rattle.host_hub.proofs.Entries.{as_unlink}
@@ -93,7 +93,7 @@ pub data AtMost (past : Past) : Type 0 where
   Single : (x : Sent) → is_unlink x.order ≡ false → outstanding past ≡ x ∷ [] → AtMost past
 
 pub entries_here : ((first : ℕ) (past : urbs.Past) → urbs_law.Lawful first past → AreInARow first (urbs.written past)) → (s : Setting) (past : Past) (sent : List ℕ) (core : HubCore) (count : ℕ)
-    → Lawful s past → Knows s past sent core → OneOut core.urbs → AreSent s past sent count → AtMost past → entries_of (entries.sent core.urbs.entries) ≡ entries_sent s past count
+    → Lawful s past → Knows s past sent core → Queued core.urbs → AreSent s past sent count → AtMost past → entries_of (entries.sent core.urbs.entries) ≡ entries_sent s past count
 entries_here rows s past sent core count lawful k queue a (Nothing e) =
     ap (λ (es : List Entry). entries_of (entries.sent es)) (none_entries s past sent core lawful k e)
     ∙ ap (λ (xs : List Awaited). entries_of (below (s.first + count) xs)) (sym (ap (awaited_by s) e) ∙ same_outstanding s past lawful)
@@ -115,7 +115,7 @@ entries_here rows s past sent core count lawful k queue a (Single x plain e) =
     number = entry_number s x.number x.order
 
     out : one.0.unsent ≡ length core.urbs.outbox
-    out = queue.one one.0 one.1
+    out = sym (ap last_unsent one.1) ∙ queue
 
     stands : length sent + length core.urbs.outbox ≡ length (spelled (written s past))
     stands = sym (length-append sent core.urbs.outbox) ∙ ap length (stands_so s past sent core k)

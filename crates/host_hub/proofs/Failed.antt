@@ -41,6 +41,7 @@ use Rattle.usbip_wire.specs.Awaited.{entries_of}
 use Rattle.usbip_wire.specs.Dirs as dirs
 use Rattle.std.proofs.lemmas.Bool.Decides.{Decides-int_eq}
 use Rattle.host_hub.specs.Ends.{is_gone}
+use Rattle.host_hub.proofs.Heard.{got_still}
 
 -- ---- what is out
 
@@ -154,7 +155,7 @@ module _ (core : HubCore) (head : RetSubmitHead) (failed : head.status ≢ pos 0
       out_comes s past core failed_out.asking failed_out.order failed_out.split head bytes failed_out.out (now_heard s past all core head bytes h failed_out).same
       (plain_submit failed_out.order failed_out.plain).0 (now_heard s past all core head bytes h failed_out).may (ends_failed s past head bytes failed_answer there no_success)
 
-  pub failed_got : got core.active (took past head bytes) ≡ got core.active past
+  failed_got : got core.active (took past head bytes) ≡ got core.active past
   failed_got =
       ap data_in now ∙ shut_data (pieces core.active past)
     where
@@ -162,6 +163,9 @@ module _ (core : HubCore) (head : RetSubmitHead) (failed : head.status ≢ pos 0
       now = ap (λ (o : Option Sent). answered_for core.active o head bytes (pieces core.active past)) failed_comes.found
           ∙ (ap (λ (b : Bool). if b then answered failed_out.order head bytes (pieces core.active past) else pieces core.active past) (own core.active)
           ∙ shut_out failed_out.order head bytes (pieces core.active past) failed_out.plain no_success)
+
+  failed_still : (t : ℕ) → got t (took past head bytes) ≡ got t past
+  failed_still = got_still past core.active failed_out.out.number failed_out.order head bytes failed_comes.found failed_got
 
   failed_made : made_at s core.active past (Took (down.RetSubmit head bytes)) ≡ Some (failed_as core.ends core.phase head.status)
   failed_made =
@@ -194,10 +198,10 @@ module _ (core : HubCore) (head : RetSubmitHead) (failed : head.status ≢ pos 0
       (sym h.rests.knows.over ∙ h.running) failed_comes failed_made
 
   module _ (taken : HubCore)
-      (goes : (s : Setting) (past : Past) (sent bytes : List ℕ) → Hears s past sent core head bytes → got core.active (took past head bytes) ≡ got core.active past
+      (goes : (s : Setting) (past : Past) (sent bytes : List ℕ) → Hears s past sent core head bytes → ((t : ℕ) → got t (took past head bytes) ≡ got t past)
       → Knows s (took past head bytes) sent taken) (rest : taken ≡ record core { urbs = taken.urbs; taken = core.taken + 1 }) where
     failed_taken : Knows s (took past head bytes) all taken
-    failed_taken = goes s past all bytes failed_hears failed_got
+    failed_taken = goes s past all bytes failed_hears failed_still
 
     same_active : taken.active ≡ core.active
     same_active = ap (λ (c : HubCore). c.active) rest

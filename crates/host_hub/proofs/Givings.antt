@@ -37,6 +37,7 @@ use Rattle.host_hub.proofs.Begins.{cons_none, ended_rests}
 use Rattle.host_hub.proofs.Endings.{gave_up_kept, not_given}
 use Rattle.host_hub.proofs.Opens.{comes_entered}
 use Rattle.host_hub.proofs.Knowing.{at_number, entered, entries_added, marked_too, no_number}
+use Rattle.host_hub.specs.Queued.{Queued}
 
 -- ---- whether it was entered
 
@@ -189,10 +190,7 @@ fresh_rests s core depth first ends urbs follows book notes tags limits active i
     none = refl;
     nothing = refl;
     recovered = (refl, refl);
-    queue = record {
-      none = λ e. ap (λ (h : held.Held). h.outbox) urbs;
-      one = λ x e. cons_none x (sym e ∙ ap (λ (h : held.Held). h.entries) urbs);
-    };
+    queue = subst Queued (sym urbs) refl;
   });
 }
   where

@@ -23,7 +23,7 @@ use Rattle.host_hub.specs.Steps.{took}
 use Rattle.host_urbs.specs.Record as urbs
 use Rattle.host_hub.specs.Law.{Lawful}
 use Rattle.host_hub.specs.Knows.{Knows}
-use Rattle.host_hub.specs.OneOut.{OneOut}
+use Rattle.host_hub.specs.Queued.{Queued}
 use Rattle.host_hub.specs.Hears.{Hears}
 use Rattle.host_hub.proofs.Entries.{Answers, answers_submit, answers_unlink}
 use Rattle.host_hub.proofs.Lists.{clash}
@@ -33,6 +33,8 @@ use Rattle.host_hub.proofs.Begins.{cons_none, cons_same, same_next}
 use Rattle.host_hub.proofs.Knowing.{known_ticket, seen_there}
 use Rattle.host_hub.proofs.Putting.{with_same}
 use Rattle.host_hub.proofs.Taken.{knows_took, one_found, taken_more}
+use Rattle.host_hub.specs.Hand.{is_of}
+use Rattle.host_hub.specs.Shown.{ShowsTicket}
 
 -- ---- no more answers than messages
 
@@ -107,7 +109,7 @@ few_taken s (Settled t o ∷ past) (l, a) = few_taken s past l
 
 pub taken_fits : (s : Setting) (past : Past) (all : List ℕ) (core : HubCore) (head : RetSubmitHead) (bytes : List ℕ) → Hears s past all core head bytes → core.taken + 1 ≤ core.urbs.next
 taken_fits s past all core head bytes h =
-    omega (arith, few_taken s past h.lawful, ap (λ (l : List Sent). length l) h.alone, h.knows.answers, same_next s past all core h.knows, written_count s past)
+    omega (arith, few_taken s past h.lawful, less_others head.seqnum (outstanding past) h.submit h.found, h.knows.answers, same_next s past all core h.knows, written_count s past)
   where
     written_count : (s : Setting) (past : Past) → next s.first past ≡ s.first + length (written s past)
     written_count s past = next_same s past ∙ ap (λ (l : List up.Message). s.first + length l) (sym (written_same s past))
@@ -125,10 +127,6 @@ one_entry (e ∷ (f ∷ fs)) x h = absurd (no h)
     no : awaited_of e.message ∷ (awaited_of f.message ∷ awaited fs) ≡ x ∷ [] → ⊥
     no k = cc
 
-none_long : (xs : List ℕ) → length xs ≡ 0 → xs ≡ []
-none_long [] e = refl
-none_long (x ∷ xs) e = absurd (omega (arith, e))
-
 pub all_gone : (e : Entry) (n : ℕ) → is_some (dirs.submit_of (dirs.find n (entries_of (sent (e ∷ []))))) ≡ true → e.unsent ≡ 0
 all_gone e n h = step (e.unsent == 0) refl h
   where
@@ -136,40 +134,53 @@ all_gone e n h = step (e.unsent == 0) refl h
     step true k g = eqb-true e.unsent 0 k
     step false k g = clash g
 
-one_same : (n : ℕ) (e x : Entry) → others n (e ∷ []) ≡ x ∷ [] → e ≡ x
-one_same n e x h = step (number_of e.message == n) h
-  where
-    step : (b : Bool) → (if b then [] else e ∷ []) ≡ x ∷ [] → e ≡ x
-    step true k = cons_none x (sym k)
-    step false k = cons_same e x k
-
-queue_left : (h : Held) (e : Entry) (n : ℕ) → h.entries ≡ e ∷ [] → e.unsent ≡ 0 → h.outbox ≡ [] → OneOut (record h { entries = others n h.entries })
-queue_left h e n is gone none = record {
-  none = λ k. none;
-  one = λ x k.
-      (let same : e ≡ x = one_same n e x (sym (ap (others n) is) ∙ k) in
-      ap (λ (y : Entry). y.unsent) (sym same) ∙ (gone ∙ ap (λ (l : List ℕ). length l) (sym none)));
-}
-
-pub queue_taken : (s : Setting) (past : Past) (all : List ℕ) (core : HubCore) (head : RetSubmitHead) (bytes : List ℕ) (new : Held) → Hears s past all core head bytes
-    → is_some (dirs.submit_of (dirs.find head.seqnum (entries_of (sent core.urbs.entries)))) ≡ true → new ≡ record core.urbs { entries = others head.seqnum core.urbs.entries } → OneOut new
-queue_taken s past all core head bytes new h there is =
-    let one : (e : Entry) × (core.urbs.entries ≡ e ∷ []) =
-    one_entry core.urbs.entries _ (h.knows.follows.awaits ∙ (sym (same_outstanding s past h.lawful) ∙ ap (awaited_by s) h.alone)) in
-    let gone : one.0.unsent ≡ 0 = all_gone one.0 head.seqnum (subst (λ (l : List Entry). is_some (dirs.submit_of (dirs.find head.seqnum (entries_of (sent l)))) ≡ true) one.1 there) in
-    subst OneOut (sym is) (queue_left core.urbs one.0 head.seqnum one.1 gone (none_long core.urbs.outbox (sym (h.queue.one one.0 one.1) ∙ gone)))
-
 -- ---- what is known then
 
-pub heard_found : (s : Setting) (past : Past) (all : List ℕ) (core : HubCore) (head : RetSubmitHead) (bytes : List ℕ) → (h : Hears s past all core head bytes)
-    → find head.seqnum (outstanding past) ≡ Some (record { number = head.seqnum; owner = Of core.active; order = h.order })
-heard_found s past all core head bytes h = one_found core.active head.seqnum h.order head.seqnum (outstanding past) h.alone refl
+got_other : (past : Past) (t : ℕ) (x : Sent) (head : RetSubmitHead) (bytes : List ℕ) → find head.seqnum (outstanding past) ≡ Some x → is_of t x.owner ≡ false
+    → got t (took past head bytes) ≡ got t past
+got_other past t x head bytes found other = rw found (rw other refl)
+
+-- where the ticket of this submit has got no more, none has
+pub got_still : (past : Past) (t n : ℕ) (order : Order) (head : RetSubmitHead) (bytes : List ℕ)
+    → find head.seqnum (outstanding past) ≡ Some (record { number = n; owner = Of t; order = order }) → got t (took past head bytes) ≡ got t past
+    → (u : ℕ) → got u (took past head bytes) ≡ got u past
+got_still past t n order head bytes found same u = step (t == u) refl
+  where
+    step : (b : Bool) → (t == u) ≡ b → got u (took past head bytes) ≡ got u past
+    step true e = subst (λ (v : ℕ). got v (took past head bytes) ≡ got v past) (eqb-true t u e) same
+    step false e = got_other past u (record { number = n; owner = Of t; order = order }) head bytes found e
 
 pub knows_taken : (s : Setting) (past : Past) (all : List ℕ) (core : HubCore) (head : RetSubmitHead) (bytes : List ℕ) (u : Held) → (h : Hears s past all core head bytes)
-    → got core.active (took past head bytes) ≡ got core.active past → Follows s.first (urbs.Took (down.RetSubmit head bytes) ∷ crossings s past) all u → u.devid ≡ core.urbs.devid
+    → ((t : ℕ) → got t (took past head bytes) ≡ got t past) → Follows s.first (urbs.Took (down.RetSubmit head bytes) ∷ crossings s past) all u → u.devid ≡ core.urbs.devid
     → Knows s (took past head bytes) all (record core { urbs = u; taken = core.taken + 1 })
 knows_taken s past all core head bytes u h same follows device =
-    let at : (seen : Seen) × (ticket_of core.active core.book.tickets ≡ Some seen) = seen_there core.book core.active (known_ticket s past all core h.knows h.turn) in
-    let bytes_same : at.0.bytes ≡ got core.active (took past head bytes) = (h.knows.shows.each core.active at.0 at.1).bytes ∙ sym same in
-    knows_took s past all core head.seqnum h.order head bytes at.0 u core.book h.knows at.1 (heard_found s past all core head bytes h) h.plain follows device
-    (sym (ap (λ (l : List ℕ). with_seen core.active (record at.0 { bytes = l }) core.book) (sym bytes_same) ∙ with_same core.active core.book at.0 at.1))
+    let k : Knows s past all core = h.knows in
+    record {
+      shallow = k.shallow;
+      first_number = k.first_number;
+      interface = k.interface;
+      device = device ∙ k.device;
+      follows = follows;
+      shows = record {
+        count = k.shows.count;
+        each = λ t one e. shown t one (k.shows.each t one e);
+        entries = k.shows.entries;
+        service = rw h.found (rw h.plain k.shows.service);
+      };
+      marks = k.marks;
+      all_started = k.all_started;
+      starts = k.starts;
+      all_born = k.all_born;
+      limit_sum = k.limit_sum;
+      tag = k.tag;
+      answers = ap (λ (m : ℕ). m + 1) k.answers ∙ sym (taken_more (taken past) (down.RetSubmit head bytes));
+      over = k.over;
+      proper = k.proper;
+      few = k.few;
+      lives = k.lives;
+      turn = k.turn;
+      room = k.room;
+    }
+  where
+    shown : (t : ℕ) (one : Seen) → ShowsTicket past t one → ShowsTicket (took past head bytes) t one
+    shown t one e = record { asking = e.asking; last = e.last; bytes = e.bytes ∙ sym (same t); outcome = e.outcome }

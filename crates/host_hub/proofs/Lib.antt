@@ -5,6 +5,7 @@ pub mod Grows
 pub mod Orders
 pub mod Seen
 pub mod Opens
+pub mod Queues
 pub mod Booking
 pub mod Knowing
 pub mod Lengths

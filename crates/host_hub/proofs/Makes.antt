@@ -37,7 +37,7 @@ use Rattle.host_hub.specs.Refusals.{has_message}
 use Rattle.host_hub.specs.Law.{IsHandOver, Kept}
 use Rattle.host_hub.specs.Steps.{Comes, IsClean, took}
 use Rattle.host_hub.specs.Knows.{HasActive, Knows}
-use Rattle.host_hub.specs.OneOut.{OneOut}
+use Rattle.host_hub.specs.Queued.{Queued}
 use Rattle.host_hub.specs.Stands.{GoesTo, IsInMessage, IsOut, Rests, Stands}
 use Rattle.host_hub.specs.Writes.{Done, GoesOn, PartIsNext, RequestIsNext}
 use Rattle.host_hub.specs.Hears.{GoesByAnswer, Hears, HearsOut, IsBehind, OfItself, TicketEnds}
@@ -50,6 +50,7 @@ use Rattle.host_hub.proofs.Begins.{asking_seen, one_added}
 use Rattle.host_hub.proofs.Lists.{clash}
 use Rattle.host_hub.proofs.Stepping.{answer_settles, made_of, no_unlinks_settled}
 use Rattle.host_hub.proofs.Taken.{none_left, out_comes, out_goes_on}
+use Rattle.host_hub.proofs.Heard.{got_still}
 
 -- ---- what the hub does by itself it does behind an answer
 
@@ -108,7 +109,7 @@ done_settled s past all core new o e rest k = record {
   hand = subst (λ (h : Option ℕ). IsHandOver h (Settled core.active o ∷ past)) (sym e.hand) (gone core.active (live past));
   none_out = e.none_out;
   recovered = e.recovered;
-  queue = subst OneOut (sym (ap (λ (h : HubCore). h.urbs) rest)) e.queue;
+  queue = subst Queued (sym (ap (λ (h : HubCore). h.urbs) rest)) e.queue;
 }
 
 -- ---- an answer with status 0
@@ -133,7 +134,7 @@ due_fine s past x head bytes kept running found fine =
 pub ends_now : (s : Setting) (past : Past) (all : List ℕ) (core : HubCore) (asking : Asking) (order : Order) (split : Bool) (head : RetSubmitHead) (bytes : List ℕ) (u : Held) (b : BookSeen)
     (o : Outcome) → Rests s past all core → core.end ≡ None → (out : IsOut s past core asking order split) → Comes s past core.active out.number order head bytes
     → head.seqnum ≡ out.number → made_at s core.active past (Took (down.RetSubmit head bytes)) ≡ Some o → end_due (took past head bytes) ≡ None
-    → AreRecovered (Settled core.active o ∷ took past head bytes) → Knows s (took past head bytes) all (record core { urbs = u; book = b; taken = core.taken + 1 }) → OneOut u
+    → AreRecovered (Settled core.active o ∷ took past head bytes) → Knows s (took past head bytes) all (record core { urbs = u; book = b; taken = core.taken + 1 }) → Queued u
     → TicketEnds s (took past head bytes) all (record core { urbs = u; book = b; taken = core.taken + 1 }) o
 ends_now s past all core asking order split head bytes u b o r running out comes same made free recovered k queue =
     let over : ended past ≡ None = sym r.knows.over ∙ running in
@@ -193,8 +194,11 @@ module _ (s : Setting) (past : Past) (all : List ℕ) (core : HubCore) (head : R
     part_pieces : pieces core.active (took past head bytes) ≡ []
     part_pieces = pieces_took past head bytes part_answer fine ∙ (pieces_out part_order head bytes (pieces core.active past) tt (λ e. cc) fine ∙ m.none)
 
-    pub part_got : got core.active (took past head bytes) ≡ got core.active past
+    part_got : got core.active (took past head bytes) ≡ got core.active past
     part_got = ap data_in part_pieces ∙ sym (ap data_in m.none)
+
+    pub part_still : (t : ℕ) → got t (took past head bytes) ≡ got t past
+    part_still = got_still past core.active m.out.number part_order head bytes part_comes.found part_got
 
     part_due : end_due (took past head bytes) ≡ None
     part_due = due_fine s past _ head bytes h.rests.kept (sym h.rests.knows.over ∙ h.running) part_comes.found fine
@@ -202,7 +206,7 @@ module _ (s : Setting) (past : Past) (all : List ℕ) (core : HubCore) (head : R
     part_made : made_at s core.active past (Took (down.RetSubmit head bytes)) ≡ served m.asking.kind m.asking.limit part_order bytes (standing s core.active (took past head bytes))
     part_made = made_fine s past core.active m.out.number part_order m.asking head bytes part_comes m.out.asks fine
 
-    pub part_goes_on : (new : HubCore) → new ≡ record core { urbs = new.urbs; taken = core.taken + 1 } → Knows s (took past head bytes) all new → OneOut new.urbs
+    pub part_goes_on : (new : HubCore) → new ≡ record core { urbs = new.urbs; taken = core.taken + 1 } → Knows s (took past head bytes) all new → Queued new.urbs
         → PART_MAX * core.parts < length m.asking.message → PartIsNext s (took past head bytes) all new
     part_goes_on new rest k queue left =
         subst (λ (c : HubCore). PartIsNext s (took past head bytes) all c) (sym rest) (record {
@@ -225,7 +229,7 @@ module _ (s : Setting) (past : Past) (all : List ℕ) (core : HubCore) (head : R
     part_all : length m.asking.message ≤ PART_MAX * core.parts → part_order ≡ Part m.tag m.text true
     part_all whole = ap (λ (b : Bool). Part m.tag m.text b) (le-leb (length m.asking.message) (PART_MAX * core.parts) whole)
 
-    pub part_ends : (new : HubCore) → new ≡ record core { urbs = new.urbs; taken = core.taken + 1 } → Knows s (took past head bytes) all new → OneOut new.urbs
+    pub part_ends : (new : HubCore) → new ≡ record core { urbs = new.urbs; taken = core.taken + 1 } → Knows s (took past head bytes) all new → Queued new.urbs
         → length m.asking.message ≤ PART_MAX * core.parts → m.asking.kind ≡ kind.Tell → TicketEnds s (took past head bytes) all new outcome.Done
     part_ends new rest k queue whole tells =
         subst (λ (c : HubCore). TicketEnds s (took past head bytes) all c outcome.Done) (sym rest)
@@ -239,7 +243,7 @@ module _ (s : Setting) (past : Past) (all : List ℕ) (core : HubCore) (head : R
         (ap (λ (ps : List Piece). owed ps (overs core.active (took past head bytes))) part_pieces))
         (subst (λ (c : HubCore). Knows s (took past head bytes) all c) rest k) queue)
 
-    pub part_requests : (new : HubCore) → new ≡ record core { urbs = new.urbs; taken = core.taken + 1 } → Knows s (took past head bytes) all new → OneOut new.urbs
+    pub part_requests : (new : HubCore) → new ≡ record core { urbs = new.urbs; taken = core.taken + 1 } → Knows s (took past head bytes) all new → Queued new.urbs
         → length m.asking.message ≤ PART_MAX * core.parts → m.asking.kind ≡ kind.Ask → RequestIsNext s (took past head bytes) all new
     part_requests new rest k queue whole asks =
         subst (λ (c : HubCore). RequestIsNext s (took past head bytes) all c) (sym rest) (record {
@@ -273,20 +277,15 @@ pub seen_asking : (s : Setting) (past : Past) (all : List ℕ) (core : HubCore) 
     → asking_of core.active past ≡ Some asking → asking_seen seen ≡ asking
 seen_asking s past all core seen asking k found asks = same_asking (asking_seen seen) asking (sym (k.shows.each core.active seen found).asking ∙ asks)
 
-pub no_ticket : (s : Setting) (past : Past) (all : List ℕ) (core : HubCore) → Knows s past all core → active past ≡ Some core.active → ticket_of core.active core.book.tickets ≡ None → ⊥
-no_ticket s past all core k turn none =
-    let at : (seen : Seen) × (ticket_of core.active core.book.tickets ≡ Some seen) = seen_there core.book core.active (known_ticket s past all core k turn) in
-    let e : None ≡ Some at.0 = sym none ∙ at.1 in cc
-
 module _ (core new : HubCore) (head : RetSubmitHead) (is : core.phase ≡ phase.Message) (fine : head.status ≡ pos 0) (enough : core.asked ≤ head.actual)
-    (goes : (s : Setting) (past : Past) (sent bytes : List ℕ) → Hears s past sent core head bytes → got core.active (took past head bytes) ≡ got core.active past
-    → Knows s (took past head bytes) sent new) (queue : OneOut new.urbs) (rest : new ≡ record core { urbs = new.urbs; taken = core.taken + 1 })
+    (goes : (s : Setting) (past : Past) (sent bytes : List ℕ) → Hears s past sent core head bytes → ((t : ℕ) → got t (took past head bytes) ≡ got t past)
+    → Knows s (took past head bytes) sent new) (queue : Queued new.urbs) (rest : new ≡ record core { urbs = new.urbs; taken = core.taken + 1 })
     (seen : Seen) (found : ticket_of core.active core.book.tickets ≡ Some seen) (s : Setting) (past : Past) (all bytes : List ℕ) (h : HearsOut s past all core head bytes) where
   abbrev now_message : IsInMessage s past core
   now_message = in_message s past all core head bytes h is
 
   knows_now : Knows s (took past head bytes) all new
-  knows_now = goes s past all bytes (part_hears s past all core head bytes h now_message fine) (part_got s past all core head bytes h now_message fine enough)
+  knows_now = goes s past all bytes (part_hears s past all core head bytes h now_message fine) (part_still s past all core head bytes h now_message fine enough)
 
   asking_now : asking_seen seen ≡ now_message.asking
   asking_now = seen_asking s past all core seen now_message.asking h.rests.knows found now_message.out.asks

@@ -19,13 +19,14 @@ use Rattle.host_hub.specs.Steps.{Speaks, wrote}
 use Rattle.host_hub.specs.Knows.{Knows}
 use Rattle.host_hub.specs.Stands.{IsOut}
 use Rattle.host_hub.specs.Writes.{Ends, GoesOn, Puts}
-use Rattle.host_hub.proofs.Begins.{none_entries, none_taken, out_now, same_device, same_next, speaks}
+use Rattle.host_hub.proofs.Begins.{none_entries, none_taken, same_device, same_next, speaks}
 use Rattle.host_hub.proofs.Clean.{clean_writes}
 use Rattle.host_hub.proofs.Entries.{submit_may}
 use Rattle.host_hub.proofs.Lists.{own}
 use Rattle.host_hub.proofs.Quiets.{listens_wrote}
 use Rattle.host_hub.proofs.Stepping.{goes_on_planned, written_kept}
 use Rattle.host_hub.proofs.Wrote.{knows_wrote, starts_begun}
+use Rattle.host_hub.proofs.Queues.{queued_wrote}
 
 -- a submit that is the next of a plan
 pub record IsNext (s : Setting) (past : Past) (core : HubCore) (asking : Asking) (order : Order) : Type 0 where
@@ -80,5 +81,5 @@ next_out s past sent core asking split order u g q r b p a w n puts count size =
   clean = clean_writes s past core.active split order w.clean n.submits;
   counted = rw (own core.active) (ap (λ (k : ℕ). k + is_part order) w.counted ∙ count);
   whole = size;
-  queue = out_now (message_of s core.urbs.next order) core.urbs u (none_entries s past sent core w.working.lawful w.knows w.none_out) puts.written;
+  queue = queued_wrote (message_of s core.urbs.next order) core.urbs u puts.written;
 }

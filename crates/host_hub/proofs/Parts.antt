@@ -19,6 +19,7 @@ use Rattle.host_hub.proofs.Lists.{own}
 use Rattle.host_hub.proofs.Begins.{asking_seen, exhausted_kept, none_entries, same_next, same_tag, stopped_goes}
 use Rattle.host_hub.proofs.Knowing.{known_ticket, seen_there}
 use Rattle.host_hub.proofs.Nexts.{IsNext, behind, next_kept, next_knows, next_out, next_planned}
+use Rattle.host_hub.proofs.Queues.{queued_none}
 
 -- ---- what is seen of the ticket is what it asks for
 
@@ -53,7 +54,7 @@ part_can s past sent core p few =
         turn = p.goes.turn;
         asks = p.goes.asks;
         none = none;
-        nothing = p.goes.queue.none none;
+        nothing = queued_none core.urbs none p.goes.queue;
         last = few;
       };
       there = p.left;

@@ -15,7 +15,7 @@ use Rattle.host_hub.specs.declared.outcome.End.TheVariants as end
 use Rattle.host_hub.specs.declared.outcome.Outcome.TheVariants as outcome
 use Rattle.host_hub.specs.declared.kind.Kind.{Kind}
 use Rattle.host_hub.specs.declared.outcome.Outcome.{Outcome}
-use Rattle.host_hub.specs.BookSeen.{Seen, ticket_of}
+use Rattle.host_hub.specs.BookSeen.{Seen, ticket_of, IsTicket}
 use Rattle.host_hub.specs.Order.{Order, Read, Setting}
 use Rattle.host_hub.specs.Record.{Asking, Past, Took, Settled}
 use Rattle.host_hub.specs.Crossings.{crossings}
@@ -28,7 +28,7 @@ use Rattle.host_hub.specs.Plan.{behind_read, follows, next_tag, parts, request_o
 use Rattle.host_hub.specs.Law.{Lawful}
 use Rattle.host_hub.specs.Steps.{Comes, took}
 use Rattle.host_hub.specs.Knows.{Knows}
-use Rattle.host_hub.specs.OneOut.{OneOut}
+use Rattle.host_hub.specs.Queued.{Queued}
 use Rattle.host_hub.specs.Stands.{IsInResponse, Stands}
 use Rattle.host_hub.specs.Writes.{GoesOn, ReadIsNext, RequestIsNext}
 use Rattle.host_hub.specs.Hears.{Hears, HearsOut, PieceEnds, TicketEnds}
@@ -116,10 +116,9 @@ hears_placed : (s : Setting) (past : Past) (all : List ℕ) (core : HubCore) (he
 hears_placed s past all core head bytes a h = record {
   knows = knows_place s past all core core.phase core.parts core.asked a h.knows;
   lawful = h.lawful;
-  turn = h.turn;
-  order = h.order;
+  submit = h.submit;
+  found = h.found;
   plain = h.plain;
-  alone = h.alone;
   queue = h.queue;
   raw = h.raw;
   spelled = h.spelled;
@@ -157,6 +156,10 @@ ends_placed s past all core o a e = record {
 pub in_response : (s : Setting) (past : Past) (all : List ℕ) (core : HubCore) (head : RetSubmitHead) (bytes : List ℕ) → HearsOut s past all core head bytes → core.phase ≡ phase.Response
     → IsInResponse s past core
 in_response s past all core head bytes h is = subst (λ (p : Phase). Stands p s past core) is (h.rests.stands h.running)
+
+pub response_ticket : (s : Setting) (past : Past) (all : List ℕ) (core : HubCore) (head : RetSubmitHead) (bytes : List ℕ) → core.phase ≡ phase.Response
+    → HearsOut s past all core head bytes → IsTicket core.book core.active
+response_ticket s past all core head bytes is h = known_ticket s past all core h.rests.knows (in_response s past all core head bytes h is).out.turn
 
 good_none : (said : assembly_piece.Piece) → IsGood said → refused_by said ≡ None
 good_none (Data from to) g = refl
@@ -267,7 +270,7 @@ module _ (laws : Assembles) (core : HubCore) (head : RetSubmitHead) (is : core.p
     module _ (a : assembly.Held) (new : HubCore)
         (crossed : (s : Setting) (past : Past) (sent bytes : List ℕ) → Hears s past sent (record core { assembly = a }) head bytes
         → Follows s.first (urbs.Took (down.RetSubmit head bytes) ∷ crossings s past) sent new.urbs)
-        (device : new.urbs.devid ≡ core.urbs.devid) (queue : OneOut new.urbs)
+        (device : new.urbs.devid ≡ core.urbs.devid) (queue : Queued new.urbs)
         (book : (seen : Seen) → ticket_of core.active core.book.tickets ≡ Some seen
         → new.book ≡ with_seen core.active (record seen { bytes = seen.bytes ++ given_by said bytes }) core.book)
         (rest : new ≡ record core { assembly = a; urbs = new.urbs; book = new.book; taken = core.taken + 1 }) where

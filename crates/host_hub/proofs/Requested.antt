@@ -18,7 +18,7 @@ use Rattle.host_hub.specs.Ends.{as_end, ends_by}
 use Rattle.host_hub.specs.Plan.{follows, next_tag, parts}
 use Rattle.host_hub.specs.Steps.{Comes, took}
 use Rattle.host_hub.specs.Knows.{Knows}
-use Rattle.host_hub.specs.OneOut.{OneOut}
+use Rattle.host_hub.specs.Queued.{Queued}
 use Rattle.host_hub.specs.Stands.{IsInRequest, Stands}
 use Rattle.host_transfers.specs.Assembly as assembly
 use Rattle.host_hub.specs.Writes.{ReadIsNext}
@@ -27,6 +27,7 @@ use Rattle.host_hub.proofs.Answering.{HeardOut, answered_out, ends_fine, heard_o
 use Rattle.host_hub.proofs.PlainAnswers.{Answered, pieces_out, pieces_took}
 use Rattle.host_hub.proofs.Makes.{due_fine, made_fine, short_out, whole_out}
 use Rattle.host_hub.proofs.Taken.{out_comes, out_goes_on}
+use Rattle.host_hub.proofs.Heard.{got_still}
 
 unmade_request : (k : Kind) (limit tag size : ℕ) (bytes : List ℕ) (now : Standing) → served k limit (Request tag size) bytes now ≡ None
 unmade_request kind.Ask limit tag size bytes now = refl
@@ -72,10 +73,11 @@ module _ (core : HubCore) (head : RetSubmitHead) (is : core.phase ≡ phase.Requ
           ∙ ap as_end (whole_out (size_of s.ends request_order) head.actual (subst (λ (n : ℕ). n ≤ head.actual) now_request.out.whole enough)))
 
       pub request_reads : (new : HubCore)
-          → ((s : Setting) (past : Past) (sent bytes : List ℕ) → Hears s past sent core head bytes → got core.active (took past head bytes) ≡ got core.active past
-          → Knows s (took past head bytes) sent new) → OneOut new.urbs → new ≡ record core { urbs = new.urbs; taken = core.taken + 1 } → ReadIsNext s (took past head bytes) all new
+          → ((s : Setting) (past : Past) (sent bytes : List ℕ) → Hears s past sent core head bytes → ((t : ℕ) → got t (took past head bytes) ≡ got t past)
+          → Knows s (took past head bytes) sent new) → Queued new.urbs → new ≡ record core { urbs = new.urbs; taken = core.taken + 1 } → ReadIsNext s (took past head bytes) all new
       request_reads new goes queue rest =
-          let k : Knows s (took past head bytes) all new = goes s past all bytes request_hears (ap data_in request_pieces) in
+          let k : Knows s (took past head bytes) all new = goes s past all bytes request_hears
+          (got_still past core.active now_request.out.number request_order head bytes request_comes.found (ap data_in request_pieces)) in
           subst (λ (c : HubCore). ReadIsNext s (took past head bytes) all c) (sym rest) (record {
             asking = now_request.asking;
             asks = now_request.asks;

@@ -24,6 +24,7 @@ use Rattle.host_hub.proofs.Knowing.{known_ticket, seen_there}
 use Rattle.host_hub.proofs.Nexts.{IsNext, behind, next_kept, next_knows, next_out}
 use Rattle.host_hub.proofs.Parts.{seen_asks}
 use Rattle.host_hub.proofs.Putting.{nothing_ends}
+use Rattle.host_hub.proofs.Queues.{queued_none}
 
 -- ---- a request
 
@@ -58,7 +59,7 @@ request_can s past sent core p few =
         turn = p.goes.turn;
         asks = p.goes.asks;
         none = none;
-        nothing = p.goes.queue.none none;
+        nothing = queued_none core.urbs none p.goes.queue;
         last = few;
       };
       left = λ seen found.
@@ -130,7 +131,7 @@ read_can s past sent core p few =
         turn = p.goes.turn;
         asks = p.goes.asks;
         none = none;
-        nothing = p.goes.queue.none none;
+        nothing = queued_none core.urbs none p.goes.queue;
         last = few;
       },
     )

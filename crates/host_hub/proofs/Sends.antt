@@ -20,7 +20,7 @@ use Rattle.host_hub.specs.Law.{Kept, StopLaw}
 use Rattle.host_hub.specs.Steps.{settle_all}
 use Rattle.host_hub.specs.Tied.{MovesNothing}
 use Rattle.host_hub.specs.Knows.{HasBook, Knows}
-use Rattle.host_hub.specs.OneOut.{OneOut}
+use Rattle.host_hub.specs.Queued.{Queued}
 use Rattle.host_hub.specs.Stands.{IsOut, Rests, Stands}
 use Rattle.host_hub.specs.Fed.{IsStopped}
 use Rattle.host_hub.proofs.Begins.{ended_rests}
@@ -59,7 +59,7 @@ knows_aside s past all sent core u r k follows same = record {
 }
 
 abbrev out_aside : (s : Setting) (past : Past) (core : HubCore) (asking : Asking) (order : Order) (split : _) (u : Held) (r : down_fed.Held) → IsOut s past core asking order split
-    → (OneOut core.urbs → OneOut u) → IsOut s past (aside core u r) asking order split
+    → (Queued core.urbs → Queued u) → IsOut s past (aside core u r) asking order split
 out_aside s past core asking order split u r o queue = record {
   turn = o.turn;
   begun = o.begun;
@@ -74,7 +74,7 @@ out_aside s past core asking order split u r o queue = record {
   queue = queue o.queue;
 }
 
-stands_aside : (p : Phase) (s : Setting) (past : Past) (core : HubCore) (u : Held) (r : down_fed.Held) → Stands p s past core → (OneOut core.urbs → OneOut u) → Stands p s past (aside core u r)
+stands_aside : (p : Phase) (s : Setting) (past : Past) (core : HubCore) (u : Held) (r : down_fed.Held) → Stands p s past core → (Queued core.urbs → Queued u) → Stands p s past (aside core u r)
 stands_aside phase.Idle s past core u r i queue = record { none = i.none; nothing = i.nothing; recovered = i.recovered; queue = queue i.queue }
 stands_aside phase.Message s past core u r m queue = record {
   asking = m.asking;
@@ -110,7 +110,7 @@ stands_aside phase.Response s past core u r m queue = record {
 }
 
 pub rests_aside : (s : Setting) (past : Past) (all sent : List ℕ) (core : HubCore) (u : Held) (r : down_fed.Held) → Rests s past all core → Follows s.first (crossings s past) sent u
-    → u.devid ≡ core.urbs.devid → (OneOut core.urbs → OneOut u) → Rests s past sent (aside core u r)
+    → u.devid ≡ core.urbs.devid → (Queued core.urbs → Queued u) → Rests s past sent (aside core u r)
 rests_aside s past all sent core u r h follows same queue = record {
   knows = knows_aside s past all sent core u r h.knows follows same;
   kept = h.kept;
@@ -118,42 +118,6 @@ rests_aside s past all sent core u r h follows same queue = record {
 }
 
 -- ---- bytes are sent
-
-none_moved : (n : ℕ) (es : List Entry) → moved n es ≡ [] → es ≡ []
-none_moved n [] e = refl
-none_moved n (x ∷ es) e = absurd (no e)
-  where
-    no : record { message = x.message; unsent = x.unsent - n } ∷ moved n es ≡ [] → ⊥
-    no k = cc
-
-one_moved : (n : ℕ) (es : List Entry) (y : Entry) → moved n es ≡ y ∷ [] → (x : Entry) × (es ≡ x ∷ []) × (y.unsent ≡ x.unsent - n)
-one_moved n [] y e = absurd (no e)
-  where
-    no : [] ≡ y ∷ [] → ⊥
-    no k = cc
-one_moved n (x ∷ []) y e = (x, refl, ap (λ (z : Entry). z.unsent) (sym (same e)))
-  where
-    same : record { message = x.message; unsent = x.unsent - n } ∷ [] ≡ y ∷ [] → record { message = x.message; unsent = x.unsent - n } ≡ y
-    same k = cc
-one_moved n (x ∷ (z ∷ es)) y e = absurd (no e)
-  where
-    no : record { message = x.message; unsent = x.unsent - n } ∷ (record { message = z.message; unsent = z.unsent - n } ∷ moved n es) ≡ y ∷ [] → ⊥
-    no k = cc
-
-none_dropped : (n : ℕ) (xs : List ℕ) → xs ≡ [] → drop n xs ≡ []
-none_dropped n xs e = short (drop n xs) (omega (arith, length-drop n xs, ap (λ (l : List ℕ). length l) e))
-  where
-    short : (ys : List ℕ) → length ys ≡ 0 → ys ≡ []
-    short [] k = refl
-    short (y ∷ ys) k = absurd (omega (arith, k))
-
-pub queue_sent : (n : ℕ) (old new : Held) → new ≡ record old { entries = moved n old.entries; outbox = drop n old.outbox } → OneOut old → OneOut new
-queue_sent n old new is q = subst OneOut (sym is) (record {
-  none = λ e. none_dropped n old.outbox (q.none (none_moved n old.entries e));
-  one = λ y e.
-      (let x = one_moved n old.entries y e in
-      omega (arith, x.2, q.one x.0 x.1, length-drop n old.outbox));
-})
 
 -- ---- the link ends it
 

@@ -21,7 +21,7 @@ use Rattle.host_hub.specs.Ends.{end_due, ends_by}
 use Rattle.host_hub.specs.Shown.{ShowsBook, ShowsTicket}
 use Rattle.host_hub.specs.Steps.{Comes, took}
 use Rattle.host_hub.specs.Knows.{Knows}
-use Rattle.host_hub.specs.OneOut.{OneOut}
+use Rattle.host_hub.specs.Queued.{Queued}
 use Rattle.host_hub.specs.Stands.{IsOut, Rests}
 use Rattle.host_hub.specs.Writes.{GoesOn}
 use Rattle.host_hub.proofs.Clean.{clean_answers}
@@ -120,7 +120,7 @@ knows_took s past sent core n order head bytes seen u b k found out plain follow
 pub out_goes_on : (s : Setting) (past : Past) (sent : List ℕ) (core : HubCore) (asking : Asking) (order : Order) (split : Bool) (head : RetSubmitHead) (bytes : List ℕ) (u : Held)
     (b : BookSeen) → Rests s past sent core → core.end ≡ None → (o : IsOut s past core asking order split) → Comes s past core.active o.number order head bytes → head.seqnum ≡ o.number
     → head.status ≡ pos 0 → made_at s core.active past (Took (down.RetSubmit head bytes)) ≡ None → end_due (took past head bytes) ≡ None
-    → Knows s (took past head bytes) sent (record core { urbs = u; book = b; taken = core.taken + 1 }) → OneOut u
+    → Knows s (took past head bytes) sent (record core { urbs = u; book = b; taken = core.taken + 1 }) → Queued u
     → GoesOn s (took past head bytes) sent (record core { urbs = u; book = b; taken = core.taken + 1 }) asking (split_at order split)
 out_goes_on s past sent core asking order split head bytes u b r running o comes same fine unmade free k queue =
     let over : ended past ≡ None = sym r.knows.over ∙ running in

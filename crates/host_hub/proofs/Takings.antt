@@ -37,7 +37,7 @@ use Rattle.host_hub.specs.Law.{ByBytes}
 use Rattle.host_hub.specs.Steps.{settle_all}
 use Rattle.host_hub.specs.Tied.{IsDueIn, IsRefused, NothingLies, Received, below, entries_sent, seqnum_of, spelled, stopped, takes_all, takes_all_by}
 use Rattle.host_hub.specs.Knows.{HasBook, Knows}
-use Rattle.host_hub.specs.OneOut.{OneOut}
+use Rattle.host_hub.specs.Queued.{Queued}
 use Rattle.host_hub.specs.Stands.{Rests, Stands}
 use Rattle.host_hub.specs.Hears.{GoesByAnswer, HearsOut, IsBehind, OfItself, Takes}
 use Rattle.host_hub.specs.Fed.{Fed, FedAnswer, Feeds}
@@ -55,7 +55,7 @@ use Rattle.host_hub.proofs.Tying.{tied_got}
 
 -- ---- where a hub runs, at most one submit is out
 
-pub at_most : (p : Phase) (s : Setting) (past : Past) (core : HubCore) → Stands p s past core → AtMost past × OneOut core.urbs
+pub at_most : (p : Phase) (s : Setting) (past : Past) (core : HubCore) → Stands p s past core → AtMost past × Queued core.urbs
 at_most phase.Idle s past core i = (Nothing i.nothing, i.queue)
 at_most phase.Message s past core m = (Single _ refl m.out.alone, m.out.queue)
 at_most phase.Request s past core m = (Single _ refl m.out.alone, m.out.queue)
@@ -242,7 +242,7 @@ none_some e k = absurd (no k)
 module _ (rows : Rows) (core : HubCore) (piece : List ℕ) (step : DownStep) (r : down_fed.Held) (es : List Outstanding)
     (same : es ≡ entries_of (entries.sent core.urbs.entries)) (fed : down_fed.Fed core.reader es piece step r)
     (s : Setting) (past : Past) (sent received rest : List ℕ) (count : ℕ) (f : Feeds s past sent received rest count core) where
-  stands_so_far : AtMost past × OneOut core.urbs
+  stands_so_far : AtMost past × Queued core.urbs
   stands_so_far = at_most core.phase s past core (f.rests.stands f.running)
 
   here : es ≡ entries_sent s past count

@@ -26,24 +26,23 @@ use Rattle.host_hub.specs.Record.{Asking, Fell, Happening, Of, Past, Settled, St
 use Rattle.host_hub.specs.Hand.{in_hand}
 use Rattle.host_hub.specs.Recovery.{AreRecovered}
 use Rattle.host_hub.specs.Steps.{Working}
-use Rattle.host_hub.specs.Outstanding.{outstanding}
+use Rattle.host_hub.specs.Outstanding.{outstanding, Sent, find}
 use Rattle.host_hub.specs.Book.{active, asking_of}
 use Rattle.host_hub.specs.Law.{Lawful}
 use Rattle.host_hub.specs.Calls.{All}
 use Rattle.host_hub.specs.Joined.{IsPlain}
 use Rattle.host_hub.specs.Stands.{Rests}
 use Rattle.host_hub.specs.Knows.{Knows}
-use Rattle.host_hub.specs.OneOut.{OneOut}
+use Rattle.host_hub.specs.Queued.{Queued}
 
--- one submit is out, the active ticket's, and these bytes are the answer to it with this data
+-- a submit is out, and these bytes are the answer to it with this data
 pub record Hears (s : Setting) (past : Past) (sent : List ℕ) (core : HubCore) (head : RetSubmitHead) (bytes : List ℕ) : Type 0 where
   pub knows : Knows s past sent core
   pub lawful : Lawful s past
-  pub turn : active past ≡ Some core.active
-  pub order : Order
-  pub plain : is_listen order ≡ false
-  pub alone : outstanding past ≡ record { number = head.seqnum; owner = Of core.active; order = order } ∷ []
-  pub queue : OneOut core.urbs
+  pub submit : Sent
+  pub found : find head.seqnum (outstanding past) ≡ Some submit
+  pub plain : is_listen submit.order ≡ false
+  pub queue : Queued core.urbs
   pub raw : List ℕ
   pub spelled : SpellsAnswer (entries_of (entries.sent core.urbs.entries)) (down.RetSubmit head bytes) raw
 
@@ -78,7 +77,7 @@ pub record TicketEnds (s : Setting) (past : Past) (sent : List ℕ) (core : HubC
   pub hand : in_hand past ≡ Some core.active
   pub none_out : outstanding past ≡ []
   pub recovered : AreRecovered (Settled core.active outcome ∷ past)
-  pub queue : OneOut core.urbs
+  pub queue : Queued core.urbs
 
 pub record IsTicketEnd (core : HubCore) (outcome : Outcome) : Type 0 where
   pub setting : Setting

@@ -30,7 +30,7 @@ pub mod Shown
 pub mod Tied
 pub mod Proper
 pub mod Knows
-pub mod OneOut
+pub mod Queued
 pub mod Stands
 pub mod Writes
 pub mod Asks

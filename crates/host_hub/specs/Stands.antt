@@ -20,14 +20,14 @@ use Rattle.host_hub.specs.Calls.{AddsGivingUp, All, IsOwn}
 use Rattle.host_hub.specs.Joined.{IsPlain}
 use Rattle.host_hub.specs.Steps.{IsClean}
 use Rattle.host_hub.specs.Knows.{Knows}
-use Rattle.host_hub.specs.OneOut.{OneOut}
+use Rattle.host_hub.specs.Queued.{Queued}
 
 -- no ticket is live, and nothing is out
 pub record IsIdle (past : Past) (core : HubCore) : Type 0 where
   pub none : live past ≡ []
   pub nothing : outstanding past ≡ []
   pub recovered : AreRecovered past
-  pub queue : OneOut core.urbs
+  pub queue : Queued core.urbs
 
 -- this submit of the active ticket, which asks for this, is out; `split` says whether the last part of its message that was
 -- accepted is not the one with EOM
@@ -42,7 +42,7 @@ pub record IsOut (s : Setting) (past : Past) (core : HubCore) (asking : Asking) 
   pub clean : IsClean past core.active split
   pub counted : parts core.active past ≡ core.parts
   pub whole : core.asked ≡ size_of s.ends order
-  pub queue : OneOut core.urbs
+  pub queue : Queued core.urbs
 
 pub record IsInMessage (s : Setting) (past : Past) (core : HubCore) : Type 0 where
   pub asking : Asking

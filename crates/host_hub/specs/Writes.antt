@@ -21,7 +21,7 @@ use Rattle.host_transfers.specs.Assembly.{Holds}
 use Rattle.host_hub.specs.declared.kind.Kind.TheVariants as kind
 use Rattle.host_hub.specs.Pieces.{Piece, data_in, pieces}
 use Rattle.host_hub.specs.Knows.{Knows}
-use Rattle.host_hub.specs.OneOut.{OneOut}
+use Rattle.host_hub.specs.Queued.{Queued}
 
 -- nothing is out, there is a number for a submit, and the active ticket asks for this
 pub record CanWrite (core : HubCore) (asking : Asking) : Type 0 where
@@ -61,7 +61,7 @@ pub record Ready (s : Setting) (past : Past) (sent : List ℕ) (core : HubCore) 
   pub fresh : is_begun core.active past ≡ false
   pub none_out : outstanding past ≡ []
   pub recovered : AreRecovered past
-  pub queue : OneOut core.urbs
+  pub queue : Queued core.urbs
 
 pub record IsReady (core : HubCore) : Type 0 where
   pub setting : Setting
@@ -81,7 +81,7 @@ pub record GoesOn (s : Setting) (past : Past) (sent : List ℕ) (core : HubCore)
   pub none_out : outstanding past ≡ []
   pub clean : IsClean past core.active split
   pub counted : parts core.active past ≡ core.parts
-  pub queue : OneOut core.urbs
+  pub queue : Queued core.urbs
 
 -- its message goes on
 pub record PartIsNext (s : Setting) (past : Past) (sent : List ℕ) (core : HubCore) : Type 0 where
@@ -151,7 +151,7 @@ pub record Done (s : Setting) (past : Past) (sent : List ℕ) (core : HubCore) :
   pub hand : IsHandOver (in_hand past) past
   pub none_out : outstanding past ≡ []
   pub recovered : AreRecovered past
-  pub queue : OneOut core.urbs
+  pub queue : Queued core.urbs
 
 pub record IsDone (core : HubCore) : Type 0 where
   pub setting : Setting

@@ -21,7 +21,7 @@ ghost use Rattle.host_hub.specs.Stands.{GoesTo};
 ghost use Rattle.host_hub.specs.Steps.{took};
 ghost use Rattle.host_hub.specs.Hears.{GoesByAnswer, Hears, HearsOut, IsHeard, IsHeardOut, IsPieceEnd, IsTicketEnd, PieceEnds, TicketEnds, failed_as};
 ghost use Rattle.host_hub.specs.Knows.{Knows};
-ghost use Rattle.host_hub.specs.OneOut.{OneOut};
+ghost use Rattle.host_hub.specs.Queued.{Queued};
 
 use crate::hub_core::{HubCore, Phase, Race, Submit};
 use crate::transfers::pieces_are_assembled;
@@ -225,7 +225,7 @@ impl HubCore {
             → Follows s.first (urbs.Took (down.RetSubmit head bytes) ∷ crossings s past) sent self.new.urbs }
         ensures device { self.new.urbs.devid ≡ self.old.urbs.devid }
         ensures outbox { self.new.urbs.outbox ≡ self.old.urbs.outbox }
-        ensures queue { OneOut self.new.urbs }
+        ensures queue { Queued self.new.urbs }
         ensures book { (seen : Seen) → ticket_of self.old.active self.old.book.tickets ≡ Some seen
             → self.new.book ≡ with_seen self.old.active (record seen { bytes = seen.bytes ++ slice_range (data_of self.old.reader) from to }) self.old.book }
         ensures rest { self.new ≡ record self.old { urbs = self.new.urbs; book = self.new.book; taken = self.old.taken + 1 } }
@@ -239,12 +239,12 @@ impl HubCore {
     /// The submit that this answers is out no more.
     pub(crate) fn take(&mut self, head: RetSubmitHead)
         requires { IsHeard self.old head }
-        ensures goes { (s : Setting) (past : Past) (sent bytes : List ℕ) → Hears s past sent self.old head bytes → got self.old.active (took past head bytes) ≡ got self.old.active past
-            → Knows s (took past head bytes) sent self.new }
+        ensures goes { (s : Setting) (past : Past) (sent bytes : List ℕ) → Hears s past sent self.old head bytes
+            → ((t : ℕ) → got t (took past head bytes) ≡ got t past) → Knows s (took past head bytes) sent self.new }
         ensures follows { (s : Setting) (past : Past) (sent bytes : List ℕ) → Hears s past sent self.old head bytes
             → Follows s.first (urbs.Took (down.RetSubmit head bytes) ∷ crossings s past) sent self.new.urbs }
         ensures device { self.new.urbs.devid ≡ self.old.urbs.devid }
-        ensures queue { OneOut self.new.urbs }
+        ensures queue { Queued self.new.urbs }
         ensures outbox { self.new.urbs.outbox ≡ self.old.urbs.outbox }
         ensures rest { self.new ≡ record self.old { urbs = self.new.urbs; taken = self.old.taken + 1 } }
     {

@@ -2,7 +2,8 @@ use Rattle.std.proofs.Common.{◌∙◌, ℕ, List, length, sym, ap, arith}
 use Rattle.usbip_wire.specs.DownFed.{data_of}
 use Rattle.host_hub.specs.Stands.{IsInMessage}
 use Rattle.host_hub.specs.Steps.{took}
-use Rattle.host_hub.proofs.Makes.{goes_behind, in_message, no_ticket, part_heard, part_hears, part_short, then_ends, then_part, then_requests}
+use Rattle.host_hub.proofs.Knowing.{never_none}
+use Rattle.host_hub.proofs.Makes.{goes_behind, in_message, part_heard, part_hears, part_short, then_ends, then_part, then_requests}
 use Rattle.host_hub.proofs.hub_core.HubCore.part_answered.Goals as goal
 
 pub fall-requires-clause-heard : goal.fall-requires-clause-heard
@@ -29,7 +30,7 @@ pub unreachable-requires : goal.unreachable-requires
 unreachable-requires c =
     let k = c.requires.heard in
     let m : IsInMessage k.setting k.past c.args.self.now = in_message k.setting k.past k.sent c.args.self.now c.args.head (data_of c.args.self.now.reader) k.out c.requires.phase in
-    no_ticket k.setting k.past k.sent c.args.self.now k.out.rests.knows m.out.turn c.in_default.ensures
+    never_none k.setting k.past k.sent c.args.self.now k.out.rests.knows m.out.turn c.in_default.ensures
 
 pub take-requires : goal.take-requires
 take-requires c =

@@ -1,5 +1,5 @@
 use Rattle.std.proofs.Common.{◌∙◌, ℕ, List, length, sym, ap}
-use Rattle.host_hub.proofs.Makes.{no_ticket}
+use Rattle.host_hub.proofs.Knowing.{never_none}
 use Rattle.host_hub.proofs.Readings.{piece_completes, piece_fills, piece_requests}
 use Rattle.host_hub.proofs.hub_core.HubCore.piece_ended.Goals as goal
 
@@ -12,7 +12,7 @@ pub returns-then-eom-clause-goes : goal.returns-then-eom-clause-goes
 returns-then-eom-clause-goes c = λ s past sent p. c.finish.ensures.goes s past sent (piece_completes s past sent c.args.self.now c.args.eom p c.if-eom.true)
 
 pub unreachable-requires : goal.unreachable-requires
-unreachable-requires c = no_ticket c.requires.setting c.requires.past c.requires.sent c.args.self.now c.requires.ends.knows c.requires.ends.turn c.in_default.ensures
+unreachable-requires c = never_none c.requires.setting c.requires.past c.requires.sent c.args.self.now c.requires.ends.knows c.requires.ends.turn c.in_default.ensures
 
 pub finish-requires-then-view-clause-ends : goal.finish-requires-then-view-clause-ends
 finish-requires-then-view-clause-ends c =

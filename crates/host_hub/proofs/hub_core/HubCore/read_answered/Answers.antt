@@ -6,8 +6,7 @@ use Rattle.host_transfers.specs.Assembly.{Holds, Says, is_over}
 use Rattle.host_transfers.specs.declared.piece.Piece.TheVariants.{Bad, Data, Ended}
 use Rattle.host_hub.specs.Steps.{took}
 use Rattle.host_hub.proofs.Makes.{goes_behind}
-use Rattle.host_hub.proofs.Knowing.{known_ticket}
-use Rattle.host_hub.proofs.Readings.{Assembles, few_bytes, given_length, now_holds, read_bad, read_ends, read_reads, read_room, response_heard, response_hears}
+use Rattle.host_hub.proofs.Readings.{Assembles, few_bytes, given_length, now_holds, read_bad, read_ends, read_reads, read_room, response_heard, response_hears, response_ticket}
 use Rattle.host_hub.proofs.hub_core.HubCore.read_answered.Goals as goal
 
 pub fall-requires-clause-heard : goal.fall-requires-clause-heard
@@ -67,14 +66,12 @@ returns-in-Bad-clause-goes c = λ s past sent h.
     (c.in-Bad.ensures.says before holds)) s past sent h c.in-Bad.field refl)
 
 pub keep-requires-clause-there : goal.keep-requires-clause-there
-keep-requires-clause-there c =
-    let h = keep-requires-clause-heard c in
-    known_ticket h.setting h.past h.sent (record c.args.self.now { assembly = c.feed.new.self }) h.hears.knows h.hears.turn
+keep-requires-clause-there c = let k = c.requires.heard in response_ticket k.setting k.past k.sent c.args.self.now c.args.head (data_of c.args.self.now.reader) c.requires.phase k.out
 
 pub keep-requires-in-Ended-clause-there : goal.keep-requires-in-Ended-clause-there
 keep-requires-in-Ended-clause-there c =
-    let h = keep-requires-in-Ended-clause-heard c in
-    known_ticket h.setting h.past h.sent (record c.args.self.now { assembly = c.feed.new.self }) h.hears.knows h.hears.turn
+    let k = c.requires.heard in
+    response_ticket k.setting k.past k.sent c.args.self.now c.args.head (data_of c.args.self.now.reader) c.requires.phase k.out
 
 pub keep-requires-clause-room : goal.keep-requires-clause-room
 keep-requires-clause-room c = λ seen found.

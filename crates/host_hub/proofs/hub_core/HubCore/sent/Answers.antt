@@ -1,7 +1,8 @@
 use Rattle.std.proofs.Common.{◌++◌, ap, take}
 use Rattle.host_urbs.specs.Held.{Held}
 use Rattle.host_hub.specs.Crossings.{crossings}
-use Rattle.host_hub.proofs.Sends.{queue_sent, rests_aside}
+use Rattle.host_hub.proofs.Queues.{queue_sent}
+use Rattle.host_hub.proofs.Sends.{rests_aside}
 use Rattle.host_hub.proofs.hub_core.HubCore.sent.Goals as goal
 
 pub returns-clause-goes : goal.returns-clause-goes

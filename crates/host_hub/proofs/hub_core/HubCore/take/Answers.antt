@@ -2,7 +2,8 @@ use Rattle.std.proofs.Common.{ap, arith}
 use Rattle.std.specs.Prelude.{is_some}
 use Rattle.host_urbs.specs.Held.{Held}
 use Rattle.host_hub.specs.Crossings.{crossings}
-use Rattle.host_hub.proofs.Heard.{knows_taken, queue_taken, taken_fits}
+use Rattle.host_hub.proofs.Heard.{knows_taken, taken_fits}
+use Rattle.host_hub.proofs.Queues.{queue_taken}
 use Rattle.host_hub.proofs.hub_core.HubCore.take.Goals as goal
 
 pub overflow_add-self : goal.overflow_add-self
@@ -18,7 +19,8 @@ returns-clause-goes c = λ s past sent bytes h same.
 pub returns-clause-queue : goal.returns-clause-queue
 returns-clause-queue c =
     let k = c.requires in
-    queue_taken k.setting k.past k.sent c.args.self.now c.args.head k.bytes c.answer.new.self k.hears (ap is_some k.hears.spelled.1) c.answer.ensures.taken
+    queue_taken k.setting.first (crossings k.setting k.past) k.sent c.args.head.seqnum c.args.self.now.urbs c.answer.new.self k.hears.knows.follows k.hears.queue
+    (ap is_some k.hears.spelled.1) c.answer.ensures.taken
 
 pub returns-clause-follows : goal.returns-clause-follows
 returns-clause-follows c = λ s past sent bytes h. c.answer.ensures.recorded s.first (crossings s past) sent bytes h.raw h.knows.follows h.spelled
