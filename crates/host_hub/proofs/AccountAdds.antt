@@ -12,6 +12,7 @@ use Rattle.host_hub.specs.Order.{Setting}
 use Rattle.host_hub.specs.Record.{Asked, Asking, Cancelled, Cleared, Fell, GaveUp, Happening, Past, Recovers, Settled, Stopped, Took, Wrote}
 use Rattle.host_hub.specs.Refusals.{has_message, limits}
 use Rattle.host_hub.specs.Tied.{MovesNothing, Received, stopped}
+use Rattle.host_hub.specs.Steps.{asked}
 
 -- ---- what a call adds that moves no byte
 
@@ -165,8 +166,10 @@ pub all_joined : (Is : Happening → Type 0) (more past : Past) → All Is more 
 all_joined Is [] past a b = b
 all_joined Is (x ∷ more) past a b = (a.0, all_joined Is more past a.1 b)
 
-pub plain_ask : (past : Past) (asking : Asking) (more : Past) → IsProper asking → (a : AddsAsk past asking more) → All IsPlain a.own → All IsPlain more
-plain_ask past asking more p a plain = subst (All IsPlain) (sym a.is) (all_joined IsPlain a.own (Asked _ asking ∷ []) plain (plain_asking asking p, tt))
+pub plain_ask : (past : Past) (asking : Asking) (more : Past) → IsProper asking → (a : AddsAsk past asking more) → (All IsPlain (asked past asking) → All IsPlain a.own)
+    → All IsPlain past → All IsPlain more
+plain_ask past asking more p a plain before =
+    subst (All IsPlain) (sym a.is) (all_joined IsPlain a.own (Asked _ asking ∷ []) (plain (plain_asking asking p, before)) (plain_asking asking p, tt))
 
 pub plain_giving : (more : Past) → AddsGivingUp more → All IsPlain more
 plain_giving more a = subst (All IsPlain) (sym a.is) (all_joined IsPlain a.own (GaveUp ∷ []) (plain_given a.own a.by_itself) (tt, tt))

@@ -271,7 +271,7 @@ account_stopped laws start now counts s past sent received core new e a running 
   taken = λ all. quiet_lies s stop.more past a.count a.rest a.whole.among stop.rests.kept.lawful none (a.taken (ap (λ (o : Option End). takes_all_by o (stopped past)) running));
   shows = shows_at s (stop.more ++ past) a.count a.rest counts e shown (front_stop stop.more past e stop.stop);
   sum = subst (λ (n : ℕ). n ≤ LIMITS_MAX) (sym (same_limits stop.more past (none_turn stop.more stop.own))) a.sum;
-  plain = all_joined IsPlain stop.more past stop.plain a.plain;
+  plain = all_joined IsPlain stop.more past (stop.plain a.plain) a.plain;
   short = leaves.keeps.short a.short;
   joined = subst (λ (l : List ℕ). StaysJoined s (stop.more ++ past) start now l a.rest)
       (sym (outbox_more s stop.more past sent core.urbs.outbox new.urbs.outbox received a.rest a.rest a.tied (stands_so s (stop.more ++ past) sent new stop.rests.knows)))
@@ -307,7 +307,7 @@ account_fed laws start now later counts after s past sent received bytes core ne
         refused = λ f e. fed.refused f (back_stop fed.more past (end.PeerFault f) none e);
       };
       sum = subst (λ (n : ℕ). n ≤ LIMITS_MAX) (sym (same_limits fed.more past (none_turn fed.more fed.own))) a.sum;
-      plain = all_joined IsPlain fed.more past fed.plain a.plain;
+      plain = all_joined IsPlain fed.more past (fed.plain a.plain) a.plain;
       short = keeps.short a.short;
       joined = subst (λ (l : List ℕ). StaysJoined s (fed.more ++ past) start later l fed.left)
           (sym (outbox_more s fed.more past sent core.urbs.outbox new.urbs.outbox received a.rest a.rest a.tied (stands_so s (fed.more ++ past) sent new fed.rests.knows)))

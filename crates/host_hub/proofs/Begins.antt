@@ -170,6 +170,7 @@ begins_rests s past sent core seen u b q n r few found puts ends size starts =
           asks = asks;
           free = unreached s core.active past (r.working.works.settled core.active (first_has core.active (live past) r.turn)) r.fresh;
           number = next s.first past;
+          names = tt;
           alone = ap (λ (l : List Sent). record { number = next s.first past; owner = Of core.active; order = part_of (next_tag past) 0 seen.message } ∷ l) r.none_out;
           written_last = rw (own core.active) refl;
           clean = clean_begins s past core.active (part_of (next_tag past) 0 seen.message) r.recovered r.fresh refl;
@@ -222,7 +223,7 @@ stopped_goes s past sent core e mine is k kept =
     record {
       more = a.more ++ Stopped e ∷ [];
       by_itself = one_added IsOwn a.more (Stopped e) a.own_all mine;
-      plain = one_added IsPlain a.more (Stopped e) a.plain_all tt;
+      plain = λ before. one_added IsPlain a.more (Stopped e) a.plain_all tt;
       rests = subst (λ (p : Past). Rests s p sent core) same (ended_rests s (settle_all e (live past) (Stopped e ∷ past)) sent core e is k kept);
     }
 
@@ -300,7 +301,7 @@ begins_goes s past sent core new n r few puts ends size rest starts =
     record {
       more = Wrote (next s.first past) (Of core.active) (part_of (next_tag past) 0 at.0.message) ∷ [];
       by_itself = (tt, tt);
-      plain = (tt, tt);
+      plain = λ before. (tt, tt);
       rests = subst (λ (h : HubCore). Rests s (wrote s past core.active (part_of (next_tag past) 0 at.0.message)) sent (record h { notes = n })) (sym rest)
           (rw tag (begins_rests s past sent core at.0 new.urbs new.book new.asked n r few at.1
           (subst (λ (k : ℕ). Puts s (part_of k 0 at.0.message) core.urbs new.urbs) tag (puts s r.knows.device r.knows.interface at.0 at.1))

@@ -61,7 +61,7 @@ done_idle s past sent core d none =
     record {
       more = [];
       by_itself = tt;
-      plain = tt;
+      plain = λ before. tt;
       rests = record {
         knows = knows_place s past sent core phase.Idle core.parts core.asked core.assembly d.knows;
         kept = idle_kept s past d.working (ap first_of nobody) (λ e. d.recovered);

@@ -34,7 +34,7 @@ account_asked laws start now counts s past sent received asking (Ok ticket) core
       record {
         more = e.more;
         adds = e.adds;
-        account = account_entered laws start now counts s past e.more sent received core new a u.running (quiet_ask past asking e.more e.adds) (plain_ask past asking e.more u.proper e.adds e.plain) e.rests
+        account = account_entered laws start now counts s past e.more sent received core new a u.running (quiet_ask past asking e.more e.adds) (plain_ask past asking e.more u.proper e.adds e.plain a.plain) e.rests
             (subst (λ (n : ℕ). n ≤ LIMITS_MAX) (sym (ask_limits past asking e.more e.adds)) u.sum) same short;
       },
     )

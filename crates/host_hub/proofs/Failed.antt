@@ -248,7 +248,7 @@ module _ (core : HubCore) (head : RetSubmitHead) (failed : head.status ≢ pos 0
             more = (a.more ++ Stopped e ∷ []) ++ Settled core.active (failed_as core.ends core.phase head.status) ∷ [];
             behind = all_added IsBehind (a.more ++ Stopped e ∷ []) (Settled core.active (failed_as core.ends core.phase head.status))
                 (all_added IsBehind a.more (Stopped e) (settling_all IsBehind (λ t o. tt) a.more a.settling) tt) tt;
-            plain = all_added IsPlain (a.more ++ Stopped e ∷ []) (Settled core.active (failed_as core.ends core.phase head.status))
+            plain = λ before. all_added IsPlain (a.more ++ Stopped e ∷ []) (Settled core.active (failed_as core.ends core.phase head.status))
                 (all_added IsPlain a.more (Stopped e) (settling_all IsPlain (λ t o. tt) a.more a.settling) tt) tt;
             rests = subst (λ (p : Past). Rests s p all new)
                 (a.same ∙ (sym (append_assoc a.more (Stopped e ∷ []) settled_past)

@@ -136,7 +136,7 @@ fell_goes s past all new m e kept running may ends is k =
       takes = refl;
       more = a.more;
       behind = settling_all IsBehind (λ t o. tt) a.more a.settling;
-      plain = settling_all IsPlain (λ t o. tt) a.more a.settling;
+      plain = λ before. settling_all IsPlain (λ t o. tt) a.more a.settling;
       rests = subst (λ (p : Past). Rests s p all new) a.same
           (ended_rests s (settle_all e (live past) (Fell m e ∷ past)) all new e is k (fell_kept s past m e kept running may ends));
     }

@@ -74,7 +74,7 @@ goes_behind s past all head bytes new g = record {
   takes = refl;
   more = g.more;
   behind = behind_own g.more g.by_itself;
-  plain = g.plain;
+  plain = λ before. g.plain (tt, before);
   rests = g.rests;
 }
 
@@ -87,7 +87,7 @@ pub goes_settled : (s : Setting) (past : Past) (all : List ℕ) (new : HubCore) 
 goes_settled s past all new t o g = record {
   more = g.more ++ Settled t o ∷ [];
   by_itself = one_added IsOwn g.more (Settled t o) g.by_itself tt;
-  plain = one_added IsPlain g.more (Settled t o) g.plain tt;
+  plain = λ before. one_added IsPlain g.more (Settled t o) (g.plain (tt, before)) tt;
   rests = subst (λ (p : Past). Rests s p all new) (sym (append_assoc g.more (Settled t o ∷ []) past)) g.rests;
 }
 

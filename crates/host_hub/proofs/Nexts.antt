@@ -76,6 +76,7 @@ next_out s past sent core asking split order u g q r b p a w n puts count size =
   asks = w.asks;
   free = w.free;
   number = next s.first past;
+  names = tt;
   alone = ap (λ (l : List Sent). record { number = next s.first past; owner = Of core.active; order = order } ∷ l) w.none_out;
   written_last = rw (own core.active) (n.marks (last core.active past));
   clean = clean_writes s past core.active split order w.clean n.submits;

@@ -93,7 +93,7 @@ part_goes s past sent core new p few puts ends size rest =
     record {
       more = Wrote (next s.first past) (Of core.active) (part_of (next_tag past) core.parts p.asking.message) ∷ [];
       by_itself = (tt, tt);
-      plain = (tt, tt);
+      plain = λ before. (tt, tt);
       rests = subst (λ (h : HubCore). Rests s (wrote s past core.active (part_of (next_tag past) core.parts p.asking.message)) sent h) (sym rest)
           (rw tag (part_rests s past sent core at.0 new.urbs new.book new.asked p few at.1
           (subst (λ (m : List ℕ). Puts s (part_of (next_tag past) core.parts m) core.urbs new.urbs) text

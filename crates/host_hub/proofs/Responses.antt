@@ -107,7 +107,7 @@ request_goes s past sent core new p few puts begun size rest =
     record {
       more = Wrote (next s.first past) (Of core.active) (Request (next_tag past) (min (at.0.limit - length at.0.bytes) REQUEST_MAX)) ∷ [];
       by_itself = (tt, tt);
-      plain = (tt, tt);
+      plain = λ before. (tt, tt);
       rests = subst (λ (h : HubCore). Rests s (wrote s past core.active (Request (next_tag past) (min (at.0.limit - length at.0.bytes) REQUEST_MAX))) sent h) (sym rest)
           (rw tag (rw size (request_rests s past sent core at.0 (min (at.0.limit - length at.0.bytes) REQUEST_MAX) new.urbs new.assembly p few at.1 is
           (subst (λ (k : ℕ). Puts s (Request k (min (at.0.limit - length at.0.bytes) REQUEST_MAX)) core.urbs new.urbs) tag (puts s p.goes.knows.device p.goes.knows.interface at.0 at.1))
@@ -167,7 +167,7 @@ read_goes s past sent core new p few puts rest =
     record {
       more = Wrote (next s.first past) (Of core.active) Read ∷ [];
       by_itself = (tt, tt);
-      plain = (tt, tt);
+      plain = λ before. (tt, tt);
       rests = subst (λ (h : HubCore). Rests s (wrote s past core.active Read) sent h) (sym rest)
           (read_rests s past sent core at.0 new.urbs p few at.1 (puts s p.goes.knows.device p.goes.knows.interface));
     }

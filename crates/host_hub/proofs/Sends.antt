@@ -8,6 +8,8 @@ use Rattle.host_urbs.specs.Held.{Held, Follows}
 use Rattle.host_hub.specs.declared.hub_core.HubCore.{HubCore}
 use Rattle.host_hub.specs.declared.hub_core.Phase.{Phase}
 use Rattle.host_hub.specs.declared.hub_core.Phase.TheVariants as phase
+use Rattle.host_hub.specs.declared.hub_core.Race.TheVariants as race
+use Rattle.host_hub.specs.declared.hub_core.Submit.TheVariants as raced
 use Rattle.host_hub.specs.declared.outcome.End.{End}
 use Rattle.host_hub.specs.declared.outcome.End.TheVariants as end
 use Rattle.host_hub.specs.Order.{Order, Setting}
@@ -21,12 +23,15 @@ use Rattle.host_hub.specs.Steps.{settle_all}
 use Rattle.host_hub.specs.Tied.{MovesNothing}
 use Rattle.host_hub.specs.Knows.{HasBook, Knows}
 use Rattle.host_hub.specs.Queued.{Queued}
-use Rattle.host_hub.specs.Stands.{IsOut, Rests, Stands}
+use Rattle.host_hub.specs.Stands.{IsOut, Rests, Stands, OutWith, MessageWith, RequestWith, ResponseWith, IsUnlinked}
 use Rattle.host_hub.specs.Fed.{IsStopped}
 use Rattle.host_hub.proofs.Begins.{ended_rests}
 use Rattle.host_hub.proofs.Endings.{stopped_kept}
 use Rattle.host_hub.proofs.Falls.{AllEnds, all_added, all_ends, settling_all, settling_stopped}
 use Rattle.host_hub.proofs.Lawful.{lawful_book}
+use Rattle.host_hub.specs.Outstanding.{Sent}
+use Rattle.host_hub.specs.declared.outcome.Outcome.{Outcome}
+use Rattle.host_recover.specs.declared.need.Need.{Need}
 
 -- ---- the messages and the reader of a hub stand beside what it does
 
@@ -58,14 +63,15 @@ knows_aside s past all sent core u r k follows same = record {
   room = k.room;
 }
 
-abbrev out_aside : (s : Setting) (past : Past) (core : HubCore) (asking : Asking) (order : Order) (split : _) (u : Held) (r : down_fed.Held) → IsOut s past core asking order split
-    → (Queued core.urbs → Queued u) → IsOut s past (aside core u r) asking order split
+abbrev out_aside : {us : List Sent} {stop : Option Outcome} (s : Setting) (past : Past) (core : HubCore) (asking : Asking) (order : Order) (split : _) (u : Held) (r : down_fed.Held) → OutWith us stop s past core asking order split
+    → (Queued core.urbs → Queued u) → OutWith us stop s past (aside core u r) asking order split
 out_aside s past core asking order split u r o queue = record {
   turn = o.turn;
   begun = o.begun;
   asks = o.asks;
   free = o.free;
   number = o.number;
+  names = o.names;
   alone = o.alone;
   written_last = o.written_last;
   clean = o.clean;
@@ -74,9 +80,9 @@ out_aside s past core asking order split u r o queue = record {
   queue = queue o.queue;
 }
 
-stands_aside : (p : Phase) (s : Setting) (past : Past) (core : HubCore) (u : Held) (r : down_fed.Held) → Stands p s past core → (Queued core.urbs → Queued u) → Stands p s past (aside core u r)
-stands_aside phase.Idle s past core u r i queue = record { none = i.none; nothing = i.nothing; recovered = i.recovered; queue = queue i.queue }
-stands_aside phase.Message s past core u r m queue = record {
+abbrev message_aside : {us : List Sent} {stop : Option Outcome} (s : Setting) (past : Past) (core : HubCore) (u : Held) (r : down_fed.Held) → MessageWith us stop s past core → (Queued core.urbs → Queued u)
+    → MessageWith us stop s past (aside core u r)
+message_aside s past core u r m queue = record {
   asking = m.asking;
   tag = m.tag;
   text = m.text;
@@ -84,7 +90,10 @@ stands_aside phase.Message s past core u r m queue = record {
   out = out_aside s past core m.asking _ m.split u r m.out queue;
   none = m.none;
 }
-stands_aside phase.Request s past core u r m queue = record {
+
+abbrev request_aside : {us : List Sent} {stop : Option Outcome} (s : Setting) (past : Past) (core : HubCore) (u : Held) (r : down_fed.Held) → RequestWith us stop s past core → (Queued core.urbs → Queued u)
+    → RequestWith us stop s past (aside core u r)
+request_aside s past core u r m queue = record {
   asking = m.asking;
   asks = m.asks;
   tag = m.tag;
@@ -94,7 +103,10 @@ stands_aside phase.Request s past core u r m queue = record {
   now = m.now;
   assembly = m.assembly;
 }
-stands_aside phase.Response s past core u r m queue = record {
+
+abbrev response_aside : {us : List Sent} {stop : Option Outcome} (s : Setting) (past : Past) (core : HubCore) (u : Held) (r : down_fed.Held) → ResponseWith us stop s past core → (Queued core.urbs → Queued u)
+    → ResponseWith us stop s past (aside core u r)
+response_aside s past core u r m queue = record {
   asking = m.asking;
   asks = m.asks;
   piece = m.piece;
@@ -107,6 +119,56 @@ stands_aside phase.Response s past core u r m queue = record {
   size = m.size;
   holds = m.holds;
   open_still = m.open_still;
+}
+
+unlinked_aside : (past : Past) (core : HubCore) (t : ℕ) (need : Option Need) (u : Held) (r : down_fed.Held) → IsUnlinked past core t need → (Queued core.urbs → Queued u)
+    → IsUnlinked past (aside core u r) t need
+unlinked_aside past core t need u r o queue = record {
+  number = o.number;
+  target = o.target;
+  alone = o.alone;
+  hand = o.hand;
+  called = o.called;
+  served = o.served;
+  running = o.running;
+  letters = o.letters;
+  needs = o.needs;
+  queue = queue o.queue;
+}
+
+stands_aside : (p : Phase) (s : Setting) (past : Past) (core : HubCore) (u : Held) (r : down_fed.Held) → Stands p s past core → (Queued core.urbs → Queued u) → Stands p s past (aside core u r)
+stands_aside phase.Idle s past core u r i queue = record { none = i.none; nothing = i.nothing; recovered = i.recovered; queue = queue i.queue }
+stands_aside phase.Message s past core u r m queue = message_aside s past core u r m queue
+stands_aside phase.Request s past core u r m queue = request_aside s past core u r m queue
+stands_aside phase.Response s past core u r m queue = response_aside s past core u r m queue
+stands_aside (phase.Unlink (race.Out raced.Part)) s past core u r m queue = record { unlink = m.unlink; both = message_aside s past core u r m.both queue }
+stands_aside (phase.Unlink (race.Out raced.Request)) s past core u r m queue = record { unlink = m.unlink; both = request_aside s past core u r m.both queue }
+stands_aside (phase.Unlink (race.Out raced.Read)) s past core u r m queue = record { unlink = m.unlink; both = response_aside s past core u r m.both queue }
+stands_aside (phase.Unlink (race.Missed need)) s past core u r m queue = record {
+  asking = m.asking;
+  turn = m.turn;
+  begun = m.begun;
+  asks = m.asks;
+  stop = m.stop;
+  out = unlinked_aside past core core.active need u r m.out queue;
+}
+stands_aside (phase.Unlink race.Settled) s past core u r m queue = record { ticket = m.ticket; settled = m.settled; out = unlinked_aside past core m.ticket None u r m.out queue }
+stands_aside (phase.Recovery at) s past core u r m queue = record {
+  repairs = record {
+    hand = m.repairs.hand;
+    called = m.repairs.called;
+    runs = m.repairs.runs;
+    ends = m.repairs.ends;
+    heard = m.repairs.heard;
+    quiet = m.repairs.quiet;
+    queue = queue m.repairs.queue;
+  };
+  submit = m.submit;
+  is = m.is;
+  number = m.number;
+  alone = m.alone;
+  awaits = m.awaits;
+  fits = m.fits;
 }
 
 pub rests_aside : (s : Setting) (past : Past) (all sent : List ℕ) (core : HubCore) (u : Held) (r : down_fed.Held) → Rests s past all core → Follows s.first (crossings s past) sent u
@@ -131,7 +193,7 @@ link_stops s past all core new e r running other law is k =
     record {
       more = a.more ++ Stopped e ∷ [];
       own = all_added IsOfTurn a.more (Stopped e) (settling_all IsOfTurn (λ t o. tt) a.more a.settling) other;
-      plain = all_added IsPlain a.more (Stopped e) (settling_all IsPlain (λ t o. tt) a.more a.settling) tt;
+      plain = λ before. all_added IsPlain a.more (Stopped e) (settling_all IsPlain (λ t o. tt) a.more a.settling) tt;
       still = all_added MovesNothing a.more (Stopped e) (settling_all MovesNothing (λ t o. tt) a.more a.settling) tt;
       stop = settling_stopped a.more (Stopped e ∷ []) a.settling;
       rests = subst (λ (p : Past). Rests s p all new) (a.same ∙ sym (append_assoc a.more (Stopped e ∷ []) past))

@@ -329,7 +329,7 @@ module _ (rows : Rows) (core : HubCore) (piece : List ℕ) (step : DownStep) (r 
       fed = record {
         more = g.more ++ g.first ∷ [];
         own = all_added IsOfTurn g.more g.first (behind_turn g.more g.behind) (takes_turn (down.RetSubmit head (data_of r)) g.first g.takes);
-        plain = all_added IsPlain g.more g.first g.plain (takes_plain (down.RetSubmit head (data_of r)) g.first g.takes);
+        plain = λ before. all_added IsPlain g.more g.first (g.plain before) (takes_plain (down.RetSubmit head (data_of r)) g.first g.takes);
         due = all_added (IsDueIn s count) g.more g.first (behind_due s count g.more g.behind)
             (takes_due s count (down.RetSubmit head (data_of r)) g.first g.takes (low_found (s.first + count) head.seqnum (urbs.outstanding (crossings s past)) (ap is_some spelled_now.1)));
         fault = λ e. stop end.LinkFault e;
@@ -389,7 +389,7 @@ module _ (rows : Rows) (core : HubCore) (piece : List ℕ) (step : DownStep) (r 
         record {
           more = a.more ++ Stopped e ∷ [];
           own = all_added IsOfTurn a.more (Stopped e) (settling_all IsOfTurn (λ t o. tt) a.more a.settling) other;
-          plain = all_added IsPlain a.more (Stopped e) (settling_all IsPlain (λ t o. tt) a.more a.settling) tt;
+          plain = λ before. all_added IsPlain a.more (Stopped e) (settling_all IsPlain (λ t o. tt) a.more a.settling) tt;
           due = all_added (IsDueIn s count) a.more (Stopped e) (settling_all (IsDueIn s count) (λ t o. tt) a.more a.settling) tt;
           fault = λ k. by_field end.LinkFault (sym stop ∙ k);
           closing = λ k. by_closing (sym stop ∙ k);

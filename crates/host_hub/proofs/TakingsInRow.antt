@@ -73,7 +73,7 @@ fed_then s past sent received count first behind mid new f running g =
     record {
       more = g.more ++ f.more;
       own = all_both IsOfTurn g.more f.more g.own f.own;
-      plain = all_both IsPlain g.more f.more g.plain f.plain;
+      plain = λ before. all_both IsPlain g.more f.more (g.plain (all_both IsPlain f.more past (f.plain before) before)) (f.plain before);
       due = all_both (IsDueIn s count) g.more f.more g.due f.due;
       fault = λ e. g.fault (sym same ∙ e);
       closing = λ e. g.closing (sym same ∙ e);

@@ -7,6 +7,8 @@ use Rattle.tmc_base.specs.declared.field.Field.{Field}
 use Rattle.host_hub.specs.declared.hub_core.HubCore.{HubCore}
 use Rattle.host_hub.specs.declared.hub_core.Phase.{Phase}
 use Rattle.host_hub.specs.declared.hub_core.Phase.TheVariants as phase
+use Rattle.host_hub.specs.declared.hub_core.Race.TheVariants as race
+use Rattle.host_hub.specs.declared.hub_core.Submit.TheVariants as raced
 use Rattle.host_hub.specs.declared.outcome.End.{End}
 use Rattle.host_hub.specs.declared.outcome.End.TheVariants as end
 use Rattle.host_hub.specs.Behind.{Account}
@@ -17,10 +19,13 @@ use Rattle.host_hub.specs.HubCalls.{TurnsOn}
 use Rattle.host_hub.specs.Knows.{Knows}
 use Rattle.host_hub.specs.Order.{Order, Setting}
 use Rattle.host_hub.specs.Record.{Asked, Asking, Cancelled, Cleared, Fell, GaveUp, Past, Recovers, Settled, Stopped, Took, Wrote}
-use Rattle.host_hub.specs.Stands.{IsOut, Rests, Stands}
+use Rattle.host_hub.specs.Stands.{IsOut, Rests, Stands, OutWith, MessageWith, RequestWith, ResponseWith, IsUnlinked}
 use Rattle.host_hub.specs.Tied.{AddsTurn, Closed, Failed, IsDueIn, MovesNothing, Said, Went, stopped, takes_all_by}
 use Rattle.host_hub.proofs.AccountTurns.{ShowsAt, account_fed, account_stopped, account_unpolled, account_unsent}
 use Rattle.host_hub.proofs.Undisturbing.{Joins}
+use Rattle.host_hub.specs.Outstanding.{Sent}
+use Rattle.host_hub.specs.declared.outcome.Outcome.{Outcome}
+use Rattle.host_recover.specs.declared.need.Need.{Need}
 
 -- ---- the turn is counted
 
@@ -51,14 +56,15 @@ knows_counted s past sent core n k = record {
   room = k.room;
 }
 
-out_counted : (s : Setting) (past : Past) (core : HubCore) (a : Asking) (order : Order) (split : Bool) (n : ℕ) → IsOut s past core a order split
-    → IsOut s past (counted core n) a order split
+abbrev out_counted : {us : List Sent} {stop : Option Outcome} (s : Setting) (past : Past) (core : HubCore) (a : Asking) (order : Order) (split : Bool) (n : ℕ) → OutWith us stop s past core a order split
+    → OutWith us stop s past (counted core n) a order split
 out_counted s past core a order split n o = record {
   turn = o.turn;
   begun = o.begun;
   asks = o.asks;
   free = o.free;
   number = o.number;
+  names = o.names;
   alone = o.alone;
   written_last = o.written_last;
   clean = o.clean;
@@ -67,37 +73,96 @@ out_counted s past core a order split n o = record {
   queue = o.queue;
 }
 
+abbrev message_counted : {us : List Sent} {stop : Option Outcome} (s : Setting) (past : Past) (core : HubCore) (n : ℕ) → MessageWith us stop s past core
+    → MessageWith us stop s past (counted core n)
+message_counted s past core n m = record {
+  asking = m.asking;
+  tag = m.tag;
+  text = m.text;
+  split = m.split;
+  out = out_counted s past core m.asking _ m.split n m.out;
+  none = m.none;
+}
+
+abbrev request_counted : {us : List Sent} {stop : Option Outcome} (s : Setting) (past : Past) (core : HubCore) (n : ℕ) → RequestWith us stop s past core
+    → RequestWith us stop s past (counted core n)
+request_counted s past core n m = record {
+  asking = m.asking;
+  asks = m.asks;
+  tag = m.tag;
+  size = m.size;
+  earlier = m.earlier;
+  out = out_counted s past core m.asking _ _ n m.out;
+  now = m.now;
+  assembly = m.assembly;
+}
+
+abbrev response_counted : {us : List Sent} {stop : Option Outcome} (s : Setting) (past : Past) (core : HubCore) (n : ℕ) → ResponseWith us stop s past core
+    → ResponseWith us stop s past (counted core n)
+response_counted s past core n m = record {
+  asking = m.asking;
+  asks = m.asks;
+  piece = m.piece;
+  earlier = m.earlier;
+  out = out_counted s past core m.asking _ _ n m.out;
+  now = m.now;
+  goes_on = m.goes_on;
+  counts = m.counts;
+  tag = m.tag;
+  size = m.size;
+  holds = m.holds;
+  open_still = m.open_still;
+}
+
+unlinked_counted : (past : Past) (core : HubCore) (t : ℕ) (need : Option Need) (n : ℕ) → IsUnlinked past core t need
+    → IsUnlinked past (counted core n) t need
+unlinked_counted past core t need n o = record {
+  number = o.number;
+  target = o.target;
+  alone = o.alone;
+  hand = o.hand;
+  called = o.called;
+  served = o.served;
+  running = o.running;
+  letters = o.letters;
+  needs = o.needs;
+  = queue o.queue;
+}
+
 stands_counted : (p : Phase) (s : Setting) (past : Past) (core : HubCore) (n : ℕ) → Stands p s past core → Stands p s past (counted core n)
-unfolding out_counted
-stands_counted phase.Idle s past core n h = record { none = h.none; nothing = h.nothing; recovered = h.recovered; queue = h.queue }
-stands_counted phase.Message s past core n h =
-    record { asking = h.asking; tag = h.tag; text = h.text; split = h.split; out = out_counted s past core h.asking _ h.split n h.out; none = h.none }
-stands_counted phase.Request s past core n h =
-    record {
-      asking = h.asking;
-      asks = h.asks;
-      tag = h.tag;
-      size = h.size;
-      earlier = h.earlier;
-      out = out_counted s past core h.asking _ false n h.out;
-      now = h.now;
-      assembly = h.assembly;
-    }
-stands_counted phase.Response s past core n h =
-    record {
-      asking = h.asking;
-      asks = h.asks;
-      piece = h.piece;
-      earlier = h.earlier;
-      out = out_counted s past core h.asking _ false n h.out;
-      now = h.now;
-      goes_on = h.goes_on;
-      counts = h.counts;
-      tag = h.tag;
-      size = h.size;
-      holds = h.holds;
-      open_still = h.open_still;
-    }
+stands_counted phase.Idle s past core n i = record { none = i.none; nothing = i.nothing; recovered = i.recovered; = queue i.queue }
+stands_counted phase.Message s past core n m = message_counted s past core n m
+stands_counted phase.Request s past core n m = request_counted s past core n m
+stands_counted phase.Response s past core n m = response_counted s past core n m
+stands_counted (phase.Unlink (race.Out raced.Part)) s past core n m = record { unlink = m.unlink; both = message_counted s past core n m.both }
+stands_counted (phase.Unlink (race.Out raced.Request)) s past core n m = record { unlink = m.unlink; both = request_counted s past core n m.both }
+stands_counted (phase.Unlink (race.Out raced.Read)) s past core n m = record { unlink = m.unlink; both = response_counted s past core n m.both }
+stands_counted (phase.Unlink (race.Missed need)) s past core n m = record {
+  asking = m.asking;
+  turn = m.turn;
+  begun = m.begun;
+  asks = m.asks;
+  stop = m.stop;
+  out = unlinked_counted past core core.active need n m.out;
+}
+stands_counted (phase.Unlink race.Settled) s past core n m = record { ticket = m.ticket; settled = m.settled; out = unlinked_counted past core m.ticket None n m.out }
+stands_counted (phase.Recovery at) s past core n m = record {
+  repairs = record {
+    hand = m.repairs.hand;
+    called = m.repairs.called;
+    runs = m.repairs.runs;
+    ends = m.repairs.ends;
+    heard = m.repairs.heard;
+    quiet = m.repairs.quiet;
+    = queue m.repairs.queue;
+  };
+  submit = m.submit;
+  is = m.is;
+  number = m.number;
+  alone = m.alone;
+  awaits = m.awaits;
+  fits = m.fits;
+}
 
 pub counted_rests : (s : Setting) (past : Past) (sent : List ℕ) (core : HubCore) (n : ℕ) → Rests s past sent core
     → Rests s past sent (counted core n)

@@ -10,6 +10,7 @@ use Rattle.host_hub.specs.Calls.{AddsAsk, All}
 use Rattle.host_hub.specs.Joined.{IsPlain}
 use Rattle.host_hub.specs.Refusals.{ask_fault}
 use Rattle.host_hub.specs.Stands.{Rests}
+use Rattle.host_hub.specs.Steps.{asked}
 
 -- it is refused by the first cause that holds, and for want of memory where none does
 abbrev pub IsWhy : Option AskFault → AskFault → Type 0
@@ -24,7 +25,7 @@ IsUnchanged old new = new ≡ record old { notes = record old.notes { room = new
 pub record Enters (s : Setting) (past : Past) (sent : List ℕ) (asking : Asking) (core : HubCore) : Type 0 where
   pub more : Past
   pub adds : AddsAsk past asking more
-  pub plain : All IsPlain adds.own
+  pub plain : All IsPlain (asked past asking) → All IsPlain adds.own
   pub rests : Rests s (more ++ past) sent core
 
 abbrev pub Asks : Setting → Past → (sent : List ℕ) → Asking → Result ℕ AskFault → (old new : HubCore) → Type 0

@@ -44,7 +44,7 @@ pub record IsFed (core : HubCore) : Type 0 where
 pub record Fed (s : Setting) (past : Past) (sent received : List ℕ) (count : ℕ) (bytes : List ℕ) (core : HubCore) : Type 0 where
   pub more : Past
   pub own : All IsOfTurn more
-  pub plain : All IsPlain more
+  pub plain : All IsPlain past → All IsPlain more
   pub due : All (IsDueIn s count) more
   pub fault : stopped more ≡ Some end.LinkFault → ⊥
   pub closing : stopped more ≡ Some end.Unplugged → ⊥
@@ -65,7 +65,7 @@ pub record FedAnswer (s : Setting) (past : Past) (sent received : List ℕ) (cou
 pub record IsStopped (s : Setting) (past : Past) (sent : List ℕ) (e : End) (core : HubCore) : Type 0 where
   pub more : Past
   pub own : All IsOfTurn more
-  pub plain : All IsPlain more
+  pub plain : All IsPlain past → All IsPlain more
   pub still : All MovesNothing more
   pub stop : stopped more ≡ Some e
   pub rests : Rests s (more ++ past) sent core

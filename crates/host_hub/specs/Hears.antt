@@ -145,5 +145,5 @@ pub record GoesByAnswer (s : Setting) (past : Past) (sent : List ℕ) (answer : 
   pub takes : Takes answer first
   pub more : Past
   pub behind : All IsBehind more
-  pub plain : All IsPlain more
+  pub plain : All IsPlain past → All IsPlain more
   pub rests : Rests s (more ++ first ∷ past) sent core

@@ -32,6 +32,7 @@ pub mod Proper
 pub mod Knows
 pub mod Queued
 pub mod Stands
+pub mod Repairs
 pub mod Writes
 pub mod Asks
 pub mod Hears
