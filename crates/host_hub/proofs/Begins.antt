@@ -1,11 +1,9 @@
 -- a ticket begins
 use Rattle.std.proofs.Common.{◌≡◌, ◌≤◌, ◌<◌, ℕ, ◌+◌, ◌-◌, ◌%◌, true, false, List, [], ◌∷◌, ◌++◌, length, Some, None, refl, sym, subst, ◌∙◌, ap, arith, append_assoc}
-use Rattle.usbip_wire.specs.Up as up
 use Rattle.host_urbs.specs.declared.entry.Entry.{Entry}
 use Rattle.host_urbs.specs.declared.limits.TheConstants.{LAST_SUBMIT}
-use Rattle.host_urbs.specs.Entries.{awaited, awaited_of, unanswered_of}
-use Rattle.host_urbs.specs.Held.{Held, Follows, HasPlace}
-use Rattle.host_urbs.specs.Held as held
+use Rattle.host_urbs.specs.Entries.{awaited, awaited_of}
+use Rattle.host_urbs.specs.Held.{Held, Follows}
 use Rattle.host_urbs.specs.Record as urbs
 use Rattle.host_transfers.specs.Tags.{tag_behind}
 use Rattle.host_hub.specs.declared.hub_core.HubCore.{HubCore}
@@ -32,7 +30,6 @@ use Rattle.host_hub.specs.Steps.{Speaks, Working, settle_all, wrote}
 use Rattle.host_hub.specs.Status.{is_status_kind}
 use Rattle.host_hub.specs.Proper.{IsProper}
 use Rattle.host_hub.specs.Knows.{Knows}
-use Rattle.host_hub.specs.Queued.{Queued}
 use Rattle.host_hub.specs.Stands.{GoesTo, Rests}
 use Rattle.host_hub.specs.Writes.{CanPart, Ends, Puts, Ready}
 use Rattle.host_hub.proofs.Clean.{clean_begins}

@@ -33,7 +33,7 @@ use Rattle.host_hub.proofs.Lawful.{lawful_book}
 use Rattle.host_hub.proofs.Lists.{clash}
 use Rattle.host_hub.proofs.Quiets.{none_planned_idle}
 use Rattle.host_hub.proofs.Booking.{given_added, given_now}
-use Rattle.host_hub.proofs.Begins.{cons_none, ended_rests}
+use Rattle.host_hub.proofs.Begins.{ended_rests}
 use Rattle.host_hub.proofs.Endings.{gave_up_kept, not_given}
 use Rattle.host_hub.proofs.Opens.{comes_entered}
 use Rattle.host_hub.proofs.Knowing.{at_number, entered, entries_added, marked_too, no_number}

@@ -8,7 +8,7 @@ use Rattle.usbip_wire.specs.Dirs as dirs
 use Rattle.usbip_wire.specs.Down as down
 use Rattle.usbip_wire.specs.Up as up
 use Rattle.host_urbs.specs.declared.entry.Entry.{Entry}
-use Rattle.host_urbs.specs.Entries.{awaited, awaited_of, number_of, others, sent}
+use Rattle.host_urbs.specs.Entries.{awaited, awaited_of, sent}
 use Rattle.host_urbs.specs.Held.{Held, Follows}
 use Rattle.host_hub.specs.declared.hub_core.HubCore.{HubCore}
 use Rattle.host_hub.specs.Order.{Order, Part, Request, Trigger, Read, Listen, Class, ClearHalt, Unlink, Setting, message_of}
@@ -16,23 +16,18 @@ use Rattle.host_hub.specs.Record.{Past, Of, next, Wrote, Took, Fell, Stopped, Re
 use Rattle.host_hub.specs.Outstanding as hub
 use Rattle.host_hub.specs.Outstanding.{Sent, awaited_by, find, less_unlink, outstanding, without_named}
 use Rattle.host_hub.specs.Crossings.{crossings}
-use Rattle.host_hub.specs.BookSeen.{Seen, ticket_of}
-use Rattle.host_hub.specs.BookChanges.{with_seen}
+use Rattle.host_hub.specs.BookSeen.{Seen}
 use Rattle.host_hub.specs.Pieces.{got}
 use Rattle.host_hub.specs.Steps.{took}
 use Rattle.host_urbs.specs.Record as urbs
 use Rattle.host_hub.specs.Law.{Lawful}
 use Rattle.host_hub.specs.Knows.{Knows}
-use Rattle.host_hub.specs.Queued.{Queued}
 use Rattle.host_hub.specs.Hears.{Hears}
 use Rattle.host_hub.proofs.Entries.{Answers, answers_submit, answers_unlink}
 use Rattle.host_hub.proofs.Lists.{clash}
 use Rattle.host_hub.proofs.Messages.{next_same, written_same}
-use Rattle.host_hub.proofs.Numbers.{same_outstanding}
-use Rattle.host_hub.proofs.Begins.{cons_none, cons_same, same_next}
-use Rattle.host_hub.proofs.Knowing.{known_ticket, seen_there}
-use Rattle.host_hub.proofs.Putting.{with_same}
-use Rattle.host_hub.proofs.Taken.{knows_took, one_found, taken_more}
+use Rattle.host_hub.proofs.Begins.{same_next}
+use Rattle.host_hub.proofs.Taken.{taken_more}
 use Rattle.host_hub.specs.Hand.{is_of}
 use Rattle.host_hub.specs.Shown.{ShowsTicket}
 

@@ -34,6 +34,7 @@ pub mod Endings
 pub mod Clean
 pub mod Entries
 pub mod Stopping
+pub mod Cancelling
 pub mod Recovering
 pub mod Rows
 pub mod WorkedAsks

@@ -23,7 +23,7 @@ use Rattle.host_hub.specs.Order.{Order, Part, Setting, endpoint_of, is_bulk, siz
 use Rattle.host_hub.specs.Record.{Asked, Asking, Cancelled, Cleared, Fell, GaveUp, Past, Recovers, Took, Settled, Stopped, Wrote}
 use Rattle.host_hub.specs.Hand.{ended}
 use Rattle.host_hub.specs.Outstanding.{Sent, find, outstanding}
-use Rattle.host_hub.specs.Book.{active, asking_of, has, live, or_else, remove}
+use Rattle.host_hub.specs.Book.{asking_of, has, live, or_else, remove}
 use Rattle.host_hub.specs.Calls.{All, IsOwn}
 use Rattle.host_hub.specs.Joined.{IsPlain}
 use Rattle.host_hub.specs.Pieces.{Piece, data_in, got, pieces}
@@ -45,7 +45,6 @@ use Rattle.host_hub.proofs.Answering.{HeardOut, answered_out, ends_fine, heard_o
 use Rattle.host_hub.proofs.PlainAnswers.{Answered, pieces_out, pieces_took}
 use Rattle.host_hub.proofs.Clean.{clean_answers, clean_recovered, clean_settles}
 use Rattle.host_hub.proofs.Parts.{same_asking}
-use Rattle.host_hub.proofs.Knowing.{known_ticket, seen_there}
 use Rattle.host_hub.proofs.Begins.{asking_seen, one_added}
 use Rattle.host_hub.proofs.Lists.{clash}
 use Rattle.host_hub.proofs.Stepping.{answer_settles, made_of, no_unlinks_settled}

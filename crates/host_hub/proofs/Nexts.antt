@@ -19,7 +19,7 @@ use Rattle.host_hub.specs.Steps.{Speaks, wrote}
 use Rattle.host_hub.specs.Knows.{Knows}
 use Rattle.host_hub.specs.Stands.{IsOut}
 use Rattle.host_hub.specs.Writes.{Ends, GoesOn, Puts}
-use Rattle.host_hub.proofs.Begins.{none_entries, none_taken, same_device, same_next, speaks}
+use Rattle.host_hub.proofs.Begins.{none_taken, same_device, same_next, speaks}
 use Rattle.host_hub.proofs.Clean.{clean_writes}
 use Rattle.host_hub.proofs.Entries.{submit_may}
 use Rattle.host_hub.proofs.Lists.{own}

@@ -1,9 +1,6 @@
 -- bytes are sent, the hub reads on, and the link ends it
-use Rattle.std.proofs.Common.{◌≡◌, ◌≢◌, ℕ, ◌-◌, List, [], ◌∷◌, ◌++◌, length, drop, Some, None, refl, sym, subst, ◌∙◌, ap, arith, append_assoc}
-use Rattle.std.proofs.lemmas.List.{length-drop}
+use Rattle.std.proofs.Common.{◌≡◌, ◌≢◌, ℕ, List, [], ◌∷◌, ◌++◌, Some, None, sym, subst, ◌∙◌, append_assoc}
 use Rattle.usbip_wire.specs.DownFed as down_fed
-use Rattle.host_urbs.specs.declared.entry.Entry.{Entry}
-use Rattle.host_urbs.specs.Entries.{moved}
 use Rattle.host_urbs.specs.Held.{Held, Follows}
 use Rattle.host_hub.specs.declared.hub_core.HubCore.{HubCore}
 use Rattle.host_hub.specs.declared.hub_core.Phase.{Phase}

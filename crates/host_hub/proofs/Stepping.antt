@@ -163,7 +163,7 @@ made_other : (s : Setting) (past : Past) (t u n : ℕ) (k : Order) (o : Option A
 made_other s past t u n k None head bytes now plain other = refl
 made_other s past t u n k (Some a) head bytes now plain other = rw plain (rw (differ t u other) refl)
 
-none_other : (s : Setting) (past : Past) (t n u : ℕ) (k : Order) (head : RetSubmitHead) (bytes : List ℕ) → Comes s past t n k head bytes → Kept s past
+pub none_other : (s : Setting) (past : Past) (t n u : ℕ) (k : Order) (head : RetSubmitHead) (bytes : List ℕ) → Comes s past t n k head bytes → Kept s past
     → has u (live past) ≡ true → (u ≡ t → ⊥) → cause s u (took past head bytes) ≡ None
 none_other s past t n u k head bytes e kept lives other =
     still s past (Took (down.RetSubmit head bytes)) u (kept.quiet.settled u lives)

@@ -227,7 +227,7 @@ stopped_waits s t ks past o started turn stop some more = record {
         clash (sym (subst (λ (v : ℕ). is_some (reached v (write_unlinks s t ks past)) ≡ false) e law.free)
         ∙ ap (λ (o : Option Outcome). is_some o) (kept_reached s t t ks past ∙ stop))
 
-waits_on : (o : Option Outcome) (xs : List Sent) → xs ≢ [] → once_free o xs ≡ None
+pub waits_on : (o : Option Outcome) (xs : List Sent) → xs ≢ [] → once_free o xs ≡ None
 waits_on o [] n = absurd (n refl)
 waits_on o (x ∷ xs) n = refl
 
@@ -320,7 +320,7 @@ clear_kept s past t session ks kept running turn hand free some more due place =
 
 -- ---- the last message that a stopped ticket waits for is answered
 
-first_stops : {A : Type 0} (a b c d : Option A) (x : A) → a ≡ None → b ≡ None → c ≡ None → d ≡ Some x → or_else a (or_else b (or_else c d)) ≡ Some x
+pub first_stops : {A : Type 0} (a b c d : Option A) (x : A) → a ≡ None → b ≡ None → c ≡ None → d ≡ Some x → or_else a (or_else b (or_else c d)) ≡ Some x
 first_stops a b c d x e f g h = rw e (rw f (rw g h))
 
 pub stops_lawful : (s : Setting) (past : Past) (t : ℕ) (m : down.Message) (o : Outcome) → Kept s past → ended past ≡ None → StopsAt s past t m o → Lawful s (Settled t o ∷ Took m ∷ past)

@@ -9,7 +9,8 @@ use Rattle.host_hub.specs.Order.{Part, Read, Request}
 use Rattle.host_hub.specs.Record.{Asking, Past, Of, Settled}
 use Rattle.host_hub.specs.Law.{ByItself, Kept}
 use Rattle.host_hub.specs.Steps.{Comes, asked, took, wrote}
-use Rattle.host_hub.specs.Worked.{setting, success, query, telling, piece_header, identify, identity_text, query_record, read_values, values, values_text, full_record, events, limited_record, complete_query, unplugged_record, halted_record}
+use Rattle.host_hub.specs.Worked.{setting, success, query, telling, piece_header, identify, identity_text, query_record, read_values, values, values_text, full_record, events, limited_record, complete_query, unplugged_record, halted_record, dropped_record}
+use Rattle.host_hub.proofs.Cancelling.{waiting_cancelled}
 use Rattle.host_hub.proofs.Endings.{fell_kept, stopped_kept}
 use Rattle.host_hub.proofs.Entries.{submit_answer}
 use Rattle.host_hub.proofs.Rows.{asks, goes, idles, queues, settles, start}
@@ -194,6 +195,9 @@ two = asked plugged1 (query 1 200 complete_query)
 
 two_kept : Kept setting two
 two_kept = queues plugged1_kept (query 1 200 complete_query) refl 1 first_asking refl refl (refl, refl) some some
+
+pub dropped_kept : Kept setting dropped_record
+dropped_kept = waiting_cancelled setting two 2 two_kept refl refl refl
 
 abbrev three : Past
 three = asked two (telling 2 (codes "CONF 3"))

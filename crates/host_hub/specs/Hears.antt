@@ -14,7 +14,7 @@ use Rattle.host_hub.specs.declared.hub_core.Phase.{Phase}
 use Rattle.host_hub.specs.declared.hub_core.Phase.TheVariants as phase
 use Rattle.host_hub.specs.declared.kind.Kind.TheVariants as kind
 use Rattle.host_hub.specs.declared.outcome.Outcome.TheVariants as outcome
-use Rattle.host_hub.specs.Order.{Order, Read, Setting, is_listen, number_of}
+use Rattle.host_hub.specs.Order.{Read, Setting, is_listen, number_of}
 use Rattle.host_hub.specs.Made.{piece_made, stalled}
 use Rattle.host_hub.specs.Pieces.{Piece, data_in, pieces}
 use Rattle.host_hub.specs.Plan.{last}
@@ -22,7 +22,7 @@ use Rattle.host_hub.specs.Writes.{GoesOn}
 use Rattle.host_hub.specs.declared.outcome.End.{End}
 use Rattle.host_hub.specs.declared.outcome.End.TheVariants as end
 use Rattle.host_hub.specs.declared.outcome.Outcome.{Outcome}
-use Rattle.host_hub.specs.Record.{Asking, Fell, Happening, Of, Past, Settled, Stopped, Took, Wrote, Recovers}
+use Rattle.host_hub.specs.Record.{Asking, Fell, Happening, Past, Settled, Stopped, Took, Wrote, Recovers}
 use Rattle.host_hub.specs.Hand.{in_hand}
 use Rattle.host_hub.specs.Recovery.{AreRecovered}
 use Rattle.host_hub.specs.Steps.{Working}

@@ -6,7 +6,7 @@ use Rattle.host_hub.specs.declared.kind.Kind.TheVariants as kind
 use Rattle.host_hub.specs.declared.outcome.End.TheVariants as end
 use Rattle.host_hub.specs.declared.outcome.Outcome.TheVariants as outcome
 use Rattle.host_hub.specs.Order.{Part, Read, Request, Setting}
-use Rattle.host_hub.specs.Record.{Asked, Asking, Fell, Happening, Of, Past, Settled, Stopped, Took, Wrote}
+use Rattle.host_hub.specs.Record.{Asked, Asking, Fell, Happening, Of, Past, Settled, Stopped, Took, Wrote, Cancelled}
 
 -- the instrument's interface
 abbrev pub instrument : Ends
@@ -120,6 +120,17 @@ unplugged_record =
     ∷ Settled 1 outcome.Unplugged
     ∷ Fell (down.RetSubmit (record { seqnum = 1; status = neg_ℤ (pos 108); actual = 0 }) []) end.Unplugged
     ∷ Asked 3 (telling 2 (codes "CONF 3"))
+    ∷ Asked 2 (query 1 200 complete_query)
+    ∷ Wrote 1 (Of 1) (Part 1 complete_query true)
+    ∷ Asked 1 (query 0 200 complete_query)
+    ∷ []
+
+-- ---- the second of two tickets is cancelled while it waits
+
+abbrev pub dropped_record : Past
+dropped_record =
+    Settled 2 outcome.Cancelled
+    ∷ Cancelled 2
     ∷ Asked 2 (query 1 200 complete_query)
     ∷ Wrote 1 (Of 1) (Part 1 complete_query true)
     ∷ Asked 1 (query 0 200 complete_query)

@@ -6,10 +6,12 @@ ghost use Rattle.usbip_wire.specs.declared.ret_unlink.RetUnlinkHead.{RetUnlinkHe
 ghost use Rattle.host_recover.specs.Letter.{Submit};
 ghost use Rattle.host_urbs.specs.Law.{MayTake};
 ghost use Rattle.host_hub.specs.Crossings.{crossings};
-ghost use Rattle.host_hub.specs.Ends.{ends_by};
+ghost use Rattle.host_hub.specs.Ends.{end_due, ends_by};
+ghost use Rattle.host_hub.specs.Made.{made_at};
 ghost use Rattle.usbip_wire.specs.Down as down;
 ghost use Rattle.usbip_wire.specs.declared.dirs.TheConstants.{DIRS_MAX};
 ghost use Rattle.host_hub.specs.declared.outcome.Outcome.{Outcome};
+ghost use Rattle.host_hub.specs.declared.outcome.Outcome.TheVariants as outcome;
 ghost use Rattle.host_hub.specs.Order.{Order, Setting};
 ghost use Rattle.host_hub.specs.Record.{Past, Took, Cancelled, Cleared, Recovers, Settled};
 ghost use Rattle.host_hub.specs.Hand.{ended, in_hand, is_begun};
@@ -20,7 +22,7 @@ ghost use Rattle.host_hub.specs.Causes.{reached};
 ghost use Rattle.host_hub.specs.Unlinks.{unlinks_due};
 ghost use Rattle.host_hub.specs.Letters.{letter_of, letters, order_of};
 ghost use Rattle.host_hub.specs.Law.{IsHandOver, Kept, Lawful, MayRecover, Recovering};
-ghost use Rattle.host_hub.specs.Steps.{HearsRecovery, MayWriteNext, StopsAt, Working, recovers_with, took, write_unlinks};
+ghost use Rattle.host_hub.specs.Steps.{Comes, HearsRecovery, MayWriteNext, StopsAt, Working, recovers_with, took, write_unlinks};
 
 /// The active ticket is cancelled, or a clear reaches it, while it waits: its unlinks are written, in falling order of the
 /// numbers that they name, and it waits on. At any depth.
@@ -33,6 +35,25 @@ pub fn an_active_ticket_is_stopped()
         → active past ≡ Some ticket → in_hand past ≡ Some ticket → reached ticket past ≡ None → awaits ticket past ≢ []
         → busy (outstanding past) ≢ [] → not_unlinked (awaits ticket past) (outstanding past) ≡ targets
         → length (outstanding past) + length targets ≤ DIRS_MAX → Kept setting (write_unlinks setting ticket targets (Cleared session ∷ past)) }
+{}
+
+/// A live ticket that has not begun is cancelled, and settles by that at once: nothing of it is out. At any depth.
+pub fn a_waiting_ticket_is_cancelled()
+    ensures { (setting : Setting) (past : Past) (ticket : ℕ) → Kept setting past → ended past ≡ None → has ticket (live past) ≡ true → is_begun ticket past ≡ false
+        → Kept setting (Settled ticket outcome.Cancelled ∷ Cancelled ticket ∷ past) }
+{}
+
+/// An answer to a submit of a ticket that was stopped comes before the one to its unlink. It makes nothing, and the ticket waits on;
+/// or it makes the outcome of its ticket, and the next one waits for what is out. At any depth.
+pub fn an_answer_races()
+    ensures unmade { (setting : Setting) (past : Past) (ticket number : ℕ) (order : Order) (stop : Outcome) (head : RetSubmitHead) (bytes : List ℕ) → Kept setting past
+        → ended past ≡ None → Comes setting past ticket number order head bytes → reached ticket past ≡ Some stop
+        → made_at setting ticket past (Took (down.RetSubmit head bytes)) ≡ None → end_due (took past head bytes) ≡ None → awaits ticket (took past head bytes) ≢ []
+        → busy (outstanding (took past head bytes)) ≢ [] → unlinks_due setting (ended past) (took past head bytes) ≡ [] → Kept setting (took past head bytes) }
+    ensures made { (setting : Setting) (past : Past) (ticket number : ℕ) (order : Order) (outcome : Outcome) (head : RetSubmitHead) (bytes : List ℕ) → Kept setting past
+        → ended past ≡ None → Comes setting past ticket number order head bytes → made_at setting ticket past (Took (down.RetSubmit head bytes)) ≡ Some outcome
+        → end_due (took past head bytes) ≡ None → busy (outstanding (took past head bytes)) ≢ []
+        → unlinks_due setting (ended past) (Settled ticket outcome ∷ took past head bytes) ≡ [] → Kept setting (Settled ticket outcome ∷ took past head bytes) }
 {}
 
 /// The last message that a stopped ticket waits for is answered, and makes nothing: the ticket settles by its stop.

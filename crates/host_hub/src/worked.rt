@@ -15,7 +15,7 @@ ghost use Rattle.host_hub.specs.Plan.{message_end};
 ghost use Rattle.host_hub.specs.Record.{book};
 ghost use Rattle.host_hub.specs.declared.book.BookEntry.TheVariants as entry;
 ghost use Rattle.host_hub.specs.WorkedStops.{race_record, cancel_record, aborted_record, split_record, unanswered_record};
-ghost use Rattle.host_hub.specs.Worked.{setting, identity, values, query_record, full_record, limited_record, unplugged_record, halted_record};
+ghost use Rattle.host_hub.specs.Worked.{setting, identity, values, query_record, full_record, limited_record, unplugged_record, dropped_record, halted_record};
 
 /// `*IDN?` is answered in one read, and nothing disturbs it.
 pub fn a_query_is_answered()
@@ -53,6 +53,16 @@ pub fn a_device_is_unplugged()
     ensures third { outcome_of 3 unplugged_record ≡ outcome.Unplugged }
     ensures last { message_end 1 unplugged_record ≡ 1 }
     ensures none { message_end 3 unplugged_record ≡ 0 }
+{}
+
+/// A ticket that waits behind another is cancelled: it settles so, and the other goes on.
+pub fn a_ticket_is_dropped()
+    ensures kept { Kept setting dropped_record }
+    ensures dropped { outcome_of 2 dropped_record ≡ outcome.Cancelled }
+    ensures none { message_end 2 dropped_record ≡ 0 }
+    ensures live { outcome_of 1 dropped_record ≡ outcome.Live }
+    ensures book { book setting dropped_record ≡ record { entry = entry.Asked 1; written = 0; taken = 0 } ∷ record { entry = entry.Asked 2; written = 1; taken = 0 }
+        ∷ record { entry = entry.Cancel 2; written = 1; taken = 0 } ∷ record { entry = entry.Settled 2; written = 1; taken = 0 } ∷ [] }
 {}
 
 /// Bulk-IN halts behind the first read of a piece: the ticket has what came, and the hub ends.

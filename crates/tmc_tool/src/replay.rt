@@ -1,6 +1,6 @@
 //! The command `replay`.
 
-ghost use Rattle.std.specs.Prelude.{◌≡◌, ℕ, IfOk};
+ghost use Rattle.std.specs.Prelude.{◌≡◌, ℕ, IfOk, OnErr};
 ghost use Rattle.event_text.specs.EventScript.{MayBegin};
 ghost use Rattle.tmc_world.specs.World.{Worldly, IsBehind, begun};
 ghost use Rattle.tmc_tool.specs.Told.{Replayed};
@@ -47,9 +47,10 @@ fn apply_all(
     Ok(answers)
 }
 
-/// What an event answered. `None` is one that was not enabled.
+/// What an event answered. `None` is one that was not enabled. Takes no memory.
 pub(crate) fn said(became: Applied) -> Result<Option<EventAnswer>, Memory>
-    ensures { IfOk result (λ said. became ≡ applied_as said) }
+    ensures said { IfOk result (λ said. became ≡ applied_as said) }
+    ensures wants { OnErr result (became ≡ Applied.Memory) }
 {
     match became {
         Applied::Answer(answer) => Ok(Some(answer)),

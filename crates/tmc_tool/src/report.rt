@@ -1,6 +1,6 @@
 //! The report of a world.
 
-ghost use Rattle.std.specs.Prelude.{◌≡◌, ℕ, false, IfOk};
+ghost use Rattle.std.specs.Prelude.{◌≡◌, ℕ, true, false, IfOk, OnOk, OnErr};
 ghost use Rattle.tmc_world.specs.World.{Worldly, IsBehind};
 ghost use Rattle.tmc_tool.specs.Told.{Tells};
 
@@ -11,7 +11,8 @@ use tmc_world::World;
 
 /// Wants memory where an answer of the instrument waits for it: then the run that is told is not all that it did.
 pub(crate) fn all_spelled(world: &World) -> Result<(), Memory>
-    ensures { IfOk result (λ _. world.now.hub.link.late ≡ false) }
+    ensures spelled { OnOk result (world.now.hub.link.late ≡ false) }
+    ensures late { OnErr result (world.now.hub.link.late ≡ true) }
 {
     if world.is_late() {
         return Err(Memory);

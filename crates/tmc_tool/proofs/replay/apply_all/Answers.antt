@@ -11,7 +11,7 @@ events-init c = subst (λ xs. AllWent [] xs c.args.world.now.hub c.args.world.no
 pub events-preserved : goal.events-preserved
 events-preserved c =
     all_on (take c.events.event-index c.args.events.now) (take (c.events.event-index + 1) c.args.events.now) c.events.answers.items _ c.args.world.now.hub c.events.world.hub _
-    c.event-item.result _ _ c.events.invariant c.apply.ensures.leads c.in_ok-said.ensures
+    c.event-item.result _ _ c.events.invariant c.apply.ensures.leads c.in_ok-said.ensures.said
     (ap (λ k. take k c.args.events.now) (add-one c.events.event-index) ∙ take-suc c.args.events.now c.events.event-index c.event-item.result (omega arith) ∙ ap (λ x. take c.events.event-index c.args.events.now ++ x ∷ []) (sym c.event-item.is)) c.in_ok-push.ensures.items
 
 pub returns : goal.returns
