@@ -5,7 +5,7 @@ use Rattle.host_hub.specs.declared.limits.TheConstants.{MAX_DEPTH}
 use Rattle.tmc_law.specs.declared.dev_event.DevEvent.{DevEvent}
 use Rattle.tmc_law.specs.declared.dev_event.DevEvent.TheVariants.{Take, Exec, Begin, Fill, Answer, Pending, Poll, Notify, Halt, Unplug}
 use Rattle.event_text.specs.declared.event.Event.{Event}
-use Rattle.event_text.specs.declared.event.Event.TheVariants.{Ask, Tell, GiveUp, Up, Down, Dev, FailSend, FailPoll, Rest}
+use Rattle.event_text.specs.declared.event.Event.TheVariants.{Ask, Tell, Cancel, DropAll, GiveUp, Up, Down, Dev, FailSend, FailPoll, Rest}
 use Rattle.event_text.specs.declared.event_line.Place.{Place}
 use Rattle.event_text.specs.declared.event_line.Place.TheVariants.{Start, BehindFirst, BehindOthers}
 use Rattle.event_text.specs.declared.event_line.Said.{Said}
@@ -87,6 +87,12 @@ tell_said words =
     need Number (session_of two.0) (λ session.
     need Hex (bytes_of two.1) (λ message. Ok (Tell session message))))
 
+abbrev pub cancel_said : List (List ℕ) → Result Event LineWhat
+cancel_said words = need Words (if_one words) (λ word. need Number (number_of word) (λ ticket. Ok (Cancel ticket)))
+
+abbrev pub drop_said : List (List ℕ) → Result Event LineWhat
+drop_said words = need Words (if_one words) (λ word. need Number (session_of word) (λ session. Ok (DropAll session)))
+
 -- which call of the link fails
 abbrev pub failing : List ℕ → Option Event
 failing word =
@@ -104,6 +110,8 @@ short_said (head ∷ words) =
     if bytes_eq head (codes "up") then made Up (count_said words)
     else if bytes_eq head (codes "down") then made Down (count_said words)
     else if bytes_eq head (codes "fail") then fail_said words
+    else if bytes_eq head (codes "cancel") then cancel_said words
+    else if bytes_eq head (codes "drop") then drop_said words
     else if bytes_eq head (codes "giveup") then alone GiveUp words
     else if bytes_eq head (codes "rest") then alone Rest words
     else made Dev (dev_said (head ∷ words))

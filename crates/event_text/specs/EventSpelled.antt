@@ -6,7 +6,7 @@ use Rattle.host_hub.specs.declared.limits.TheConstants.{MAX_DEPTH}
 use Rattle.tmc_law.specs.declared.dev_event.DevEvent.{DevEvent}
 use Rattle.tmc_law.specs.declared.dev_event.DevEvent.TheVariants.{Take, Exec, Begin, Fill, Answer, Pending, Poll, Notify, Halt, Unplug}
 use Rattle.event_text.specs.declared.event.Event.{Event}
-use Rattle.event_text.specs.declared.event.Event.TheVariants.{Ask, Tell, GiveUp, Up, Down, Dev, FailSend, FailPoll, Rest}
+use Rattle.event_text.specs.declared.event.Event.TheVariants.{Ask, Tell, Cancel, DropAll, GiveUp, Up, Down, Dev, FailSend, FailPoll, Rest}
 use Rattle.event_text.specs.declared.event_line.Place.{Place}
 use Rattle.event_text.specs.declared.event_line.Place.TheVariants.{Start, BehindFirst, BehindOthers}
 use Rattle.event_text.specs.declared.event_line.Said.{Said}
@@ -28,6 +28,8 @@ dev_line Unplug = codes "unplug"
 abbrev pub event_line : Event → List ℕ
 event_line (Ask session limit message) = codes "ask " ++ (decimal session ++ (codes " " ++ (decimal limit ++ (codes " " ++ hex_word message))))
 event_line (Tell session message) = codes "tell " ++ (decimal session ++ (codes " " ++ hex_word message))
+event_line (Cancel ticket) = codes "cancel " ++ decimal ticket
+event_line (DropAll session) = codes "drop " ++ decimal session
 event_line GiveUp = codes "giveup"
 event_line (Up count) = codes "up " ++ decimal count
 event_line (Down count) = codes "down " ++ decimal count
@@ -56,6 +58,8 @@ DevMayStand event = ⊤
 abbrev pub MayStand : Event → Type 0
 MayStand (Ask session limit message) = (session ≤ 255) × (limit < 2 ^ 32) × IsBytes message
 MayStand (Tell session message) = (session ≤ 255) × IsBytes message
+MayStand (Cancel ticket) = ticket < 2 ^ 32
+MayStand (DropAll session) = session ≤ 255
 MayStand (Up count) = IsCount count
 MayStand (Down count) = IsCount count
 MayStand (Dev event) = DevMayStand event

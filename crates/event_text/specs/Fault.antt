@@ -1,7 +1,7 @@
 -- the names of what is wrong with a line
 use Rattle.std.specs.Prelude.{ℕ, List, codes}
 use Rattle.event_text.specs.declared.line_fault.LineWhat.{LineWhat}
-use Rattle.event_text.specs.declared.line_fault.LineWhat.TheVariants.{Unknown, Words, Number, Hex, TooLong, TooMany, Depth, EmptyMessage, LongMessage, Session, Twice, NotYet}
+use Rattle.event_text.specs.declared.line_fault.LineWhat.TheVariants.{Unknown, Words, Number, Hex, TooLong, TooMany, Depth, EmptyMessage, LongMessage, Session, Twice}
 
 abbrev pub name_of : LineWhat → List ℕ
 name_of Unknown = codes "Unknown"
@@ -15,4 +15,3 @@ name_of EmptyMessage = codes "EmptyMessage"
 name_of LongMessage = codes "LongMessage"
 name_of Session = codes "Session"
 name_of Twice = codes "Twice"
-name_of NotYet = codes "NotYet"

@@ -19,6 +19,10 @@ pub enum Event {
         session: u8,
         message: Octets,
     },
+    /// This ticket is cancelled.
+    Cancel { ticket: u32 },
+    /// Each live ticket of this session is cancelled.
+    DropAll { session: u8 },
     /// The hub is given up.
     GiveUp,
     /// At most so many bytes go up, from the hub to the node.

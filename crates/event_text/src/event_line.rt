@@ -1,7 +1,7 @@
 //! One line of a script of events.
 
 ghost use Rattle.std.specs.Prelude.{◌≡◌, ◌≤◌, ◌∷◌, IfOk, Ok};
-ghost use Rattle.event_text.specs.EventLine.{event_said, short_said, ask_said, tell_said, fail_said, session_of, depth_said, line_words, line_said, place_behind};
+ghost use Rattle.event_text.specs.EventLine.{event_said, short_said, ask_said, tell_said, cancel_said, drop_said, fail_said, session_of, depth_said, line_words, line_said, place_behind};
 ghost use Rattle.event_text.specs.Read.{IsRead, words_behind};
 ghost use Rattle.event_text.specs.Script.{need, lines_most};
 ghost use Rattle.event_text.specs.declared.line_fault.LineWhat.TheVariants.{Number};
@@ -110,6 +110,10 @@ fn short_words(head: &[u8], behind: Behind) -> Result<Event, LineWhat>
         Ok(Event::Down(read_count(behind)?))
     } else if is(head, "fail") {
         read_fail(behind)
+    } else if is(head, "cancel") {
+        read_cancel(behind)
+    } else if is(head, "drop") {
+        read_drop(behind)
     } else if is(head, "giveup") {
         behind.none().ok_or(LineWhat::Words)?;
         Ok(Event::GiveUp)
@@ -142,6 +146,24 @@ fn read_tell(alloc: Global, behind: Behind) -> Result<Event, LineStop>
     let session = read_session(session)?;
     let message = octets_of(alloc, message)?.ok_or(LineWhat::Hex)?;
     Ok(Event::Tell { session, message })
+}
+
+/// The cancel of a ticket. Whether there is such a ticket is the hub's to say.
+fn read_cancel(behind: Behind) -> Result<Event, LineWhat>
+    ensures { result ≡ cancel_said (words_behind behind.entry) }
+{
+    let word = behind.one().ok_or(LineWhat::Words)?;
+    let ticket = read_number(word).ok_or(LineWhat::Number)?;
+    Ok(Event::Cancel { ticket })
+}
+
+/// The cancel of a session.
+fn read_drop(behind: Behind) -> Result<Event, LineWhat>
+    ensures { result ≡ drop_said (words_behind behind.entry) }
+{
+    let word = behind.one().ok_or(LineWhat::Words)?;
+    let session = read_session(word)?;
+    Ok(Event::DropAll { session })
 }
 
 /// The number of a session. Whether there is such a session is the hub's to say.

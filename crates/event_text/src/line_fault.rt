@@ -26,8 +26,6 @@ pub enum LineWhat {
     Session,
     /// Its number is in use.
     Twice,
-    /// Its message cannot be asked yet.
-    NotYet,
 }
 
 impl LineWhat {
@@ -50,7 +48,6 @@ impl LineWhat {
             LineWhat::LongMessage => "LongMessage",
             LineWhat::Session => "Session",
             LineWhat::Twice => "Twice",
-            LineWhat::NotYet => "NotYet",
         }
     }
 }

@@ -1,10 +1,7 @@
--- the line that `ask` reads, and whether its message can be asked
+-- the line that `ask` reads, and what is wrong with it
 use Rattle.std.specs.Prelude.{◌≡◌, ◌⊎◌, ℕ, ◌+◌, ◌<◌, ◌≤◌, List, [], ◌∷◌, ◌++◌, length, Contains}
-use Rattle.instr_plain.specs.declared.plain.Plain.{Plain}
-use Rattle.instr_plain.specs.Standing.{power_on}
-use Rattle.instr_plain.specs.Exec.{Exec}
 use Rattle.event_text.specs.declared.line_fault.LineWhat.{LineWhat}
-use Rattle.event_text.specs.declared.line_fault.LineWhat.TheVariants.{Words, EmptyMessage, LongMessage, NotYet}
+use Rattle.event_text.specs.declared.line_fault.LineWhat.TheVariants.{Words, EmptyMessage, LongMessage}
 use Rattle.tmc_tool.specs.declared.ask_limits.TheConstants.{MESSAGE_MOST}
 
 -- the first line of the bytes without its NL, and what stands behind the NL
@@ -21,17 +18,10 @@ message_most = MESSAGE_MOST
 abbrev pub line_most : ℕ
 line_most = MESSAGE_MOST + 2
 
--- from power-on the plain instrument answers this message with this response
-abbrev pub Responds : List ℕ → List ℕ → Type 0
-Responds message response = (state : Plain) × Exec power_on message state response
-
--- the message has bytes, and no more than a message may have, and from power-on it is answered
+-- the message has bytes, and no more than a message may have
 pub record IsAsked (message : List ℕ) : Type 0 where
   pub some : 0 < length message
   pub short : length message ≤ message_most
-  pub response : List ℕ
-  pub responds : Responds message response
-  pub answered : 0 < length response
 
 -- the bytes are one line, and its message can be asked
 pub record IsQuestion (bytes message : List ℕ) : Type 0 where
@@ -39,14 +29,11 @@ pub record IsQuestion (bytes message : List ℕ) : Type 0 where
   pub asked : IsAsked message
 
 -- the first line of the bytes is refused, by what is wrong with it, or the second for what stands in it; nothing else is
--- wrong with them. A message that is answered with no response cannot be asked yet.
+-- wrong with them
 abbrev pub IsRefused : List ℕ → (line : ℕ) → LineWhat → Type 0
 IsRefused bytes line EmptyMessage = (line ≡ 1) × ((behind : List ℕ) × IsFirstLine bytes [] behind)
 IsRefused bytes line LongMessage =
     (line ≡ 1) × ((message behind : List ℕ) × IsFirstLine bytes message behind × (message_most < length message))
-IsRefused bytes line NotYet =
-    (line ≡ 1)
-    × ((message behind : List ℕ) × IsFirstLine bytes message behind × (0 < length message) × (length message ≤ message_most) × Responds message [])
 IsRefused bytes line Words =
     (line ≡ 2)
     × ((message behind : List ℕ) × IsFirstLine bytes message behind × IsAsked message × (0 < length behind))

@@ -10,6 +10,7 @@ ghost use Rattle.tmc_tool.specs.Going.{HasAsked, LedBy};
 use crate::replay::said;
 use crate::report::{all_spelled, report};
 use event_text::Event;
+use host_hub::Outcome;
 use std::alloc::Global;
 use tmc_base::{Memory, Octets};
 use tmc_world::{World, world_runs_keep_the_laws};
@@ -21,7 +22,11 @@ const FIRST: u32 = 1;
 
 const DEPTH: u8 = 1;
 
-/// Asks a message of a fresh world, for at most `limit` bytes of its response, lets the world come to rest, and reports it.
+/// The number of the ticket.
+const TICKET: u32 = 1;
+
+/// Asks a message of a fresh world, for at most `limit` bytes of its response, lets the world come to rest, and reports it. A ticket that
+/// is live then is cancelled, and the world comes to rest again.
 pub(crate) fn ask(alloc: Global, limit: u32, message: &[u8]) -> Result<Vec<u8>, Memory>
     requires limit { IsLimit limit }
     requires asked { IsAsked message.now }
@@ -31,16 +36,45 @@ pub(crate) fn ask(alloc: Global, limit: u32, message: &[u8]) -> Result<Vec<u8>, 
     ask_in(alloc, &mut world, limit, message)
 }
 
-/// Asks a message of a world at power-on, lets it come to rest, and reports it.
+/// Asks a message of a world at power-on, lets it come to rest with the ticket settled, and reports it.
 fn ask_in(alloc: Global, world: &mut World, limit: u32, message: &[u8]) -> Result<Vec<u8>, Memory>
     requires limit { IsLimit limit }
     requires asked { IsAsked message.now }
     ensures { IfOk result (λ text. IsBehind 1 1 begun world.old.hub → AskedOnce limit message.now text.items) }
 {
-    ask_and_rest(alloc, world, limit, message)?;
+    ask_and_settle(alloc, world, limit, message)?;
     all_spelled(world)?;
     world_runs_keep_the_laws();
     report(alloc, &[], world)
+}
+
+/// Asks a message of a world at power-on, and lets it come to rest with the ticket settled.
+fn ask_and_settle(
+    alloc: Global,
+    world: &mut World,
+    limit: u32,
+    message: &[u8],
+) -> Result<(), Memory> {
+    ask_and_rest(alloc, world, limit, message)?;
+    if is_live(world) {
+        cancel_and_rest(world)?;
+    }
+    Ok(())
+}
+
+/// Whether the ticket is not settled.
+fn is_live(world: &World) -> bool {
+    match world.hub().outcome(TICKET) {
+        Some(view) => view.outcome == Outcome::Live,
+        None => false,
+    }
+}
+
+/// Cancels the ticket, and lets the world come to rest.
+fn cancel_and_rest(world: &mut World) -> Result<(), Memory> {
+    said(world.apply(&Event::Cancel { ticket: TICKET }))?;
+    said(world.apply(&Event::Rest))?;
+    Ok(())
 }
 
 /// Asks a message of a world at power-on, and lets it come to rest.

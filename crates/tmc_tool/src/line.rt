@@ -1,14 +1,11 @@
-//! The line that `ask` reads, and whether its message can be asked.
+//! The line that `ask` reads, and what is wrong with it.
 
-ghost use Rattle.std.specs.Prelude.{◌≡◌, ◌≤◌, MatchResult, IfOk, IfErr, ⊤, length};
-ghost use Rattle.tmc_tool.specs.Line.{IsFirstLine, IsAsked, Responds, message_most};
+ghost use Rattle.std.specs.Prelude.{◌≡◌, MatchResult, IfOk, IfErr, ⊤, length};
+ghost use Rattle.tmc_tool.specs.Line.{IsFirstLine, IsAsked};
 ghost use Rattle.tmc_tool.specs.Judged.{IsRefusal};
 
 use crate::ask_limits::MESSAGE_MOST;
 use event_text::{LineFault, LineWhat, split_line};
-use instr_plain::Instrument;
-use std::alloc::Global;
-use tmc_base::Memory;
 
 /// The most bytes that are read of a line: one more than the longest message and its NL.
 pub(crate) const LINE_MOST: usize = MESSAGE_MOST + 2;
@@ -24,7 +21,7 @@ pub(crate) fn first_line(bytes: &[u8]) -> (&[u8], &[u8])
 }
 
 /// Judges a line: it is nothing but the message, and the message can be asked.
-pub(crate) fn judge(alloc: Global, message: &[u8], behind: &[u8]) -> Result<(), LineFault>
+pub(crate) fn judge(message: &[u8], behind: &[u8]) -> Result<(), LineFault>
     ensures asked { IfOk result (λ _. IsAsked message.now) }
     ensures alone { IfOk result (λ _. length behind.now ≡ 0) }
     ensures refused { IfErr result (IsRefusal message.now behind.now) }
@@ -34,10 +31,6 @@ pub(crate) fn judge(alloc: Global, message: &[u8], behind: &[u8]) -> Result<(), 
     }
     if message.len() > MESSAGE_MOST {
         return refuse(1, LineWhat::LongMessage);
-    }
-    let response = respond(alloc, message)?;
-    if response.is_empty() {
-        return refuse(1, LineWhat::NotYet);
     }
     if !behind.is_empty() {
         return refuse(2, LineWhat::Words);
@@ -49,14 +42,4 @@ fn refuse(line: u32, what: LineWhat) -> Result<(), LineFault>
     ensures { result ≡ Err (LineFault.At line what) }
 {
     Err(LineFault::At { line, what })
-}
-
-/// The response of an instrument at power-on.
-fn respond(alloc: Global, message: &[u8]) -> Result<Vec<u8>, Memory>
-    requires { length message.now ≤ message_most }
-    ensures { IfOk result (λ response. Responds message.now response.items) }
-{
-    let mut instrument = Instrument::new(alloc)?;
-    instrument.execute(message)?;
-    Ok(Vec::from_slice(alloc, instrument.response())?)
 }

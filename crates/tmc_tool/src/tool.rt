@@ -27,7 +27,6 @@ use event_text::{
     LineFault, LineWhat, Script, event_scripts_are_determined, put_shown, read_script,
     scripts_are_determined,
 };
-use instr_plain::one_response;
 use std::alloc::Global;
 use tmc_base::{Memory, ReadFault, Sink, Source, read_up_to, write_all};
 use usbip_wire::Dir;
@@ -60,7 +59,6 @@ pub fn tool_main<S: Source, K: Sink>(
     ensures printed { (command : Command) → Names (map string_bytes words.now) command → (Rose (S.faults source.old) (S.faults source.new) → ⊥) → (Rose (K.faults sink.old) (K.faults sink.new) → ⊥)
         → (bytes : List ℕ) → S.left source.old ≡ Some bytes → Takes command bytes → (result ≡ code_of Printed) ⊎ (result ≡ code_of NoMemory) }
 {
-    one_response();
     scripts_are_determined();
     event_scripts_are_determined();
     run(alloc, words, source, sink).code()
@@ -92,7 +90,7 @@ fn run_ask<S: Source, K: Sink>(alloc: Global, limit: u32, source: &mut S, sink: 
         Err(ReadFault::Memory) => return Status::NoMemory,
     };
     let (message, behind) = first_line(&line);
-    match judge(alloc, message, behind) {
+    match judge(message, behind) {
         Ok(()) => print_answer(alloc, limit, sink, message),
         Err(LineFault::At { line, what }) => print_refusal(alloc, sink, line, what),
         Err(LineFault::Memory) => Status::NoMemory,

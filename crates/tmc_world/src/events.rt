@@ -35,6 +35,8 @@ impl World {
                 message,
             } => self.ask(*session, *limit, message.as_slice()),
             Event::Tell { session, message } => self.tell(*session, message.as_slice()),
+            Event::Cancel { ticket } => self.cancel(*ticket),
+            Event::DropAll { session } => self.drop_all(*session),
             Event::GiveUp => self.give_up(),
             Event::Up(most) => self.up(*most),
             Event::Down(most) => self.down(*most),

@@ -111,6 +111,20 @@ impl World {
         asked(self.hub.tell(session, message))
     }
 
+    /// This ticket is cancelled.
+    pub(crate) fn cancel(&mut self, ticket: u32) -> Applied
+        ensures { (first depth : ℕ) (old : Worldly) → IsBehind first depth old self.old.hub → LeadsTo first depth (event.Cancel ticket) old result self.new.hub }
+    {
+        Applied::Answer(EventAnswer::CancelSaid(self.hub.cancel(ticket)))
+    }
+
+    /// Each live ticket of this session is cancelled.
+    pub(crate) fn drop_all(&mut self, session: u8) -> Applied
+        ensures { (first depth : ℕ) (old : Worldly) → IsBehind first depth old self.old.hub → LeadsTo first depth (event.DropAll session) old result self.new.hub }
+    {
+        Applied::Answer(EventAnswer::DropSaid(self.hub.cancel_session(session)))
+    }
+
     /// The hub is given up.
     pub(crate) fn give_up(&mut self) -> Applied
         ensures { (first depth : ℕ) (old : Worldly) → IsBehind first depth old self.old.hub → LeadsTo first depth event.GiveUp old result self.new.hub }
