@@ -20,9 +20,13 @@ pub enum Event {
         message: Octets,
     },
     /// This ticket is cancelled.
-    Cancel { ticket: u32 },
+    Cancel {
+        ticket: u32,
+    },
     /// Each live ticket of this session is cancelled.
-    DropAll { session: u8 },
+    DropAll {
+        session: u8,
+    },
     /// The hub is given up.
     GiveUp,
     /// At most so many bytes go up, from the hub to the node.

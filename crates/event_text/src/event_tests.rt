@@ -33,8 +33,8 @@ fn reads_each_line_of_a_script(rt: HostRuntime) -> Result<(), Fail> {
             "Script { first: 1, depth: 1, events: Events { items: [] } }",
         ),
         (
-            "first 7\ndepth 1\nask 0 200 2a4f\ntell 255 -\ngiveup\nup 1\ndown 4294967295\nfail send\nfail poll\nrest\n",
-            "Script { first: 7, depth: 1, events: Events { items: [Ask { session: 0, limit: 200, message: Octets { items: [42, 79] } }, Tell { session: 255, message: Octets { items: [] } }, GiveUp, Up(1), Down(4294967295), FailSend, FailPoll, Rest] } }",
+            "first 7\ndepth 1\nask 0 200 2a4f\ntell 255 -\ncancel 0\ndrop 255\ngiveup\nup 1\ndown 4294967295\nfail send\nfail poll\nrest\n",
+            "Script { first: 7, depth: 1, events: Events { items: [Ask { session: 0, limit: 200, message: Octets { items: [42, 79] } }, Tell { session: 255, message: Octets { items: [] } }, Cancel { ticket: 0 }, DropAll { session: 255 }, GiveUp, Up(1), Down(4294967295), FailSend, FailPoll, Rest] } }",
         ),
         (
             "depth 1\ntake 1\nexec\nbegin 2\nfill 3\nanswer\npending\npoll\nnotify\nhalt 3\nunplug",
@@ -74,6 +74,11 @@ fn names_the_first_wrong_line_with_its_first_fault(rt: HostRuntime) -> Result<()
         ("ask 0 1 a", 1, LineWhat::Hex),
         ("ask 0 1 ", 1, LineWhat::Hex),
         ("tell 0 - ", 1, LineWhat::Words),
+        ("cancel", 1, LineWhat::Words),
+        ("cancel -1", 1, LineWhat::Number),
+        ("cancel 4294967296", 1, LineWhat::Number),
+        ("drop 1 1", 1, LineWhat::Words),
+        ("drop 256", 1, LineWhat::Number),
         ("up 0", 1, LineWhat::Number),
         ("up 4294967296", 1, LineWhat::Number),
         ("halt 0", 1, LineWhat::Number),

@@ -193,9 +193,7 @@ fn refuses_what_cannot_be_asked(rt: HostRuntime) -> Result<(), Fail> {
     for (input, want) in [
         ("", "refused line 1 EmptyMessage\n"),
         ("\n*IDN?", "refused line 1 EmptyMessage\n"),
-        ("*CLS", "refused line 1 NotYet\n"),
-        ("FOO;*OPC?", "refused line 1 NotYet\n"),
-        ("*CLS\nmore lines behind it", "refused line 1 NotYet\n"),
+        ("*CLS\nmore lines behind it", "refused line 2 Words\n"),
         ("*IDN?\n\n", "refused line 2 Words\n"),
         ("*IDN?\nmore lines behind it", "refused line 2 Words\n"),
     ] {
@@ -246,7 +244,7 @@ fn judges_a_line_by_its_size(rt: HostRuntime) -> Result<(), Fail> {
         ("*OPC?", 1_020, "\n", 0, " bytes 2 310a outcome Complete\n"),
         ("*OPC?", 4_091, "\n", 0, " bytes 2 310a outcome Complete\n"),
         ("*OPC?", 4_092, "\n", 2, "refused line 1 LongMessage\n"),
-        ("", 4_096, "\n", 2, "refused line 1 NotYet\n"),
+        ("", 4_096, "\n", 0, " bytes 0 - outcome Cancelled\n"),
         ("", 4_097, "\n", 2, "refused line 1 LongMessage\n"),
         ("", 4_097, "", 2, "refused line 1 LongMessage\n"),
         ("*OPC?", 1_019, "\n ", 2, "refused line 2 Words\n"),

@@ -77,6 +77,21 @@ fn asks_with_a_limit(rt: HostRuntime) -> Result<(), Fail> {
 }
 
 #[test]
+fn cancels_an_ask_that_has_no_response(rt: HostRuntime) -> Result<(), Fail> {
+    for message in ["FOO;*OPC?", "*CLS", " "] {
+        let (status, text, _) = run(rt.alloc(), "ask", message.as_bytes(), 64)?;
+        assert_eq!(rt; status, 0, "{message:?}");
+        let parts = [
+            " bytes 0 - outcome Cancelled\n",
+            "book 1 asked 1\nbook 2 cancel 1\nbook 3 settled 1\n",
+            "log 2 bare\n",
+        ];
+        assert!(rt; stand_in(&text, &parts), "{message:?}");
+    }
+    Ok(())
+}
+
+#[test]
 fn asks_for_the_longest_response(rt: HostRuntime) -> Result<(), Fail> {
     let (status, text, _) = run(rt.alloc(), "ask 65535", b"READ? 60000\n", 64)?;
     assert_eq!(rt; status, 0);
@@ -164,6 +179,66 @@ const IDLE: Row<'_> = Row {
     ],
 };
 
+/// A read that was answered before its unlink: its ticket is complete.
+const HELD: Row<'_> = Row {
+    script: "ask 0 200 2a4f50433f\nup 9999\ntake 9\nexec\ndown 9999\nup 9999\ntake 9\ndown 9999\nup 9999\nbegin 9\nfill 9\ncancel 1\nup 9999\ndown 9999\n",
+    parts: &[
+        "event 11 ok\nevent 12 begun\nevent 13 ok\nevent 14 ok\nhub running\n",
+        " bytes 2 310a outcome Complete\nbook 1 asked 1\nbook 2 cancel 1\nbook 3 settled 1\nlog 1 exec 1 2a4f50433f\nlog 2 took 2\nup 224\n",
+        "down 208\n",
+        // The answer to the unlink: status 0.
+        "d 0000000400000004000000000000000000000000000000000000000000000000\n",
+    ],
+};
+
+/// A read that was taken back: its ticket is cancelled, and its response is aborted.
+const RACED: Row<'_> = Row {
+    script: "ask 0 200 2a4f50433f\nup 9999\ntake 9\nexec\ndown 9999\nup 9999\ntake 9\ndown 9999\nup 9999\nbegin 9\ncancel 1\nup 9999\nfill 9\ndown 9999\nrest\n",
+    parts: &[
+        "event 11 begun\nevent 12 ok\nevent 13 not-enabled\nevent 14 ok\nevent 15 ok\nhub running\n",
+        " bytes 0 - outcome Cancelled\nbook 1 asked 1\nbook 2 cancel 1\nbook 3 settled 1\nlog 1 exec 1 2a4f50433f\nlog 2 took 2\nup 368\n",
+        "down 298\n",
+        // The answer to the unlink: status -104.
+        "d 0000000400000004000000000000000000000000ffffff980000000000000000\n",
+    ],
+};
+
+/// A command is asked: its ticket lives until it is cancelled.
+const COMMAND: Row<'_> = Row {
+    script: "ask 0 200 434f4e462033\nrest\ncancel 1\nrest\nask 0 200 2a4553523f\nrest\n",
+    parts: &[
+        " bytes 0 - outcome Cancelled\nticket 2 session 0 ask limit 200 last 8 ",
+        " bytes 4 3133320a outcome Complete\n",
+        "log 1 exec 1 434f4e462033\nlog 2 bare\nlog 3 exec 8 2a4553523f\nlog 4 took 4\n",
+    ],
+};
+
+/// There is no such ticket.
+const NO_TICKET: Row<'_> = Row {
+    script: "tell 0 -\ncancel 0\ncancel 1\n",
+    parts: &["event 1 refused EmptyMessage\nevent 2 unknown\nevent 3 unknown\n"],
+};
+
+/// Tickets that wait, that have begun and that are settled are cancelled, each more than once.
+const TWICE: Row<'_> = Row {
+    script: "ask 0 200 2a4f50433f\nask 1 200 2a4f50433f\ncancel 2\ncancel 2\ncancel 1\ncancel 1\ncancel 3\nrest\ncancel 1\n",
+    parts: &[
+        "event 3 begun\nevent 4 settled\nevent 5 begun\nevent 6 begun\nevent 7 unknown\nevent 8 ok\nevent 9 settled\n",
+        "book 1 asked 1\nbook 2 asked 2\nbook 3 cancel 2\nbook 4 settled 2\nbook 5 cancel 1\nbook 6 settled 1\nup 164\n",
+    ],
+};
+
+/// A session with three tickets is cancelled, among others.
+const DROPPED: Row<'_> = Row {
+    script: "ask 5 200 2a4f50433f\nask 6 200 2a4f50433f\nask 5 200 2a4f50433f\ntell 5 434f4e462033\ndrop 7\ndrop 5\nrest\ndrop 5\n",
+    parts: &[
+        "event 5 nothing\nevent 6 begun\nevent 7 ok\nevent 8 nothing\n",
+        "ticket 2 session 6 ask limit 200 last ",
+        " bytes 2 310a outcome Complete\n",
+        "book 5 cancel 1\nbook 6 cancel 3\nbook 7 settled 3\nbook 8 cancel 4\nbook 9 settled 4\nbook 10 settled 1\nbook 11 settled 2\n",
+    ],
+};
+
 #[test]
 fn replays_a_script(rt: HostRuntime) -> Result<(), Fail> {
     for row in [
@@ -176,6 +251,12 @@ fn replays_a_script(rt: HostRuntime) -> Result<(), Fail> {
         LAST_NUMBER,
         FAILED,
         IDLE,
+        HELD,
+        RACED,
+        COMMAND,
+        NO_TICKET,
+        TWICE,
+        DROPPED,
     ] {
         let script = row.script;
         let (status, text, _) = run(rt.alloc(), "replay", script.as_bytes(), 4_096)?;
