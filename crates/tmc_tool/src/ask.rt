@@ -73,6 +73,11 @@ fn is_live(world: &World) -> bool {
 /// Cancels the ticket, and lets the world come to rest.
 fn cancel_and_rest(world: &mut World) -> Result<(), Memory> {
     said(world.apply(&Event::Cancel { ticket: TICKET }))?;
+    rest(world)
+}
+
+/// Lets the world come to rest.
+fn rest(world: &mut World) -> Result<(), Memory> {
     said(world.apply(&Event::Rest))?;
     Ok(())
 }
@@ -84,8 +89,7 @@ fn ask_and_rest(alloc: Global, world: &mut World, limit: u32, message: &[u8]) ->
     ensures { IfOk result (λ _. IsBehind 1 1 begun world.old.hub → LedBy 1 1 begun (asked_once limit message.now) world.new.hub) }
 {
     ask_of(alloc, world, limit, message)?;
-    said(world.apply(&Event::Rest))?;
-    Ok(())
+    rest(world)
 }
 
 /// Asks a message of a world.
