@@ -1,16 +1,17 @@
 -- a record stands behind a hub as its link goes on
 use Rattle.std.proofs.Common.{◌≡◌, ◌≢◌, ◌∙◌, ◌≤◌, ◌<◌, ◌⊎◌, ◌+◌, ℕ, inl, inr, Bool, true, false, List, [], ◌∷◌, ◌++◌, length, take, drop, Option, Some, None, refl, sym, ap, subst, arith, append_assoc, append-nil, take-append-drop}
-use Rattle.std.proofs.lemmas.Bool.{lt-ltb, ltb-true}
+use Rattle.std.proofs.lemmas.Bool.{lt-ltb, ltb-true, le-ltb, ltb-false}
 use Rattle.std.specs.Prelude.{nat_lt, if◌then◌else◌}
 use Rattle.tmc_base.specs.Link.{Counts}
 use Rattle.tmc_base.specs.Told.{Told, WentOut, CameIn, Exchanged}
-use Rattle.usbip_wire.specs.Awaited.{Awaited, entries_of, number_of, sent_by}
+use Rattle.usbip_wire.specs.Awaited.{Awaited, entries_of, number_of, sent_by, entry_of}
 use Rattle.usbip_wire.specs.Down.{SpellsAnswer}
 use Rattle.usbip_wire.specs.DownFed.{BadAt, Held, NoneWhole, kept}
 use Rattle.usbip_wire.specs.Laws.{AreNeither}
 use Rattle.usbip_wire.specs.declared.dirs.Outstanding as wire
 use Rattle.usbip_wire.specs.declared.down.DownPhase.TheVariants.{Urbs}
 use Rattle.host_urbs.specs.Record as urbs
+use Rattle.host_urbs.specs.Law as urbs_law
 use Rattle.host_urbs.specs.declared.limits.TheConstants.{OUTBOX_MAX}
 use Rattle.std.proofs.lemmas.List.{length-drop}
 use Rattle.host_hub.specs.declared.hub_core.HubCore.{HubCore}
@@ -39,6 +40,7 @@ use Rattle.host_hub.proofs.Falls.{not_stopped_yet}
 use Rattle.host_hub.proofs.Undisturbing.{Joins, StaysJoined, cut_received, joined_added, joined_in, joined_out, one_received, outbox_more}
 use Rattle.host_hub.proofs.AccountAdds.{TakesNone, all_joined, no_some, none_turn, quiet_reads, quiet_received, same_end, same_limits, takes_still}
 use Rattle.host_hub.proofs.Accounts.{quiet_lies}
+use Rattle.host_urbs.specs.Unanswered.{AreRising}
 
 -- ---- the link goes on
 
@@ -111,61 +113,47 @@ abbrev pub Neither : Type 0
 Neither = (entries more : List wire.Outstanding) (rest : List ℕ) → AreNeither (SpellsAnswer entries) (BadAt Urbs entries) rest
     → AreNeither (SpellsAnswer (entries ++ more)) (BadAt Urbs (entries ++ more)) rest
 
--- at most one submit is out
-data AtMostOne (past : Past) : Type 0 where
-  NoneIs : outstanding past ≡ [] → AtMostOne past
-  OneIs : (x : Sent) → outstanding past ≡ x ∷ [] → AtMostOne past
-
-one_out : (p : Phase) (s : Setting) (past : Past) (core : HubCore) → Stands p s past core → AtMostOne past
-one_out phase.Idle s past core st = NoneIs st.nothing
-one_out phase.Message s past core st = OneIs _ st.out.alone
-one_out phase.Request s past core st = OneIs _ st.out.alone
-one_out phase.Response s past core st = OneIs _ st.out.alone
+abbrev pub Rise : Type 0
+Rise = (first : ℕ) (past : urbs.Past) → urbs_law.Lawful first past → AreRising first (urbs.next first past) (urbs.outstanding past)
 
 -- where more was sent whole, more entries stand behind those that there were
-more_below : (m n : ℕ) (xs : List Awaited) (one : (xs ≡ []) ⊎ ((x : Awaited) × (xs ≡ x ∷ []))) → m ≤ n
+none_below : (m from last : ℕ) (xs : List Awaited) → AreRising from last xs → m ≤ from → below m xs ≡ []
+none_below m from last [] h high = refl
+none_below m from last (x ∷ xs) h high =
+    rw (le-ltb (number_of x) m (omega (arith, h.0, high))) (none_below m (number_of x + 1) last xs h.2 (omega (arith, h.0, high)))
+
+more_below : (m n from last : ℕ) (xs : List Awaited) → AreRising from last xs → m ≤ n
     → (extra : List wire.Outstanding) × (entries_of (below n xs) ≡ entries_of (below m xs) ++ extra)
-more_below m n xs (inl e) few = ([], ap (λ (l : List Awaited). entries_of (below n l)) e ∙ ap (λ (l : List Awaited). entries_of (below m l) ++ []) (sym e))
-more_below m n xs (inr (x, e)) few = by (nat_lt (number_of x) m) refl
+more_below m n from last [] h few = ([], refl)
+more_below m n from last (x ∷ xs) h few = by (nat_lt (number_of x) m) refl (more_below m n (number_of x + 1) last xs h.2 few)
   where
     by : (b : Bool) → nat_lt (number_of x) m ≡ b → (extra : List wire.Outstanding) × (entries_of (below n xs) ≡ entries_of (below m xs) ++ extra)
-    by true f = (
-      [],
-      ap (λ (l : List Awaited). entries_of (below n l)) e
-          ∙ ap (λ (b : Bool). entries_of (if b then x ∷ [] else [])) (lt-ltb (number_of x) n (let g : number_of x < m = ltb-true (number_of x) m f in omega (arith, g, few)))
-          ∙ ap (λ (b : Bool). entries_of (if b then x ∷ [] else []) ++ []) (sym f)
-          ∙ ap (λ (l : List Awaited). entries_of (below m l) ++ []) (sym e),
+        → (extra : List wire.Outstanding) × (entries_of (below n (x ∷ xs)) ≡ entries_of (if b then x ∷ below m xs else below m xs) ++ extra)
+    by true f again = (
+      again.0,
+      ap (λ (b : Bool). entries_of (if b then x ∷ below n xs else below n xs)) (lt-ltb (number_of x) n (let g : number_of x < m = ltb-true (number_of x) m f in omega (arith, g, few)))
+          ∙ ap (λ (l : List wire.Outstanding). entry_of x ∷ l) again.1,
     )
-    by false f = (
-      entries_of (below n xs),
-      ap (λ (b : Bool). entries_of (if b then x ∷ [] else []) ++ entries_of (below n xs)) (sym f)
-          ∙ ap (λ (l : List Awaited). entries_of (below m l) ++ entries_of (below n xs)) (sym e),
+    by false f again = (
+      entries_of (below n (x ∷ xs)),
+      ap (λ (l : List Awaited). entries_of l ++ entries_of (below n (x ∷ xs))) (sym (none_below m (number_of x + 1) last xs h.2 (omega (arith, ltb-false (number_of x) m f)))),
     )
 
-later_lies : Neither → (s : Setting) (past : Past) (sent : List ℕ) (core : HubCore) (count later : ℕ) (rest : List ℕ) → Rests s past sent core → core.end ≡ None → count ≤ later
+later_lies : Rise → Neither → (s : Setting) (past : Past) (count later : ℕ) (rest : List ℕ) → urbs_law.Lawful s.first (crossings s past) → count ≤ later
     → NothingLies s past count rest → NothingLies s past later rest
-later_lies neither s past sent core count later rest r runs few lies =
-    let m = more_below (s.first + count) (s.first + later) (urbs.outstanding (crossings s past)) one (omega (arith, few)) in
+later_lies rise neither s past count later rest lawful few lies =
+    let m = more_below (s.first + count) (s.first + later) s.first (urbs.next s.first (crossings s past)) (urbs.outstanding (crossings s past))
+    (rise s.first (crossings s past) lawful) (omega (arith, few)) in
     let both = neither (entries_sent s past count) m.0 rest (lies.none_whole, lies.none_bad) in
     record {
       none_whole = subst (λ (es : List wire.Outstanding). NoneWhole Urbs es rest) (sym m.1) both.0;
       none_bad = λ f bad. both.1 f (subst (λ (es : List wire.Outstanding). BadAt Urbs es rest f) m.1 bad);
     }
-  where
-    same : urbs.outstanding (crossings s past) ≡ awaited_by s (outstanding past)
-    same = sym (same_outstanding s past r.kept.lawful)
 
-    by : AtMostOne past → (urbs.outstanding (crossings s past) ≡ []) ⊎ ((x : Awaited) × (urbs.outstanding (crossings s past) ≡ x ∷ []))
-    by (NoneIs e) = inl (same ∙ ap (awaited_by s) e)
-    by (OneIs x e) = inr (sent_by (message_of s x.number x.order), same ∙ ap (awaited_by s) e)
-
-    one : (urbs.outstanding (crossings s past) ≡ []) ⊎ ((x : Awaited) × (urbs.outstanding (crossings s past) ≡ x ∷ []))
-    one = by (one_out core.phase s past core (r.stands runs))
-
-pub account_sent : Joins → Neither → (start now later : Told) (counts after : Counts) (s : Setting) (past : Past) (sent received : List ℕ) (core new : HubCore) (n : ℕ)
+pub account_sent : Joins → Rise → Neither → (start now later : Told) (counts after : Counts) (s : Setting) (past : Past) (sent received : List ℕ) (core new : HubCore) (n : ℕ)
     → Account start now counts s past sent received core → core.end ≡ None → WentOut (take n core.urbs.outbox) now later → Rests s past (sent ++ take n core.urbs.outbox) new
     → new.urbs.outbox ≡ drop n core.urbs.outbox → new.reader ≡ core.reader → Account start later after s past (sent ++ take n core.urbs.outbox) received new
-account_sent laws neither start now later counts after s past sent received core new n a runs went rests left same =
+account_sent laws rise neither start now later counts after s past sent received core new n a runs went rests left same =
     let on : SentOn s past (sent ++ take n core.urbs.outbox) a.count =
     sent_on s past sent (take n core.urbs.outbox) (drop n core.urbs.outbox) a.count a.whole
     (ap (λ (l : List ℕ). sent ++ l) (take-append-drop n core.urbs.outbox) ∙ stands_so s past sent core a.rests.knows) in
@@ -179,7 +167,7 @@ account_sent laws neither start now later counts after s past sent received core
           record { urbs = ap (λ (h : Held). h.phase) same ∙ was.urbs; held = ap kept same ∙ was.held; good = ap (λ (h : Held). h.bad) same ∙ was.good };
       count = on.later;
       whole = on.whole;
-      taken = λ all. later_lies neither s past sent core a.count on.later a.rest a.rests runs on.grows (a.taken all);
+      taken = λ all. later_lies rise neither s past a.count on.later a.rest a.rests.knows.follows.lawful on.grows (a.taken all);
       shows = shows_running s past on.later a.rest after.faults after.closings (not_stopped_yet past (sym a.rests.knows.over ∙ runs));
       sum = a.sum;
       plain = a.plain;

@@ -412,11 +412,11 @@ unlinked_roomier past core t need room places o = record {
   running = o.running;
   letters = o.letters;
   needs = o.needs;
-  = queue o.queue;
+  queue = o.queue;
 }
 
 stands_roomier : (p : Phase) (s : Setting) (past : Past) (core : HubCore) (room places : ℕ) → Stands p s past core → Stands p s past (roomier core room places)
-stands_roomier phase.Idle s past core room places i = record { none = i.none; nothing = i.nothing; recovered = i.recovered; = queue i.queue }
+stands_roomier phase.Idle s past core room places i = record { none = i.none; nothing = i.nothing; recovered = i.recovered; queue = i.queue }
 stands_roomier phase.Message s past core room places m = message_roomier s past core room places m
 stands_roomier phase.Request s past core room places m = request_roomier s past core room places m
 stands_roomier phase.Response s past core room places m = response_roomier s past core room places m
@@ -440,7 +440,7 @@ stands_roomier (phase.Recovery at) s past core room places m = record {
     ends = m.repairs.ends;
     heard = m.repairs.heard;
     quiet = m.repairs.quiet;
-    = queue m.repairs.queue;
+    queue = m.repairs.queue;
   };
   submit = m.submit;
   is = m.is;

@@ -1,19 +1,23 @@
 -- what waits to be sent, as messages are written, sent and answered
-use Rattle.std.proofs.Common.{◌≡◌, ◌≤◌, ◌<◌, ℕ, ◌+◌, ◌-◌, zero, suc, Some, Bool, true, false, List, [], ◌∷◌, ◌++◌, length, refl, sym, subst, ◌∙◌, ap, arith, leb}
+use Rattle.std.proofs.Common.{◌≡◌, ◌≤◌, ◌<◌, ℕ, ◌+◌, ◌-◌, zero, suc, Option, None, Some, Bool, true, false, List, [], ◌∷◌, ◌++◌, length, refl, sym, subst, ◌∙◌, ap, arith, leb}
 use Rattle.std.specs.Prelude.{◌==◌, drop, is_some, if◌then◌else◌}
-use Rattle.std.proofs.lemmas.Bool.{eqb-true}
+use Rattle.std.proofs.lemmas.Bool.{eq-eqb, eqb-true}
 use Rattle.std.proofs.lemmas.List.{length-append, length-drop}
 use Rattle.usbip_wire.specs.Up as up
 use Rattle.host_urbs.specs.Unanswered.{seqnum_of}
-use Rattle.usbip_wire.specs.Awaited.{entries_of, entry_of}
+use Rattle.usbip_wire.specs.Awaited.{Awaited, entries_of, entry_of}
+use Rattle.usbip_wire.specs.Down as down
+use Rattle.usbip_wire.specs.Down.{SpellsAnswer}
 use Rattle.usbip_wire.specs.Dirs as dirs
+use Rattle.usbip_wire.specs.declared.dirs.Outstanding.{Outstanding}
 use Rattle.host_urbs.specs.declared.entry.Entry.{Entry}
 use Rattle.host_urbs.specs.declared.entry.Unanswered.{Unanswered}
 use Rattle.host_urbs.specs.declared.entry.Unanswered.TheVariants.{Submit, Unlink}
-use Rattle.host_urbs.specs.Entries.{awaited_of, moved, number_of, others, sent, unanswered_of}
+use Rattle.host_urbs.specs.Entries.{awaited, awaited_of, moved, number_of, others, sent, unanswered_of}
 use Rattle.host_urbs.specs.Held.{AreUnsent, Follows, Held, all_bytes, bytes_of, up_to, wrote}
 use Rattle.host_urbs.specs.Record as urbs
 use Rattle.host_hub.specs.Queued.{Queued, last_unsent}
+use Rattle.host_hub.specs.Tied as answers
 use Rattle.host_hub.proofs.Lists.{clash}
 
 none_long : (xs : List ℕ) → length xs ≡ 0 → xs ≡ []
@@ -84,22 +88,66 @@ entry_number (Submit seqnum dir size) = refl
 entry_number (Unlink seqnum target) = refl
 
 found_sent : (n : ℕ) (messages : List up.Message) (count : ℕ) (es : List Entry) → AreUnsent messages count es
-    → is_some (dirs.submit_of (dirs.find n (entries_of (sent es)))) ≡ true → length (all_bytes (up_to n messages)) - count ≡ 0
+    → is_some (dirs.find n (entries_of (sent es))) ≡ true → length (all_bytes (up_to n messages)) - count ≡ 0
 found_sent n messages count [] h there = clash there
 found_sent n messages count (e ∷ es) h there = step (found_sent n messages count es h.1) (e.unsent == 0) refl there
   where
-    step : (is_some (dirs.submit_of (dirs.find n (entries_of (sent es)))) ≡ true → length (all_bytes (up_to n messages)) - count ≡ 0) → (b : Bool) → (e.unsent == 0) ≡ b
-        → is_some (dirs.submit_of (dirs.find n (entries_of (if b then awaited_of e.message ∷ sent es else sent es)))) ≡ true → length (all_bytes (up_to n messages)) - count ≡ 0
+    step : (is_some (dirs.find n (entries_of (sent es))) ≡ true → length (all_bytes (up_to n messages)) - count ≡ 0) → (b : Bool) → (e.unsent == 0) ≡ b
+        → is_some (dirs.find n (entries_of (if b then awaited_of e.message ∷ sent es else sent es))) ≡ true → length (all_bytes (up_to n messages)) - count ≡ 0
     step again false k g = again g
     step again true k g = by (dirs.number_of (entry_of (awaited_of e.message)) == n) refl g
       where
         by : (b : Bool) → (dirs.number_of (entry_of (awaited_of e.message)) == n) ≡ b
-            → is_some (dirs.submit_of (if b then Some (entry_of (awaited_of e.message)) else dirs.find n (entries_of (sent es)))) ≡ true
+            → is_some (if b then Some (entry_of (awaited_of e.message)) else dirs.find n (entries_of (sent es))) ≡ true
             → length (all_bytes (up_to n messages)) - count ≡ 0
         by true f g =
             let same : n ≡ number_of e.message = sym (eqb-true (dirs.number_of (entry_of (awaited_of e.message))) n f) ∙ entry_number e.message in
             ap (λ (k : ℕ). length (all_bytes (up_to k messages)) - count) same ∙ (sym h.0 ∙ eqb-true e.unsent 0 k)
         by false f g = again g
+
+-- so it is found among all that are outstanding
+found_all : (n : ℕ) (messages : List up.Message) (count : ℕ) (es : List Entry) → AreUnsent messages count es → length (all_bytes (up_to n messages)) - count ≡ 0
+    → dirs.find n (entries_of (sent es)) ≡ dirs.find n (entries_of (awaited es))
+found_all n messages count [] h gone = refl
+found_all n messages count (e ∷ es) h gone = step (dirs.number_of (entry_of (awaited_of e.message)) == n) refl (found_all n messages count es h.1 gone)
+  where
+    step : (b : Bool) → (dirs.number_of (entry_of (awaited_of e.message)) == n) ≡ b → dirs.find n (entries_of (sent es)) ≡ dirs.find n (entries_of (awaited es))
+        → dirs.find n (entries_of (sent (e ∷ es))) ≡ (if b then Some (entry_of (awaited_of e.message)) else dirs.find n (entries_of (awaited es)))
+    step true k again =
+        let same : number_of e.message ≡ n = sym (entry_number e.message) ∙ eqb-true (dirs.number_of (entry_of (awaited_of e.message))) n k in
+        let whole : (e.unsent == 0) ≡ true = eq-eqb e.unsent 0 (h.0 ∙ (ap (λ (m : ℕ). length (all_bytes (up_to m messages)) - count) same ∙ gone)) in
+        rw whole (rw k refl)
+    step false k again = by (e.unsent == 0)
+      where
+        by : (c : Bool) → dirs.find n (entries_of (if c then awaited_of e.message ∷ sent es else sent es)) ≡ dirs.find n (entries_of (awaited es))
+        by true = rw k again
+        by false = again
+
+pub spelled_found : (es : List Outstanding) (m : down.Message) (bytes : List ℕ) → SpellsAnswer es m bytes → is_some (dirs.find (answers.seqnum_of m) es) ≡ true
+spelled_found es (down.RetSubmit head data) bytes h = by (dirs.find head.seqnum es) (ap is_some h.1)
+  where
+    by : (o : Option Outstanding) → is_some (dirs.submit_of o) ≡ true → is_some o ≡ true
+    by None k = k
+    by (Some x) k = refl
+spelled_found es (down.RetUnlink head) bytes h = by (dirs.find head.seqnum es) h.0
+  where
+    by : (o : Option Outstanding) → dirs.is_unlink o ≡ true → is_some o ≡ true
+    by None k = k
+    by (Some x) k = refl
+
+spelled_by : (es all : List Outstanding) (m : down.Message) (bytes : List ℕ) → dirs.find (answers.seqnum_of m) es ≡ dirs.find (answers.seqnum_of m) all → SpellsAnswer es m bytes
+    → SpellsAnswer all m bytes
+spelled_by es all (down.RetSubmit head data) bytes same h = (h.0, ap dirs.submit_of (sym same) ∙ h.1, h.2)
+spelled_by es all (down.RetUnlink head) bytes same h = (ap dirs.is_unlink (sym same) ∙ h.0, h.1)
+
+-- what is spelled as an answer to what was sent whole is one to what is outstanding
+pub spelled_all : (first : ℕ) (past : urbs.Past) (all : List ℕ) (held : Held) (m : down.Message) (bytes : List ℕ) → Follows first past all held
+    → SpellsAnswer (entries_of (sent held.entries)) m bytes → SpellsAnswer (entries_of (urbs.outstanding past)) m bytes
+spelled_all first past all held m bytes f h =
+    spelled_by (entries_of (sent held.entries)) (entries_of (urbs.outstanding past)) m bytes
+    (found_all (answers.seqnum_of m) (urbs.written past) (length all) held.entries f.unsent
+    (found_sent (answers.seqnum_of m) (urbs.written past) (length all) held.entries f.unsent (spelled_found (entries_of (sent held.entries)) m bytes h))
+    ∙ ap (λ (l : List Awaited). dirs.find (answers.seqnum_of m) (entries_of l)) f.awaits) h
 
 last_behind : (e : Entry) (es : List Entry) → 0 < last_unsent es → last_unsent (e ∷ es) ≡ last_unsent es
 last_behind e [] h = absurd (omega (arith, h))
@@ -121,7 +169,7 @@ last_others n messages count (e ∷ (f ∷ fs)) h gone some = step (number_of e.
     step false again = last_behind e (others n (f ∷ fs)) (omega (arith, again, some)) ∙ again
 
 pub queue_taken : (first : ℕ) (past : urbs.Past) (all : List ℕ) (n : ℕ) (old new : Held) → Follows first past all old → Queued old
-    → is_some (dirs.submit_of (dirs.find n (entries_of (sent old.entries)))) ≡ true → new ≡ record old { entries = others n old.entries } → Queued new
+    → is_some (dirs.find n (entries_of (sent old.entries))) ≡ true → new ≡ record old { entries = others n old.entries } → Queued new
 queue_taken first past all n old new follows q there is = subst Queued (sym is) (by (last_unsent old.entries == 0) refl)
   where
     not_none : (m : ℕ) → (m == 0) ≡ false → 0 < m

@@ -1,5 +1,5 @@
 -- bytes are sent, the hub reads on, and the link ends it
-use Rattle.std.proofs.Common.{◌≡◌, ◌≢◌, ℕ, List, [], ◌∷◌, ◌++◌, Some, None, sym, subst, ◌∙◌, append_assoc}
+use Rattle.std.proofs.Common.{◌≡◌, ◌≢◌, ℕ, List, [], ◌∷◌, ◌++◌, Some, None, sym, subst, ◌∙◌, append_assoc, Option}
 use Rattle.usbip_wire.specs.DownFed as down_fed
 use Rattle.host_urbs.specs.Held.{Held, Follows}
 use Rattle.host_hub.specs.declared.hub_core.HubCore.{HubCore}

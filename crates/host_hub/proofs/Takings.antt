@@ -21,7 +21,7 @@ use Rattle.usbip_wire.specs.Urb.{fields}
 use Rattle.host_urbs.specs.Entries as entries
 use Rattle.host_urbs.specs.Law as urbs_law
 use Rattle.host_urbs.specs.Record as urbs
-use Rattle.host_urbs.specs.Unanswered.{AreInARow}
+use Rattle.host_urbs.specs.Unanswered.{AreInARow, AreRising}
 use Rattle.host_hub.specs.declared.hub_core.HubCore.{HubCore}
 use Rattle.host_hub.specs.declared.hub_core.Phase.{Phase}
 use Rattle.host_hub.specs.declared.hub_core.Phase.TheVariants as phase
@@ -39,10 +39,10 @@ use Rattle.host_hub.specs.Tied.{IsDueIn, IsRefused, NothingLies, Received, below
 use Rattle.host_hub.specs.Knows.{HasBook, Knows}
 use Rattle.host_hub.specs.Queued.{Queued}
 use Rattle.host_hub.specs.Stands.{Rests, Stands}
-use Rattle.host_hub.specs.Hears.{GoesByAnswer, HearsOut, IsBehind, OfItself, Takes}
+use Rattle.host_hub.specs.Hears.{GoesByAnswer, HearsOut, IsBehind, OfItself, Takes, HearsUnlink}
 use Rattle.host_hub.specs.Fed.{Fed, FedAnswer, Feeds}
 use Rattle.host_hub.proofs.Begins.{ended_rests}
-use Rattle.host_hub.proofs.Counts.{AtMost, Nothing, Single, entries_here, low_found, none_unlinks, stands_so}
+use Rattle.host_hub.proofs.Counts.{entries_here, low_found, stands_so}
 use Rattle.host_hub.proofs.Sendings.{sent_still}
 use Rattle.host_hub.proofs.Endings.{stopped_kept}
 use Rattle.host_hub.proofs.Failed.{OutNow, out_now}
@@ -50,16 +50,9 @@ use Rattle.host_hub.proofs.Falls.{AllEnds, IsSettling, all_added, all_ends, sett
 use Rattle.host_hub.proofs.Lawful.{lawful_book}
 use Rattle.host_hub.proofs.Lists.{clash}
 use Rattle.host_hub.proofs.Sends.{rests_aside}
-use Rattle.host_hub.proofs.Answering.{sent_whole}
+use Rattle.host_hub.proofs.Queues.{spelled_all, spelled_found}
 use Rattle.host_hub.proofs.Tying.{tied_got}
-
--- ---- where a hub runs, at most one submit is out
-
-pub at_most : (p : Phase) (s : Setting) (past : Past) (core : HubCore) → Stands p s past core → AtMost past × Queued core.urbs
-at_most phase.Idle s past core i = (Nothing i.nothing, i.queue)
-at_most phase.Message s past core m = (Single _ refl m.out.alone, m.out.queue)
-at_most phase.Request s past core m = (Single _ refl m.out.alone, m.out.queue)
-at_most phase.Response s past core m = (Single _ refl m.out.alone, m.out.queue)
+use Rattle.usbip_wire.specs.declared.ret_unlink.RetUnlinkHead.{RetUnlinkHead}
 
 -- ---- no answer has no bytes
 
@@ -230,8 +223,10 @@ still_crossings s (GaveUp ∷ more) past h = absurd h.0
 
 -- ---- one call of the reader
 
-abbrev pub Rows : Type 0
-Rows = (first : ℕ) (past : urbs.Past) → urbs_law.Lawful first past → AreInARow first (urbs.written past)
+-- the numbers of messages are in a row, and those of what is outstanding rise
+pub record Rows : Type 0 where
+  pub written : (first : ℕ) (past : urbs.Past) → urbs_law.Lawful first past → AreInARow first (urbs.written past)
+  pub rise : (first : ℕ) (past : urbs.Past) → urbs_law.Lawful first past → AreRising first (urbs.next first past) (urbs.outstanding past)
 
 pub none_some : {P : Type 0} (e : End) → None ≡ Some e → P
 none_some e k = absurd (no k)
@@ -242,11 +237,8 @@ none_some e k = absurd (no k)
 module _ (rows : Rows) (core : HubCore) (piece : List ℕ) (step : DownStep) (r : down_fed.Held) (es : List Outstanding)
     (same : es ≡ entries_of (entries.sent core.urbs.entries)) (fed : down_fed.Fed core.reader es piece step r)
     (s : Setting) (past : Past) (sent received rest : List ℕ) (count : ℕ) (f : Feeds s past sent received rest count core) where
-  stands_so_far : AtMost past × Queued core.urbs
-  stands_so_far = at_most core.phase s past core (f.rests.stands f.running)
-
   here : es ≡ entries_sent s past count
-  here = same ∙ entries_here rows s past sent core count f.rests.kept.lawful f.rests.knows stands_so_far.1 f.counted stands_so_far.0
+  here = same ∙ entries_here rows.written rows.rise s past sent core count f.rests.knows f.counted
 
   pub judged : Answers Urbs (entries_sent s past count) rest piece step.used step.what r
   judged =
@@ -287,51 +279,33 @@ module _ (rows : Rows) (core : HubCore) (piece : List ℕ) (step : DownStep) (r 
         reads = λ e. record { urbs = ap (λ (h : down_fed.Held). h.phase) j.3; held = ap kept j.3; good = ap (λ (h : down_fed.Held). h.bad) j.3 };
       }
 
+  abbrev raw : List ℕ
+  raw = rest ++ take step.used piece
+
   -- an answer is whole
-  module _ (head : RetSubmitHead) (is : step.what ≡ what.RetSubmit head) where
-    abbrev raw : List ℕ
-    raw = rest ++ take step.used piece
+  module _ (m : down.Message) (spelled_now : SpellsAnswer (entries_sent s past count) m raw) (reader_is : r ≡ record { phase = Urbs; rest = raw; whole = true; bad = None })
+      (within : step.used ≤ length piece) where
+    spelled_here : SpellsAnswer (entries_of (entries.sent core.urbs.entries)) m raw
+    spelled_here = subst (λ (l : List Outstanding). SpellsAnswer l m raw) (sym here ∙ same) spelled_now
 
-    answer : Answers Urbs (entries_sent s past count) rest piece step.used (what.RetSubmit head) r
-    answer = judged_as (what.RetSubmit head) is
-
-    reader_is : r ≡ record { phase = Urbs; rest = raw; whole = true; bad = None }
-    reader_is = answer.3
-
-    spelled_now : SpellsAnswer (entries_sent s past count) (down.RetSubmit head (data_of r)) raw
-    spelled_now = subst (λ (l : List ℕ). SpellsAnswer (entries_sent s past count) (down.RetSubmit head l) raw) (sym (ap data_of reader_is)) answer.1
-
-    pub hears_now : HearsOut s past sent read_core head (data_of r)
-    hears_now = record {
-      rests = rests_now;
-      running = f.running;
-      raw = raw;
-      spelled = subst (λ (l : List Outstanding). SpellsAnswer l (down.RetSubmit head (data_of r)) raw) (sym here ∙ same) spelled_now;
-    }
-
-    pub uses_some : (0 < step.used) × (step.used ≤ length piece)
-    uses_some = (by step.used refl, answer.0)
+    some_used : (0 < step.used) × (step.used ≤ length piece)
+    some_used = (by step.used refl, within)
       where
         by : (n : ℕ) → step.used ≡ n → 0 < step.used
         by zero e =
-            absurd (f.lies.none_whole (down.RetSubmit head (data_of r)) rest []
-            (subst (λ (l : List ℕ). SpellsAnswer (entries_sent s past count) (down.RetSubmit head (data_of r)) l)
-            (ap (λ (n : ℕ). rest ++ take n piece) e ∙ append-nil rest) spelled_now) (sym (append-nil rest)))
+            absurd (f.lies.none_whole m rest []
+            (subst (λ (l : List ℕ). SpellsAnswer (entries_sent s past count) m l) (ap (λ (n : ℕ). rest ++ take n piece) e ∙ append-nil rest) spelled_now)
+            (sym (append-nil rest)))
         by (suc n) e = omega (arith, e)
 
-    outstanding_now : entries_of (entries.sent core.urbs.entries) ≡ entries_of (urbs.outstanding (crossings s past))
-    outstanding_now =
-        let o : OutNow s past read_core = out_now s past sent read_core head (data_of r) hears_now in
-        ap entries_of (sent_whole s past sent read_core _ head.seqnum f.rests.kept.lawful rests_now.knows o.out.alone (ap is_some hears_now.spelled.1))
-
-    pub fed_answer : (new : HubCore) → GoesByAnswer s past sent (down.RetSubmit head (data_of r)) new → new.reader ≡ r → FedAnswer s past sent received count (take step.used piece) new
-    fed_answer new g reader = record {
+    fed_by : (new : HubCore) → GoesByAnswer s past sent m new → new.reader ≡ r → FedAnswer s past sent received count (take step.used piece) new
+    fed_by new g reader = record {
       fed = record {
         more = g.more ++ g.first ∷ [];
-        own = all_added IsOfTurn g.more g.first (behind_turn g.more g.behind) (takes_turn (down.RetSubmit head (data_of r)) g.first g.takes);
-        plain = λ before. all_added IsPlain g.more g.first (g.plain before) (takes_plain (down.RetSubmit head (data_of r)) g.first g.takes);
+        own = all_added IsOfTurn g.more g.first (behind_turn g.more g.behind) (takes_turn m g.first g.takes);
+        plain = λ before. all_added IsPlain g.more g.first (g.plain before) (takes_plain m g.first g.takes);
         due = all_added (IsDueIn s count) g.more g.first (behind_due s count g.more g.behind)
-            (takes_due s count (down.RetSubmit head (data_of r)) g.first g.takes (low_found (s.first + count) head.seqnum (urbs.outstanding (crossings s past)) (ap is_some spelled_now.1)));
+            (takes_due s count m g.first g.takes (low_found (s.first + count) (seqnum_of m) (urbs.outstanding (crossings s past)) (spelled_found (entries_sent s past count) m raw spelled_now)));
         fault = λ e. stop end.LinkFault e;
         closing = λ e. stop end.Unplugged e;
         left = [];
@@ -343,8 +317,8 @@ module _ (rows : Rows) (core : HubCore) (piece : List ℕ) (step : DownStep) (r 
           taken = ap (λ (l : List ℕ). l ++ take step.used piece) f.tied.taken
               ∙ (append_assoc f.tied.front rest (take step.used piece) ∙ sym (append-nil (f.tied.front ++ raw)));
           answers = subst (λ (p : Past). Received (crossings s p) (f.tied.front ++ raw)) (sym joined)
-              (received_by s (down.RetSubmit head (data_of r)) g.more g.first past f.tied.front raw g.behind g.takes f.tied.answers
-              (subst (λ (l : List Outstanding). SpellsAnswer l (down.RetSubmit head (data_of r)) raw) (sym here ∙ (same ∙ outstanding_now)) spelled_now));
+              (received_by s m g.more g.first past f.tied.front raw g.behind g.takes f.tied.answers
+              (spelled_all s.first (crossings s past) sent core.urbs m raw f.rests.knows.follows spelled_here));
         };
         counted = sent_still s (g.more ++ g.first ∷ []) past sent count f.counted;
         lies = λ e. nothing_lies s ((g.more ++ g.first ∷ []) ++ past) count;
@@ -361,7 +335,46 @@ module _ (rows : Rows) (core : HubCore) (piece : List ℕ) (step : DownStep) (r 
         joined = append_assoc g.more (g.first ∷ []) past
 
         stop : (e : End) → stopped (g.more ++ g.first ∷ []) ≡ Some e → OfItself e
-        stop e k = behind_stop (down.RetSubmit head (data_of r)) g.more g.first e g.behind g.takes k
+        stop e k = behind_stop m g.more g.first e g.behind g.takes k
+
+  module _ (head : RetSubmitHead) (is : step.what ≡ what.RetSubmit head) where
+    answer : Answers Urbs (entries_sent s past count) rest piece step.used (what.RetSubmit head) r
+    answer = judged_as (what.RetSubmit head) is
+
+    spelled_submit : SpellsAnswer (entries_sent s past count) (down.RetSubmit head (data_of r)) raw
+    spelled_submit = subst (λ (l : List ℕ). SpellsAnswer (entries_sent s past count) (down.RetSubmit head l) raw) (sym (ap data_of answer.3)) answer.1
+
+    pub hears_now : HearsOut s past sent read_core head (data_of r)
+    hears_now = record {
+      rests = rests_now;
+      running = f.running;
+      raw = raw;
+      spelled = spelled_here (down.RetSubmit head (data_of r)) spelled_submit answer.3 answer.0;
+    }
+
+    pub uses_some : (0 < step.used) × (step.used ≤ length piece)
+    uses_some = some_used (down.RetSubmit head (data_of r)) spelled_submit answer.3 answer.0
+
+    pub fed_answer : (new : HubCore) → GoesByAnswer s past sent (down.RetSubmit head (data_of r)) new → new.reader ≡ r → FedAnswer s past sent received count (take step.used piece) new
+    fed_answer = fed_by (down.RetSubmit head (data_of r)) spelled_submit answer.3 answer.0
+
+  module _ (head : RetUnlinkHead) (is : step.what ≡ what.RetUnlink head) where
+    unlink_answer : Answers Urbs (entries_sent s past count) rest piece step.used (what.RetUnlink head) r
+    unlink_answer = judged_as (what.RetUnlink head) is
+
+    pub hears_unlink_now : HearsUnlink s past sent read_core head
+    hears_unlink_now = record {
+      rests = rests_now;
+      running = f.running;
+      raw = raw;
+      spelled = spelled_here (down.RetUnlink head) unlink_answer.1 unlink_answer.2 unlink_answer.0;
+    }
+
+    pub unlink_uses_some : (0 < step.used) × (step.used ≤ length piece)
+    unlink_uses_some = some_used (down.RetUnlink head) unlink_answer.1 unlink_answer.2 unlink_answer.0
+
+    pub fed_unlink : (new : HubCore) → GoesByAnswer s past sent (down.RetUnlink head) new → new.reader ≡ r → FedAnswer s past sent received count (take step.used piece) new
+    fed_unlink = fed_by (down.RetUnlink head) unlink_answer.1 unlink_answer.2 unlink_answer.0
 
   -- a field is refused
   module _ (field : Field) (is : step.what ≡ what.Bad field) where
@@ -425,15 +438,14 @@ module _ (rows : Rows) (core : HubCore) (piece : List ℕ) (step : DownStep) (r 
             ap (λ (o : Option End). takes_all_by o (stopped p)) (sym h.knows.over ∙ ended_by) ∙ ap (λ (o : Option End). takes_all_by (Some (end.PeerFault field)) o) k
 
   -- nothing else comes
-  pub nothing_else : (step.what ≡ what.More → ⊥) → ((h : RetSubmitHead) → step.what ≡ what.RetSubmit h → ⊥) → ((g : Field) → step.what ≡ what.Bad g → ⊥) → ⊥
-  nothing_else more submit bad = by step.what refl
+  pub nothing_else : (step.what ≡ what.More → ⊥) → ((h : RetSubmitHead) → step.what ≡ what.RetSubmit h → ⊥) → ((h : RetUnlinkHead) → step.what ≡ what.RetUnlink h → ⊥) → ((g : Field) → step.what ≡ what.Bad g → ⊥) → ⊥
+  nothing_else more submit unlink bad = by step.what refl
     where
       by : (w : Down) → step.what ≡ w → ⊥
       by what.More e = more e
       by (what.RetSubmit h) e = submit h e
       by (what.Bad g) e = bad g e
-      by (what.RetUnlink h) e =
-          clash (sym (none_unlinks s past h.seqnum count f.rests.kept.lawful stands_so_far.0) ∙ (judged_as (what.RetUnlink h) e).1.0)
+      by (what.RetUnlink h) e = unlink h e
       by (what.Count status devices) e = (judged_as (what.Count status devices) e).1
       by (what.Device device) e = (judged_as (what.Device device) e).1
       by (what.Interface class subclass protocol) e = (judged_as (what.Interface class subclass protocol) e).1

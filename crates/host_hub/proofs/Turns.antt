@@ -126,11 +126,11 @@ unlinked_counted past core t need n o = record {
   running = o.running;
   letters = o.letters;
   needs = o.needs;
-  = queue o.queue;
+  queue = o.queue;
 }
 
 stands_counted : (p : Phase) (s : Setting) (past : Past) (core : HubCore) (n : ℕ) → Stands p s past core → Stands p s past (counted core n)
-stands_counted phase.Idle s past core n i = record { none = i.none; nothing = i.nothing; recovered = i.recovered; = queue i.queue }
+stands_counted phase.Idle s past core n i = record { none = i.none; nothing = i.nothing; recovered = i.recovered; queue = i.queue }
 stands_counted phase.Message s past core n m = message_counted s past core n m
 stands_counted phase.Request s past core n m = request_counted s past core n m
 stands_counted phase.Response s past core n m = response_counted s past core n m
@@ -154,7 +154,7 @@ stands_counted (phase.Recovery at) s past core n m = record {
     ends = m.repairs.ends;
     heard = m.repairs.heard;
     quiet = m.repairs.quiet;
-    = queue m.repairs.queue;
+    queue = m.repairs.queue;
   };
   submit = m.submit;
   is = m.is;

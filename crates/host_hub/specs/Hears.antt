@@ -34,6 +34,7 @@ use Rattle.host_hub.specs.Joined.{IsPlain}
 use Rattle.host_hub.specs.Stands.{Rests}
 use Rattle.host_hub.specs.Knows.{Knows}
 use Rattle.host_hub.specs.Queued.{Queued}
+use Rattle.usbip_wire.specs.declared.ret_unlink.RetUnlinkHead.{RetUnlinkHead}
 
 -- a submit is out, and these bytes are the answer to it with this data
 pub record Hears (s : Setting) (past : Past) (sent : List ℕ) (core : HubCore) (head : RetSubmitHead) (bytes : List ℕ) : Type 0 where
@@ -67,6 +68,19 @@ pub record IsHeardOut (core : HubCore) (head : RetSubmitHead) : Type 0 where
   pub past : Past
   pub sent : List ℕ
   pub out : HearsOut setting past sent core head (data_of core.reader)
+
+-- the same of an answer to an unlink
+pub record HearsUnlink (s : Setting) (past : Past) (sent : List ℕ) (core : HubCore) (head : RetUnlinkHead) : Type 0 where
+  pub rests : Rests s past sent core
+  pub running : core.end ≡ None
+  pub raw : List ℕ
+  pub spelled : SpellsAnswer (entries_of (entries.sent core.urbs.entries)) (down.RetUnlink head) raw
+
+pub record IsHeardUnlink (core : HubCore) (head : RetUnlinkHead) : Type 0 where
+  pub setting : Setting
+  pub past : Past
+  pub sent : List ℕ
+  pub hears : HearsUnlink setting past sent core head
 
 -- the answer was taken, and made this of the active ticket
 pub record TicketEnds (s : Setting) (past : Past) (sent : List ℕ) (core : HubCore) (outcome : Outcome) : Type 0 where

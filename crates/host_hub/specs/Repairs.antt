@@ -2,7 +2,7 @@
 use Rattle.std.specs.Prelude.{◌≡◌, ℕ, false, Option, Some, None, List, []}
 use Rattle.host_recover.specs.declared.need.Need.{Need}
 use Rattle.host_recover.specs.declared.want.Heard.{Heard}
-use Rattle.host_recover.specs.declared.want.Heard.TheVariants as heard
+use Rattle.host_recover.specs.declared.want.Heard.TheVariants as hearing
 use Rattle.host_recover.specs.declared.want.Want.{Want}
 use Rattle.host_recover.specs.Letter.{Ask, Letter}
 use Rattle.host_recover.specs.Recover.{Answer, Follows, HasHeard, IsAwaited, IsStuck, Wants, behind}
@@ -53,7 +53,7 @@ pub record Resumes (s : Setting) (past : Past) (sent : List ℕ) (core : HubCore
   pub before : List Letter
   pub heard : HasHeard before core.recover
   pub letters : letters past ≡ behind before core.recover.awaits hears
-  pub plain : (answer : ClassAnswer) → hears ≡ heard.Class answer → ⊥
+  pub plain : (answer : ClassAnswer) → hears ≡ hearing.Class answer → ⊥
 
 pub record IsResumed (core : HubCore) (hears : Heard) : Type 0 where
   pub setting : Setting

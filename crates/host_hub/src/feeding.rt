@@ -10,7 +10,7 @@ ghost use Rattle.host_hub.specs.Stands.{IsAtRest, Rests};
 
 use crate::End;
 use crate::hub_core::HubCore;
-use host_urbs::numbers_are_in_a_row;
+use host_urbs::{few_are_outstanding, numbers_are_in_a_row};
 use usbip_wire::Down;
 
 impl HubCore {
@@ -60,6 +60,7 @@ impl HubCore {
         ensures keeps { Keeps self.old self.new }
     {
         numbers_are_in_a_row();
+        few_are_outstanding();
         let step = self.reader.feed(bytes, self.urbs.dirs());
         match step.what {
             Down::RetSubmit(head) => {

@@ -22,6 +22,7 @@ ghost use Rattle.host_hub.specs.Steps.{took};
 ghost use Rattle.host_hub.specs.Hears.{GoesByAnswer, Hears, HearsOut, IsHeard, IsHeardOut, IsPieceEnd, IsTicketEnd, PieceEnds, TicketEnds, failed_as};
 ghost use Rattle.host_hub.specs.Knows.{Knows};
 ghost use Rattle.host_hub.specs.Queued.{Queued};
+ghost use Rattle.host_hub.specs.declared.hub_core.Repair.{Repair};
 
 use crate::hub_core::{HubCore, Phase, Race, Submit};
 use crate::transfers::pieces_are_assembled;
@@ -71,7 +72,14 @@ impl HubCore {
     }
 
     /// A submit was answered with another status than 0.
-    fn hear_failure(&mut self, head: RetSubmitHead) {
+    fn hear_failure(&mut self, head: RetSubmitHead)
+        requires heard { IsHeardOut self.old head }
+        requires failed { head.status ≢ pos 0 }
+        requires there { is_gone head.status ≡ false }
+        ensures goes { (s : Setting) (past : Past) (sent : List ℕ) → HearsOut s past sent self.old head (data_of self.old.reader)
+            → GoesByAnswer s past sent (down.RetSubmit head (data_of self.old.reader)) self.new }
+        ensures leaves { Leaves self.old self.new }
+    {
         match self.phase {
             Phase::Recovery(repair) => self.repair_failed(repair, head),
             _ => self.answer_failed(head),
@@ -154,6 +162,7 @@ impl HubCore {
         requires heard { IsHeardOut self.old head }
         requires failed { head.status ≢ pos 0 }
         requires there { is_gone head.status ≡ false }
+        requires ticket { (at : Repair) → self.old.phase ≡ phase.Recovery at → ⊥ }
         ensures goes { (s : Setting) (past : Past) (sent : List ℕ) → HearsOut s past sent self.old head (data_of self.old.reader)
             → GoesByAnswer s past sent (down.RetSubmit head (data_of self.old.reader)) self.new }
         ensures leaves { Leaves self.old self.new }

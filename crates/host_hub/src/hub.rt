@@ -37,8 +37,12 @@ pub struct Hub<L: Link> {
 
 impl<L: Link> Model for Hub<L> {
     ghost use Rattle.host_hub.specs.Behind.{HubParts, IsRecorded};
+    ghost use Rattle.host_recover.specs.WordsCode.{words_code};
+    ghost use Rattle.std.specs.Coded.{codes};
 
     ghost Value = { HubParts L };
+
+    ghost coded = { Prim.hlevel (codes, words_code (Prim.hlevel codes)) };
 
     ghost view = { λ a. record { link = a.link; core = a.core } };
 

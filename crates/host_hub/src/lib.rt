@@ -7,7 +7,7 @@
 mod answers;
 mod asking;
 mod book;
-mod cancelling;
+mod cancels;
 mod ending;
 mod facts;
 mod feeding;

@@ -1,5 +1,16 @@
 //! How a hub takes the answers that race an unlink: the submit's own, and the unlink's.
 
+ghost use Rattle.std.specs.Prelude.{◌≡◌, ◌≤◌, ℕ, List, Some, None, pos};
+ghost use Rattle.usbip_wire.specs.Down as down;
+ghost use Rattle.usbip_wire.specs.DownFed.{data_of};
+ghost use Rattle.host_hub.specs.declared.hub_core.Phase.TheVariants as phase;
+ghost use Rattle.host_hub.specs.declared.hub_core.Race.TheVariants as race;
+ghost use Rattle.host_hub.specs.declared.hub_core.Submit.TheVariants as submit;
+ghost use Rattle.host_hub.specs.Hears.{GoesByAnswer, HearsOut, HearsUnlink, IsHeardOut, IsHeardUnlink};
+ghost use Rattle.host_hub.specs.Leaves.{Leaves};
+ghost use Rattle.host_hub.specs.Order.{Setting};
+ghost use Rattle.host_hub.specs.Record.{Past};
+
 use crate::hearing::{SHORT_OUT, is_gone};
 use crate::hub_core::{HubCore, Phase, Race, Submit};
 use crate::{End, Kind, Outcome};
@@ -14,7 +25,14 @@ const TAKEN_BACK: i32 = -104;
 impl HubCore {
     /// The submit that is being unlinked was answered with status 0, before its unlink was. What that makes of its ticket it makes all
     /// the same, but no further submit.
-    pub(crate) fn race_answered(&mut self, submit: Submit, head: RetSubmitHead) {
+    pub(crate) fn race_answered(&mut self, submit: Submit, head: RetSubmitHead)
+        requires heard { IsHeardOut self.old head }
+        requires phase { self.old.phase ≡ phase.Unlink (race.Out submit) }
+        requires fine { head.status ≡ pos 0 }
+        ensures goes { (s : Setting) (past : Past) (sent : List ℕ) → HearsOut s past sent self.old head (data_of self.old.reader)
+            → GoesByAnswer s past sent (down.RetSubmit head (data_of self.old.reader)) self.new }
+        ensures leaves { Leaves self.old self.new }
+    {
         match submit {
             Submit::Part | Submit::Request if head.actual < self.asked => {
                 self.fall(head, End::PeerFault(SHORT_OUT));
@@ -29,7 +47,15 @@ impl HubCore {
     }
 
     /// A part of the message was accepted. Where it is not the last one, the message stays unfinished at the device.
-    fn last_part_answered(&mut self, head: RetSubmitHead) {
+    fn last_part_answered(&mut self, head: RetSubmitHead)
+        requires heard { IsHeardOut self.old head }
+        requires phase { self.old.phase ≡ phase.Unlink (race.Out submit.Part) }
+        requires fine { head.status ≡ pos 0 }
+        requires whole { self.old.asked ≤ head.actual }
+        ensures goes { (s : Setting) (past : Past) (sent : List ℕ) → HearsOut s past sent self.old head (data_of self.old.reader)
+            → GoesByAnswer s past sent (down.RetSubmit head (data_of self.old.reader)) self.new }
+        ensures leaves { Leaves self.old self.new }
+    {
         let Some(view) = self.book.view(self.active) else {
             unreachable!()
         };
@@ -44,7 +70,14 @@ impl HubCore {
     }
 
     /// A read was answered: its data are the ticket's, as far as they are in the piece. Where the piece ends, nothing of it is owed.
-    fn last_read_answered(&mut self, head: RetSubmitHead) {
+    fn last_read_answered(&mut self, head: RetSubmitHead)
+        requires heard { IsHeardOut self.old head }
+        requires phase { self.old.phase ≡ phase.Unlink (race.Out submit.Read) }
+        requires fine { head.status ≡ pos 0 }
+        ensures goes { (s : Setting) (past : Past) (sent : List ℕ) → HearsOut s past sent self.old head (data_of self.old.reader)
+            → GoesByAnswer s past sent (down.RetSubmit head (data_of self.old.reader)) self.new }
+        ensures leaves { Leaves self.old self.new }
+    {
         let short = head.actual < BULK_IN_SUBMIT;
         match self.assembly.feed(self.reader.data(), short) {
             Piece::Bad(field) => self.fall(head, End::PeerFault(field)),
@@ -76,7 +109,9 @@ impl HubCore {
     }
 
     /// The answer made no outcome.
-    fn miss(&mut self, need: Option<Need>) {
+    fn miss(&mut self, need: Option<Need>)
+        ensures { self.new ≡ record self.old { phase = phase.Unlink (race.Missed need) } }
+    {
         self.phase = Phase::Unlink(Race::Missed(need));
     }
 
@@ -87,7 +122,11 @@ impl HubCore {
     }
 
     /// Takes the answer to the unlink that is out: so nothing is, and the recovery begins that is called for.
-    pub(crate) fn hear_unlink(&mut self, head: RetUnlinkHead) {
+    pub(crate) fn hear_unlink(&mut self, head: RetUnlinkHead)
+        requires { IsHeardUnlink self.old head }
+        ensures goes { (s : Setting) (past : Past) (sent : List ℕ) → HearsUnlink s past sent self.old head → GoesByAnswer s past sent (down.RetUnlink head) self.new }
+        ensures leaves { Leaves self.old self.new }
+    {
         let Phase::Unlink(race) = self.phase else {
             unreachable!()
         };

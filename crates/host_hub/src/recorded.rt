@@ -21,6 +21,7 @@ ghost use Rattle.host_hub.specs.Tied.{Closed, Failed, Went};
 
 use crate::{hubs_begin_joined, hubs_stay_joined, messages_are_lawful, tickets_own_their_bytes};
 use host_joint::no_answer_is_refused;
+use host_urbs::few_are_outstanding;
 use usbip_wire::{answers_are_determined, entries_may_be_added};
 
 /// What holds of a hub by every record behind it.
@@ -98,4 +99,5 @@ pub(crate) fn accounts_are_turned()
     hubs_stay_joined();
     answers_are_determined();
     entries_may_be_added();
+    few_are_outstanding();
 }

@@ -9,7 +9,7 @@ pub returns-clause-counted : goal.returns-clause-counted
 returns-clause-counted c = account_counted
 
 pub returns-clause-sent : goal.returns-clause-sent
-returns-clause-sent c = account_sent (record { device = c.hubs_stay_joined.ensures.device; hub = c.hubs_stay_joined.ensures.hub; free = c.answers_are_determined.ensures.free }) c.entries_may_be_added.ensures.neither
+returns-clause-sent c = account_sent (record { device = c.hubs_stay_joined.ensures.device; hub = c.hubs_stay_joined.ensures.hub; free = c.answers_are_determined.ensures.free }) c.few_are_outstanding.ensures.rise c.entries_may_be_added.ensures.neither
 
 pub returns-clause-unsent : goal.returns-clause-unsent
 returns-clause-unsent c = turns_unsent (record { device = c.hubs_stay_joined.ensures.device; hub = c.hubs_stay_joined.ensures.hub; free = c.answers_are_determined.ensures.free })

@@ -3,7 +3,8 @@ use Rattle.std.specs.Prelude.{is_some}
 use Rattle.host_urbs.specs.Held.{Held}
 use Rattle.host_hub.specs.Crossings.{crossings}
 use Rattle.host_hub.proofs.Heard.{knows_taken, taken_fits}
-use Rattle.host_hub.proofs.Queues.{queue_taken}
+use Rattle.usbip_wire.specs.Down as down
+use Rattle.host_hub.proofs.Queues.{queue_taken, spelled_found}
 use Rattle.host_hub.proofs.hub_core.HubCore.take.Goals as goal
 
 pub overflow_add-self : goal.overflow_add-self
@@ -20,7 +21,7 @@ pub returns-clause-queue : goal.returns-clause-queue
 returns-clause-queue c =
     let k = c.requires in
     queue_taken k.setting.first (crossings k.setting k.past) k.sent c.args.head.seqnum c.args.self.now.urbs c.answer.new.self k.hears.knows.follows k.hears.queue
-    (ap is_some k.hears.spelled.1) c.answer.ensures.taken
+    (spelled_found _ (down.RetSubmit c.args.head k.bytes) k.hears.raw k.hears.spelled) c.answer.ensures.taken
 
 pub returns-clause-follows : goal.returns-clause-follows
 returns-clause-follows c = λ s past sent bytes h. c.answer.ensures.recorded s.first (crossings s past) sent bytes h.raw h.knows.follows h.spelled
