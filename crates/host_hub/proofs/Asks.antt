@@ -15,13 +15,13 @@ use Rattle.host_hub.specs.declared.refusals.AskFault.TheVariants as fault
 use Rattle.host_hub.specs.BookSeen.{BookSeen}
 use Rattle.host_hub.specs.Noted.{Noted}
 use Rattle.host_hub.specs.Order.{Order, Setting, is_listen, Unlink}
-use Rattle.host_hub.specs.Record.{Asking, Asked, Past, next}
+use Rattle.host_hub.specs.Record.{Asking, Asked, Past, next, Of}
 use Rattle.host_hub.specs.Hand.{ended, in_hand, is_begun, is_of}
 use Rattle.host_hub.specs.Outstanding.{Sent, busy, involved, outstanding}
 use Rattle.host_hub.specs.Book.{active, asking_of, first_of, live, tickets, is_live}
 use Rattle.host_hub.specs.Status.{listens}
 use Rattle.host_hub.specs.Refusals.{ask_fault, ask_fault_while, has_limit, has_message, is_full, limits, needs_488}
-use Rattle.host_hub.specs.Law.{Kept, IsHandOver}
+use Rattle.host_hub.specs.Law.{Kept, IsHandOver, Lawful}
 use Rattle.host_hub.specs.Steps.{asked}
 use Rattle.host_recover.specs.declared.need.Need.{Need}
 use Rattle.host_recover.specs.declared.need.Need.TheVariants as need
@@ -187,7 +187,7 @@ hand_waits_asked s past a x rest kept running over out plain = by (active past) 
 settled_asked : (s : Setting) (past : Past) (a : Asking) (t : ℕ) → Lawful s past → in_hand past ≡ Some t → is_live t past ≡ false → is_live t (asked past a) ≡ false
 settled_asked s past a t lawful hand settled =
     has_more t (tickets past + 1) (live past)
-    (differ (tickets past + 1) t (λ e. clash (sym (unasked_begun s past lawful t (omega (arith, e))) ∙ hand_begun past t hand))) ∙ settled
+    (differ (tickets past + 1) t (λ e. clash (sym (unasked_begun s past lawful t (omega (arith, e))) ∙ hand_begun t past hand))) ∙ settled
 
 over_asked : (s : Setting) (past : Past) (a : Asking) (o : Option ℕ) → Lawful s past → in_hand past ≡ o → IsHandOver o past → IsHandOver o (asked past a)
 over_asked s past a None lawful hand over = tt

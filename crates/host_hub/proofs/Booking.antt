@@ -9,12 +9,12 @@ use Rattle.host_hub.specs.declared.outcome.Outcome.{Outcome}
 use Rattle.host_hub.specs.declared.outcome.Outcome.TheVariants.{Done, Live}
 use Rattle.host_hub.specs.declared.ticket.Ticket.{Ticket}
 use Rattle.host_hub.specs.BookSeen.{BookSeen, Seen, IsTicket, seen_of, all_seen, ticket_of}
-use Rattle.host_hub.specs.BookRoom.{IsRoomy, HaveRoom, comes_from, ending, has_given_up, is_open, open_count, opens, to_come}
+use Rattle.host_hub.specs.BookRoom.{IsRoomy, HaveRoom, comes_from, ending, has_cancel, has_given_up, is_open, open_count, opens, to_come}
 use Rattle.host_hub.specs.BookChanges.{with_seen, with_settled, with_asked}
 use Rattle.host_hub.specs.declared.service.Service.{Service}
 use Rattle.host_hub.proofs.Lists.{clash, differ}
 use Rattle.host_hub.proofs.Seen.{seen_at, seen_count}
-use Rattle.host_hub.proofs.Opens.{comes_asked, comes_entered, comes_most, comes_settled, opens_added, opens_at, opens_same, opens_set}
+use Rattle.host_hub.proofs.Opens.{comes_asked, comes_cancelled, comes_entered, comes_most, comes_settled, opens_added, opens_at, opens_same, opens_set}
 
 -- ---- a ticket is written anew
 
@@ -128,6 +128,16 @@ pub kept_is : (kept : List Ticket) (book : BookSeen) (n : ℕ) (x d : Ticket) �
     → slice_get kept (n - 1) ≡ Some x
 kept_is kept book n x d same there e = slice_get-get_or kept (n - 1) d (within kept book n same there) ∙ ap Some (sym e)
 
+pub kept_there : (kept : List Ticket) (i : ℕ) → i < length kept → (y : Ticket) × (slice_get kept i ≡ Some y)
+kept_there [] i h = absurd (omega (arith, h))
+kept_there (x ∷ xs) zero h = (x, refl)
+kept_there (x ∷ xs) (suc i) h = kept_there xs i (omega (arith, h))
+
+pub kept_seen : (kept : List Ticket) (book : BookSeen) (n : ℕ) (y : Ticket) → all_seen kept ≡ book.tickets → IsTicket book n → slice_get kept (n - 1) ≡ Some y
+    → ticket_of n book.tickets ≡ Some (seen_of y)
+kept_seen kept book n y same there e =
+    subst (λ (l : List Seen). ticket_of n l ≡ Some (seen_of y)) same (rw (number_other n there.first) (seen_at kept (n - 1) y e))
+
 -- ---- entries
 
 pub given_added : (xs : List BookEntry) (x : BookEntry) → has_given_up (x ∷ []) ≡ false → has_given_up (xs ++ x ∷ []) ≡ has_given_up xs
@@ -235,6 +245,23 @@ roomy_settled kept made all live n i x y r found lives settled more cap = record
       let given : ending (has_given_up all.items) ≡ ending (has_given_up made.items) =
       ap (λ (l : List BookEntry). ending (has_given_up l)) more ∙ ap ending (given_added made.items (entry.Settled n) refl) in
       omega (arith, r.entries, less, still, count, given, cap);
+}
+
+pub roomy_cancelled : (kept : List Ticket) (made all : Vec BookEntry) (live : ℕ) (n : ℕ) (y : Ticket) → IsRoomy kept made live → 1 ≤ n
+    → slice_get kept (n - 1) ≡ Some y → is_open y.outcome ≡ true → has_cancel n made.items ≡ false → all.items ≡ made.items ++ entry.Cancel n ∷ []
+    → vec_capacity all ≡ vec_capacity made → IsRoomy kept all live
+roomy_cancelled kept made all live n y r first found lives once more cap = record {
+  count = r.count;
+  bytes = r.bytes;
+  entries =
+      let there : slice_get (opens (all_seen kept)) (n - 1) ≡ Some true = opens_at (all_seen kept) (n - 1) (seen_of y) (seen_at kept (n - 1) y found) ∙ ap Some lives in
+      let less : to_come (all_seen kept) all.items + 1 ≤ to_come (all_seen kept) made.items =
+      subst (λ (l : List BookEntry). to_come (all_seen kept) l + 1 ≤ to_come (all_seen kept) made.items) (sym more)
+      (comes_cancelled 1 n (n - 1) (opens (all_seen kept)) made.items (omega (arith, first)) there once) in
+      let count : length all.items ≡ length made.items + 1 = ap (λ (l : List BookEntry). length l) more ∙ length_more made.items (entry.Cancel n) in
+      let given : ending (has_given_up all.items) ≡ ending (has_given_up made.items) =
+      ap (λ (l : List BookEntry). ending (has_given_up l)) more ∙ ap ending (given_added made.items (entry.Cancel n) refl) in
+      omega (arith, r.entries, less, count, given, cap);
 }
 
 pub roomy_given : (kept : List Ticket) (made all : Vec BookEntry) (live : ℕ) → IsRoomy kept made live → has_given_up made.items ≡ false

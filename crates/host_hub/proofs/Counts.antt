@@ -2,7 +2,7 @@
 use Rattle.std.proofs.Common.{◌≡◌, ◌∙◌, ◌≤◌, ◌<◌, ◌+◌, ◌-◌, ℕ, zero, suc, Bool, true, false, List, [], ◌∷◌, ◌++◌, length, take, drop, Some, None, refl, sym, ap, subst, arith, length-append, take-append-drop}
 use Rattle.std.specs.Prelude.{◌==◌, is_some, leb, nat_lt, if◌then◌else◌}
 use Rattle.std.proofs.lemmas.Bool.{eq-eqb, eqb-true, leb-false, leb-true, ltb-false, ltb-true}
-use Rattle.std.proofs.lemmas.List.{length-drop}
+use Rattle.std.proofs.lemmas.List.{length-drop, drop_all}
 use Rattle.usbip_wire.specs.Awaited.{Awaited, entries_of, entry_of, number_of}
 use Rattle.usbip_wire.specs.Awaited as wire
 use Rattle.usbip_wire.specs.Dirs as dirs
@@ -80,11 +80,12 @@ kept_number e = by e.message
 -- nor one behind those that were
 no_fewer : (f n c : ℕ) (ms : List up.Message) → AreInARow f ms → f + c ≤ n → length (held.all_bytes (take (suc c) ms)) ≤ length (held.all_bytes (held.up_to n ms))
 no_fewer f n c [] row h = omega arith
-no_fewer f n c (m ∷ ms) row h = step (leb (seqnum_of m) n) refl (no_fewer_rest c h)
+no_fewer f n c (m ∷ ms) row h = step (leb (seqnum_of m) n) refl (rest c (λ k e. no_fewer (f + 1) n k ms row.1 e) h)
   where
-    no_fewer_rest : (k : ℕ) → f + k ≤ n → length (held.all_bytes (take k ms)) ≤ length (held.all_bytes (held.up_to n ms))
-    no_fewer_rest zero k = omega arith
-    no_fewer_rest (suc k) e = no_fewer (f + 1) n k ms row.1 (omega (arith, e))
+    rest : (c : ℕ) → ((k : ℕ) → f + 1 + k ≤ n → length (held.all_bytes (take (suc k) ms)) ≤ length (held.all_bytes (held.up_to n ms))) → f + c ≤ n
+        → length (held.all_bytes (take c ms)) ≤ length (held.all_bytes (held.up_to n ms))
+    rest zero again e = omega arith
+    rest (suc k) again e = again k (omega (arith, e))
 
     step : (b : Bool) → leb (seqnum_of m) n ≡ b → length (held.all_bytes (take c ms)) ≤ length (held.all_bytes (held.up_to n ms))
         → length (held.bytes_of m ++ held.all_bytes (take c ms)) ≤ length (held.all_bytes (if b then m ∷ held.up_to n ms else held.up_to n ms))
@@ -94,14 +95,10 @@ no_fewer f n c (m ∷ ms) row h = step (leb (seqnum_of m) n) refl (no_fewer_rest
 -- one more than so many
 next_length : (c : ℕ) (ms more : List up.Message) (m : up.Message) → drop c ms ≡ m ∷ more
     → length (held.all_bytes (take (suc c) ms)) ≡ length (held.all_bytes (take c ms)) + length (held.bytes_of m)
-next_length c [] more m e = absurd (no (sym (drop-nil c) ∙ e))
+next_length c [] more m e = absurd (no (sym (drop_all c [] (omega arith)) ∙ e))
   where
     no : [] ≡ m ∷ more → ⊥
     no k = cc
-
-    drop-nil : (k : ℕ) → drop k [] ≡ []
-    drop-nil zero = refl
-    drop-nil (suc k) = refl
 next_length zero (x ∷ xs) more m e =
     let same : x ≡ m = head_same e in
     ap (λ (y : up.Message). length (held.bytes_of y ++ [])) same ∙ (length-append (held.bytes_of m) [] ∙ omega arith)

@@ -1,5 +1,5 @@
 -- which tickets are not settled, and what is still to be entered of them
-use Rattle.std.proofs.Common.{◌≡◌, ◌≤◌, ◌<◌, ◌⊎◌, ℕ, ◌+◌, ◌-◌, ◌*◌, zero, suc, Bool, true, false, List, [], ◌∷◌, ◌++◌, length, Some, None, inl, inr, refl, sym, subst, ◌∙◌, ap, arith}
+use Rattle.std.proofs.Common.{◌≡◌, ◌≤◌, ◌<◌, ◌⊎◌, ℕ, ◌+◌, ◌-◌, ◌*◌, ◌||◌, zero, suc, Bool, true, false, List, [], ◌∷◌, ◌++◌, length, Some, None, inl, inr, refl, sym, subst, ◌∙◌, ap, arith}
 use Rattle.std.specs.Prelude.{◌==◌, slice_get, slice_set, drop}
 use Rattle.std.proofs.lemmas.Bool.{eqb-true}
 use Rattle.std.proofs.lemmas.List.{drop_all}
@@ -8,7 +8,7 @@ use Rattle.host_hub.specs.declared.book.BookEntry.TheVariants as entry
 use Rattle.host_hub.specs.BookSeen.{Seen}
 use Rattle.host_hub.specs.BookRoom.{comes_from, comes_of, first_open_from, has_cancel, is_open, open_count, open_from, opens}
 use Rattle.host_hub.specs.Book.{first_of, has, remove}
-use Rattle.host_hub.proofs.Lists.{clash, differ, or_cases, own, same}
+use Rattle.host_hub.proofs.Lists.{clash, differ, or_cases, or_false, own, same}
 
 -- ---- of tickets
 
@@ -246,6 +246,52 @@ comes_most n (x ∷ xs) entries = step (is_open x.outcome) refl (comes_most (n +
         → comes_from n (opens (x ∷ xs)) entries ≤ 2 * open_count (x ∷ xs)
     step true e again = rw e (omega (arith, again, two_come (has_cancel n entries)))
     step false e again = rw e again
+
+-- a ticket is cancelled, which was not
+cancel_last : (u t : ℕ) (entries : List BookEntry) → has_cancel u (entries ++ entry.Cancel t ∷ []) ≡ has_cancel u entries || (t == u)
+cancel_last u t [] = or_false (t == u)
+cancel_last u t (entry.Cancel v ∷ entries) = ap (λ (b : Bool). (v == u) || b) (cancel_last u t entries) ∙ sym (or_assoc (v == u) (has_cancel u entries) (t == u))
+  where
+    or_assoc : (a b c : Bool) → (a || b) || c ≡ a || (b || c)
+    or_assoc true b c = refl
+    or_assoc false b c = refl
+cancel_last u t (entry.GaveUp ∷ entries) = cancel_last u t entries
+cancel_last u t (entry.Asked v ∷ entries) = cancel_last u t entries
+cancel_last u t (entry.Clear session ∷ entries) = cancel_last u t entries
+cancel_last u t (entry.Settled v ∷ entries) = cancel_last u t entries
+
+no_more : (a b : Bool) → comes_of (a || b) ≤ comes_of a
+no_more true b = omega arith
+no_more false true = omega arith
+no_more false false = omega arith
+
+comes_no_more : (n t : ℕ) (bs : List Bool) (entries : List BookEntry) → comes_from n bs (entries ++ entry.Cancel t ∷ []) ≤ comes_from n bs entries
+comes_no_more n t [] entries = omega arith
+comes_no_more n t (true ∷ bs) entries =
+    omega (arith, comes_no_more (n + 1) t bs entries, ap comes_of (cancel_last n t entries), no_more (has_cancel n entries) (t == n))
+comes_no_more n t (false ∷ bs) entries = comes_no_more (n + 1) t bs entries
+
+pub comes_cancelled : (n t i : ℕ) (bs : List Bool) (entries : List BookEntry) → t ≡ n + i → slice_get bs i ≡ Some true → has_cancel t entries ≡ false
+    → comes_from n bs (entries ++ entry.Cancel t ∷ []) + 1 ≤ comes_from n bs entries
+comes_cancelled n t i [] entries e there once = absurd (none there)
+  where
+    none : None ≡ Some true → ⊥
+    none k = cc
+comes_cancelled n t zero (true ∷ bs) entries e there once =
+    let same : t ≡ n = omega (arith, e) in
+    let was : has_cancel n entries ≡ false = ap (λ (u : ℕ). has_cancel u entries) (sym same) ∙ once in
+    let now : has_cancel n (entries ++ entry.Cancel t ∷ []) ≡ true =
+    cancel_last n t entries ∙ (ap (λ (b : Bool). b || (t == n)) was ∙ (ap (λ (u : ℕ). u == n) same ∙ own n)) in
+    omega (arith, comes_no_more (n + 1) t bs entries, ap comes_of was, ap comes_of now)
+comes_cancelled n t zero (false ∷ bs) entries e there once = clash (some_bool false true there)
+comes_cancelled n t (suc i) (true ∷ bs) entries e there once =
+    omega (
+      arith,
+      comes_cancelled (n + 1) t i bs entries (omega (arith, e)) there once,
+      ap comes_of (cancel_last n t entries),
+      no_more (has_cancel n entries) (t == n),
+    )
+comes_cancelled n t (suc i) (false ∷ bs) entries e there once = comes_cancelled (n + 1) t i bs entries (omega (arith, e)) there once
 
 pub some_to_come : (n u : ℕ) (bs : List Bool) (entries : List BookEntry) → has u (open_from n bs) ≡ true → 1 ≤ comes_from n bs entries
 some_to_come n u bs entries h = omega (arith, comes_settled n (u - n) bs entries (open_at n u bs h))

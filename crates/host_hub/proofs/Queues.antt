@@ -124,7 +124,7 @@ found_all n messages count (e ∷ es) h gone = step (dirs.number_of (entry_of (a
         by false = again
 
 pub spelled_found : (es : List Outstanding) (m : down.Message) (bytes : List ℕ) → SpellsAnswer es m bytes → is_some (dirs.find (answers.seqnum_of m) es) ≡ true
-spelled_found es (down.RetSubmit head data) bytes h = by (dirs.find head.seqnum es) (ap is_some h.1)
+spelled_found es (down.RetSubmit head moved_bytes) bytes h = by (dirs.find head.seqnum es) (ap is_some h.1)
   where
     by : (o : Option Outstanding) → is_some (dirs.submit_of o) ≡ true → is_some o ≡ true
     by None k = k
@@ -137,7 +137,7 @@ spelled_found es (down.RetUnlink head) bytes h = by (dirs.find head.seqnum es) h
 
 spelled_by : (es all : List Outstanding) (m : down.Message) (bytes : List ℕ) → dirs.find (answers.seqnum_of m) es ≡ dirs.find (answers.seqnum_of m) all → SpellsAnswer es m bytes
     → SpellsAnswer all m bytes
-spelled_by es all (down.RetSubmit head data) bytes same h = (h.0, ap dirs.submit_of (sym same) ∙ h.1, h.2)
+spelled_by es all (down.RetSubmit head moved_bytes) bytes same h = (h.0, ap dirs.submit_of (sym same) ∙ h.1, h.2)
 spelled_by es all (down.RetUnlink head) bytes same h = (ap dirs.is_unlink (sym same) ∙ h.0, h.1)
 
 -- what is spelled as an answer to what was sent whole is one to what is outstanding

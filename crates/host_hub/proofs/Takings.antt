@@ -266,7 +266,7 @@ module _ (rows : Rows) (core : HubCore) (piece : List ℕ) (step : DownStep) (r 
       record {
         more = [];
         own = tt;
-        plain = tt;
+        plain = λ before. tt;
         due = tt;
         fault = λ e. none_some end.LinkFault e;
         closing = λ e. none_some end.Unplugged e;
@@ -367,14 +367,14 @@ module _ (rows : Rows) (core : HubCore) (piece : List ℕ) (step : DownStep) (r 
       rests = rests_now;
       running = f.running;
       raw = raw;
-      spelled = spelled_here (down.RetUnlink head) unlink_answer.1 unlink_answer.2 unlink_answer.0;
+      spelled = spelled_here (down.RetUnlink head) unlink_answer.1 unlink_answer.3 unlink_answer.0;
     }
 
     pub unlink_uses_some : (0 < step.used) × (step.used ≤ length piece)
-    unlink_uses_some = some_used (down.RetUnlink head) unlink_answer.1 unlink_answer.2 unlink_answer.0
+    unlink_uses_some = some_used (down.RetUnlink head) unlink_answer.1 unlink_answer.3 unlink_answer.0
 
     pub fed_unlink : (new : HubCore) → GoesByAnswer s past sent (down.RetUnlink head) new → new.reader ≡ r → FedAnswer s past sent received count (take step.used piece) new
-    fed_unlink = fed_by (down.RetUnlink head) unlink_answer.1 unlink_answer.2 unlink_answer.0
+    fed_unlink = fed_by (down.RetUnlink head) unlink_answer.1 unlink_answer.3 unlink_answer.0
 
   -- a field is refused
   module _ (field : Field) (is : step.what ≡ what.Bad field) where
