@@ -35,6 +35,7 @@ pub mod Clean
 pub mod Entries
 pub mod Stopping
 pub mod Cancelling
+pub mod Dropping
 pub mod Recovering
 pub mod Rows
 pub mod WorkedAsks

@@ -207,7 +207,7 @@ pub two_come : (cancelled : Bool) → comes_of cancelled ≤ 2
 two_come true = omega arith
 two_come false = omega arith
 
-cancel_added : (u : ℕ) (entries : List BookEntry) (e : BookEntry) → has_cancel u (e ∷ []) ≡ false → has_cancel u (entries ++ e ∷ []) ≡ has_cancel u entries
+pub cancel_added : (u : ℕ) (entries : List BookEntry) (e : BookEntry) → has_cancel u (e ∷ []) ≡ false → has_cancel u (entries ++ e ∷ []) ≡ has_cancel u entries
 cancel_added u [] e h = h
 cancel_added u (entry.Cancel t ∷ entries) e h = rw (cancel_added u entries e h) refl
 cancel_added u (entry.GaveUp ∷ entries) e h = cancel_added u entries e h
@@ -248,7 +248,7 @@ comes_most n (x ∷ xs) entries = step (is_open x.outcome) refl (comes_most (n +
     step false e again = rw e again
 
 -- a ticket is cancelled, which was not
-cancel_last : (u t : ℕ) (entries : List BookEntry) → has_cancel u (entries ++ entry.Cancel t ∷ []) ≡ has_cancel u entries || (t == u)
+pub cancel_last : (u t : ℕ) (entries : List BookEntry) → has_cancel u (entries ++ entry.Cancel t ∷ []) ≡ has_cancel u entries || (t == u)
 cancel_last u t [] = or_false (t == u)
 cancel_last u t (entry.Cancel v ∷ entries) = ap (λ (b : Bool). (v == u) || b) (cancel_last u t entries) ∙ sym (or_assoc (v == u) (has_cancel u entries) (t == u))
   where

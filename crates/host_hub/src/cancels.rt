@@ -1,5 +1,13 @@
 //! How a ticket is cancelled: what is written then.
 
+ghost use Rattle.std.specs.Prelude.{◌≡◌, ◌∷◌, ℕ, List, true, false};
+ghost use Rattle.host_hub.specs.declared.outcome.Outcome.TheVariants as outcome;
+ghost use Rattle.host_hub.specs.Book.{has, live};
+ghost use Rattle.host_hub.specs.BookRoom.{has_cancel};
+ghost use Rattle.host_hub.specs.Knows.{HasLive, Knows};
+ghost use Rattle.host_hub.specs.Order.{Setting};
+ghost use Rattle.host_hub.specs.Record.{Cancelled, Past, Settled};
+
 use crate::hub_core::{HubCore, Phase, Race, Submit};
 use crate::{CancelAnswer, DropAnswer, Outcome};
 
@@ -51,7 +59,14 @@ impl HubCore {
     }
 
     /// A ticket that has not begun is cancelled, and settled by that.
-    fn drop_queued(&mut self, ticket: u32) {
+    fn drop_queued(&mut self, ticket: u32)
+        requires known { HasLive self.old ticket }
+        requires once { has_cancel ticket self.old.book.entries ≡ false }
+        ensures goes { (s : Setting) (past : Past) (sent : List ℕ) → has ticket (live past) ≡ true → Knows s past sent self.old
+            → Knows s (Settled ticket outcome.Cancelled ∷ Cancelled ticket ∷ past) sent self.new }
+        ensures births { self.new.notes.births ≡ self.old.notes.births }
+        ensures rest { self.new ≡ record self.old { book = self.new.book; notes = self.new.notes; active = self.new.active } }
+    {
         self.enter_cancel(ticket);
         self.settle_ticket(ticket, Outcome::Cancelled);
     }
@@ -65,7 +80,14 @@ impl HubCore {
     }
 
     /// Enters that this ticket is cancelled.
-    fn enter_cancel(&mut self, ticket: u32) {
+    fn enter_cancel(&mut self, ticket: u32)
+        requires known { HasLive self.old ticket }
+        requires once { has_cancel ticket self.old.book.entries ≡ false }
+        ensures goes { (s : Setting) (past : Past) (sent : List ℕ) → has ticket (live past) ≡ true → Knows s past sent self.old
+            → Knows s (Cancelled ticket ∷ past) sent self.new }
+        ensures births { self.new.notes.births ≡ self.old.notes.births }
+        ensures rest { self.new ≡ record self.old { book = self.new.book; notes = self.new.notes } }
+    {
         let mark = self.mark();
         self.book.cancel(ticket);
         self.notes.mark(mark);
