@@ -1,37 +1,40 @@
 -- an answer ends the hub by its status, whatever is out
+use Rattle.host_recover.specs.Letter as recovery
 use Rattle.std.proofs.Common.{◌≡◌, ◌≢◌, ℕ, ℤ, pos, ◌+◌, Bool, true, false, List, [], ◌∷◌, ◌++◌, Option, Some, None, refl, sym, subst, ◌∙◌, ap, append_assoc}
-use Rattle.std.specs.Prelude.{is_some, if◌then◌else◌}
+use Rattle.std.specs.Prelude.{is_some, if◌then◌else◌, ◌==◌}
 use Rattle.std.specs.Ordering.{int_eq}
 use Rattle.usbip_wire.specs.declared.ret_submit.RetSubmitHead.{RetSubmitHead}
 use Rattle.usbip_wire.specs.Down as down
 use Rattle.host_hub.specs.declared.hub_core.HubCore.{HubCore}
 use Rattle.host_hub.specs.declared.hub_core.Phase.{Phase}
 use Rattle.host_hub.specs.declared.hub_core.Phase.TheVariants as phase
+use Rattle.host_hub.specs.declared.hub_core.Race.TheVariants as race
+use Rattle.host_hub.specs.declared.hub_core.Submit.TheVariants as raced
 use Rattle.host_hub.specs.declared.outcome.End.{End}
 use Rattle.host_hub.specs.declared.outcome.End.TheVariants as end
 use Rattle.host_hub.specs.declared.outcome.Outcome.TheVariants as outcome
 use Rattle.host_hub.specs.declared.outcome.Outcome.{Outcome}
-use Rattle.host_hub.specs.Order.{Order, Part, Request, Trigger, Read, Listen, Class, ClearHalt, Unlink, Setting, endpoint_of, is_bulk}
-use Rattle.host_hub.specs.Record.{Asking, Past, Took, Settled, Stopped}
+use Rattle.host_hub.specs.Order.{Order, Part, Request, Trigger, Read, Listen, Class, ClearHalt, Unlink, Setting, endpoint_of, is_bulk, is_unlink, is_listen}
+use Rattle.host_hub.specs.Record.{Asking, Past, Took, Settled, Stopped, Recovery}
 use Rattle.host_hub.specs.Hand.{ended}
 use Rattle.host_hub.specs.Outstanding.{Sent, find, outstanding}
 use Rattle.host_hub.specs.Book.{KeepsBook, active, live, or_else}
 use Rattle.host_hub.specs.Pieces.{Piece, answered, answered_for, data_in, got, least, pieces, read_by, shut_at}
 use Rattle.host_hub.specs.Made.{made_at, served, stalled, standing}
-use Rattle.host_hub.specs.Ends.{end_due, ends_by, fault_end}
+use Rattle.host_hub.specs.Ends.{end_due, ends_by, fault_end, submit_ends, recovery_ends}
 use Rattle.host_hub.specs.Joined.{IsPlain, IsPlainOrder}
 use Rattle.host_hub.specs.Law.{Lawful}
 use Rattle.host_hub.specs.Steps.{Comes, settle_all, took}
 use Rattle.host_hub.specs.Knows.{HasActive, HasBook, Knows}
-use Rattle.host_hub.specs.Stands.{IsIdle, IsOut, Rests, Stands}
+use Rattle.host_hub.specs.Stands.{IsIdle, IsOut, Rests, Stands, OutWith, IsRepairing}
 use Rattle.host_hub.specs.Hears.{GoesByAnswer, Hears, HearsOut, IsBehind, endpoint_out, failed_as}
-use Rattle.host_hub.proofs.Answering.{HeardOut, answered_out, ends_failed, ends_gone, heard_out, hears_out, plain_submit}
-use Rattle.host_hub.proofs.PlainAnswers.{Answered}
+use Rattle.host_hub.proofs.Answering.{HeardOut, answered_out, ends_failed, ends_gone, heard_out, hears_out, plain_submit, may_come}
+use Rattle.host_hub.proofs.PlainAnswers.{Answered, AnsweredWith}
 use Rattle.host_hub.proofs.Lawful.{lawful_book}
 use Rattle.host_hub.proofs.Begins.{ended_rests, none_entries}
 use Rattle.host_hub.proofs.Failing.{failed_kept}
 use Rattle.host_hub.proofs.Falls.{AllEnds, all_added, all_ends, settling_all}
-use Rattle.host_hub.proofs.Lists.{own}
+use Rattle.host_hub.proofs.Lists.{own, clash}
 use Rattle.host_hub.proofs.Stepping.{made_of, settles_lawful}
 use Rattle.host_hub.proofs.Taken.{out_comes}
 use Rattle.host_urbs.specs.declared.entry.Entry.{Entry}
@@ -42,6 +45,13 @@ use Rattle.usbip_wire.specs.Dirs as dirs
 use Rattle.std.proofs.lemmas.Bool.Decides.{Decides-int_eq}
 use Rattle.host_hub.specs.Ends.{is_gone}
 use Rattle.host_hub.proofs.Heard.{got_still}
+use Rattle.host_hub.specs.declared.hub_core.Repair.{Repair}
+use Rattle.host_hub.proofs.Entries.{Answers, answers_submit}
+use Rattle.host_hub.proofs.Queues.{spelled_all}
+use Rattle.host_hub.specs.Crossings.{crossings}
+use Rattle.host_hub.specs.Letters.{order_of}
+use Rattle.host_hub.specs.declared.hub_core.Submit.{Submit}
+use Rattle.host_urbs.specs.Law.{MayTake}
 
 -- ---- what is out
 
@@ -49,7 +59,9 @@ pub record OutNow (s : Setting) (past : Past) (core : HubCore) : Type 0 where
   pub asking : Asking
   pub order : Order
   pub split : Bool
-  pub out : IsOut s past core asking order split
+  pub unlinks : List Sent
+  pub stop : Option Outcome
+  pub out : OutWith unlinks stop s past core asking order split
   pub plain : IsPlainOrder order
   pub bulk : is_bulk order ≡ true
   pub endpoint : endpoint_of s.ends order ≡ endpoint_out s.ends core.phase
@@ -60,8 +72,26 @@ none_sent s past all core head bytes h none =
     let e : None ≡ Some (h.spelled.0.dir, h.spelled.0.size) =
     subst (λ (l : List Entry). dirs.submit_of (dirs.find head.seqnum (entries_of (sent l))) ≡ Some (h.spelled.0.dir, h.spelled.0.size)) is h.spelled.1 in cc
 
-pub out_now : (s : Setting) (past : Past) (all : List ℕ) (core : HubCore) (head : RetSubmitHead) (bytes : List ℕ) → HearsOut s past all core head bytes → OutNow s past core
-out_now s past all core head bytes h = by core.phase refl (h.rests.stands h.running)
+-- an answer to a submit does not come where an unlink alone is out
+only_unlink : (s : Setting) (past : Past) (all : List ℕ) (core : HubCore) (head : RetSubmitHead) (bytes : List ℕ) (x : Sent) → HearsOut s past all core head bytes
+    → outstanding past ≡ x ∷ [] → is_unlink x.order ≡ true → ⊥
+only_unlink s past all core head bytes x h alone is =
+    by (x.number == head.seqnum) (subst (λ (l : List Sent). find head.seqnum l ≡ Some a.0) alone a.1)
+  where
+    a : Answers s past head.seqnum false
+    a = answers_submit s past head bytes h.rests.kept.lawful
+        (may_come (crossings s past) head bytes h.raw (spelled_all s.first (crossings s past) all core.urbs (down.RetSubmit head bytes) h.raw h.rests.knows.follows h.spelled))
+
+    by : (b : Bool) → (if b then Some x else None) ≡ Some a.0 → ⊥
+    by true e = let same : x ≡ a.0 = cc in clash (sym a.2 ∙ (ap (λ (y : Sent). is_unlink y.order) (sym same) ∙ is))
+    by false e = absurd (none e)
+      where
+        none : None ≡ Some a.0 → ⊥
+        none k = cc
+
+pub out_now : (s : Setting) (past : Past) (all : List ℕ) (core : HubCore) (head : RetSubmitHead) (bytes : List ℕ) → HearsOut s past all core head bytes
+    → ((at : Repair) → core.phase ≡ phase.Recovery at → ⊥) → OutNow s past core
+out_now s past all core head bytes h ticket = by core.phase refl (h.rests.stands h.running)
   where
     by : (p : Phase) → core.phase ≡ p → Stands p s past core → OutNow s past core
     by phase.Idle e i = absurd (none_sent s past all core head bytes h i.nothing)
@@ -69,6 +99,8 @@ out_now s past all core head bytes h = by core.phase refl (h.rests.stands h.runn
       asking = m.asking;
       order = _;
       split = m.split;
+      unlinks = [];
+      stop = None;
       out = m.out;
       plain = tt;
       bulk = refl;
@@ -78,6 +110,8 @@ out_now s past all core head bytes h = by core.phase refl (h.rests.stands h.runn
       asking = m.asking;
       order = _;
       split = false;
+      unlinks = [];
+      stop = None;
       out = m.out;
       plain = tt;
       bulk = refl;
@@ -87,14 +121,52 @@ out_now s past all core head bytes h = by core.phase refl (h.rests.stands h.runn
       asking = m.asking;
       order = _;
       split = false;
+      unlinks = [];
+      stop = None;
       out = m.out;
       plain = tt;
       bulk = refl;
       endpoint = sym (ap (λ (p : Phase). endpoint_out s.ends p) e);
     }
+    by (phase.Unlink (race.Out raced.Part)) e m = record {
+      asking = m.both.asking;
+      order = _;
+      split = m.both.split;
+      unlinks = m.unlink ∷ [];
+      stop = Some outcome.Cancelled;
+      out = m.both.out;
+      plain = tt;
+      bulk = refl;
+      endpoint = sym (ap (λ (p : Phase). endpoint_out s.ends p) e);
+    }
+    by (phase.Unlink (race.Out raced.Request)) e m = record {
+      asking = m.both.asking;
+      order = _;
+      split = false;
+      unlinks = m.unlink ∷ [];
+      stop = Some outcome.Cancelled;
+      out = m.both.out;
+      plain = tt;
+      bulk = refl;
+      endpoint = sym (ap (λ (p : Phase). endpoint_out s.ends p) e);
+    }
+    by (phase.Unlink (race.Out raced.Read)) e m = record {
+      asking = m.both.asking;
+      order = _;
+      split = false;
+      unlinks = m.unlink ∷ [];
+      stop = Some outcome.Cancelled;
+      out = m.both.out;
+      plain = tt;
+      bulk = refl;
+      endpoint = sym (ap (λ (p : Phase). endpoint_out s.ends p) e);
+    }
+    by (phase.Unlink (race.Missed need)) e m = absurd (only_unlink s past all core head bytes _ h m.out.alone refl)
+    by (phase.Unlink race.Settled) e m = absurd (only_unlink s past all core head bytes _ h m.out.alone refl)
+    by (phase.Recovery at) e m = absurd (ticket at e)
 
 pub now_heard : (s : Setting) (past : Past) (all : List ℕ) (core : HubCore) (head : RetSubmitHead) (bytes : List ℕ) (h : HearsOut s past all core head bytes) (o : OutNow s past core)
-    → HeardOut s past head bytes o.out.number o.order
+    → HeardOut s past head bytes core.active o.out.number o.order
 now_heard s past all core head bytes h o = heard_out s past all core head bytes o.asking o.order o.split h o.out o.plain
 
 pub now_hears : (s : Setting) (past : Past) (all : List ℕ) (core : HubCore) (head : RetSubmitHead) (bytes : List ℕ) → HearsOut s past all core head bytes → OutNow s past core
@@ -106,7 +178,81 @@ now_hears s past all core head bytes h o = hears_out s past all core head bytes 
 pub now_gone : (s : Setting) (past : Past) (all : List ℕ) (core : HubCore) (head : RetSubmitHead) (bytes : List ℕ) → HearsOut s past all core head bytes → OutNow s past core
     → is_gone head.status ≡ true → ends_by s past (down.RetSubmit head bytes) ≡ Some end.Unplugged
 now_gone s past all core head bytes h o gone =
-    ends_gone s past head bytes (answered_out s past core head o.asking o.order o.split o.out o.plain (now_heard s past all core head bytes h o).same) gone
+    ends_gone s past head bytes (answered_out s past core head bytes o.asking o.order o.split h.rests.kept.lawful o.out o.plain (now_heard s past all core head bytes h o)) gone
+
+-- whatever is out
+pub record HearsAny (s : Setting) (past : Past) (all : List ℕ) (core : HubCore) (head : RetSubmitHead) (bytes : List ℕ) : Type 0 where
+  pub hears : Hears s past all core head bytes
+  pub may : MayTake (crossings s past) (down.RetSubmit head bytes)
+  pub gone : is_gone head.status ≡ true → ends_by s past (down.RetSubmit head bytes) ≡ Some end.Unplugged
+
+-- a submit of a recovery
+pub repair_found : (s : Setting) (past : Past) (all : List ℕ) (core : HubCore) (head : RetSubmitHead) (bytes : List ℕ) (at : Repair) → HearsOut s past all core head bytes
+    → (r : IsRepairing at s past core)
+    → MayTake (crossings s past) (down.RetSubmit head bytes)
+    × (find head.seqnum (outstanding past) ≡ Some (record { number = r.number; owner = Recovery; order = order_of r.submit }))
+repair_found s past all core head bytes at h r = (may, by (r.number == head.seqnum) (subst (λ (l : List Sent). find head.seqnum l ≡ Some a.0) r.alone a.1))
+  where
+    x : Sent
+    x = record { number = r.number; owner = Recovery; order = order_of r.submit }
+
+    may : MayTake (crossings s past) (down.RetSubmit head bytes)
+    may = may_come (crossings s past) head bytes h.raw (spelled_all s.first (crossings s past) all core.urbs (down.RetSubmit head bytes) h.raw h.rests.knows.follows h.spelled)
+
+    a : Answers s past head.seqnum false
+    a = answers_submit s past head bytes h.rests.kept.lawful may
+
+    by : (b : Bool) → (if b then Some x else None) ≡ Some a.0 → find head.seqnum (outstanding past) ≡ Some x
+    by true e = a.1 ∙ sym e
+    by false e = absurd (none e)
+      where
+        none : None ≡ Some a.0 → ⊥
+        none k = cc
+
+plain_repair : (submit : recovery.Submit) → is_listen (order_of submit) ≡ false
+plain_repair (recovery.Ask request) = refl
+plain_repair (recovery.Clear endpoint) = refl
+plain_repair recovery.Read = refl
+
+pub repair_hears : (s : Setting) (past : Past) (all : List ℕ) (core : HubCore) (head : RetSubmitHead) (bytes : List ℕ) (at : Repair) → HearsOut s past all core head bytes
+    → IsRepairing at s past core → HearsAny s past all core head bytes
+repair_hears s past all core head bytes at h r =
+    let f = repair_found s past all core head bytes at h r in
+    record {
+      hears = record {
+        knows = h.rests.knows;
+        lawful = h.rests.kept.lawful;
+        submit = record { number = r.number; owner = Recovery; order = order_of r.submit };
+        found = f.1;
+        plain = plain_repair r.submit;
+        queue = r.repairs.queue;
+        raw = h.raw;
+        spelled = h.spelled;
+      };
+      may = f.0;
+      gone = λ gone. ap (λ (o : Option Sent). submit_ends s o past head bytes) f.1
+          ∙ ap (λ (b : Bool). if b then Some end.Unplugged else recovery_ends (order_of r.submit) head bytes) gone;
+    }
+
+pub hears_any : (s : Setting) (past : Past) (all : List ℕ) (core : HubCore) (head : RetSubmitHead) (bytes : List ℕ) → HearsOut s past all core head bytes → HearsAny s past all core head bytes
+hears_any s past all core head bytes h = by core.phase refl (h.rests.stands h.running)
+  where
+    of_ticket : ((at : Repair) → core.phase ≡ phase.Recovery at → ⊥) → HearsAny s past all core head bytes
+    of_ticket ticket =
+        let o : OutNow s past core = out_now s past all core head bytes h ticket in
+        record {
+          hears = now_hears s past all core head bytes h o;
+          may = (now_heard s past all core head bytes h o).may;
+          gone = now_gone s past all core head bytes h o;
+        }
+
+    by : (p : Phase) → core.phase ≡ p → Stands p s past core → HearsAny s past all core head bytes
+    by phase.Idle e i = absurd (none_sent s past all core head bytes h i.nothing)
+    by phase.Message e m = of_ticket (λ at f. let g : phase.Message ≡ phase.Recovery at = sym e ∙ f in cc)
+    by phase.Request e m = of_ticket (λ at f. let g : phase.Request ≡ phase.Recovery at = sym e ∙ f in cc)
+    by phase.Response e m = of_ticket (λ at f. let g : phase.Response ≡ phase.Recovery at = sym e ∙ f in cc)
+    by (phase.Unlink r) e m = of_ticket (λ at f. let g : phase.Unlink r ≡ phase.Recovery at = sym e ∙ f in cc)
+    by (phase.Recovery at) e m = repair_hears s past all core head bytes at h m
 
 -- ---- another status than 0
 
@@ -135,14 +281,15 @@ shut_data (piece ∷ ps) = by (is_some piece.over)
     by true = refl
     by false = refl
 
-module _ (core : HubCore) (head : RetSubmitHead) (failed : head.status ≢ pos 0) (there : is_gone head.status ≡ false) (s : Setting) (past : Past) (all bytes : List ℕ)
-    (h : HearsOut s past all core head bytes) where
+module _ (core : HubCore) (head : RetSubmitHead) (failed : head.status ≢ pos 0) (there : is_gone head.status ≡ false) (ticket : (at : Repair) → core.phase ≡ phase.Recovery at → ⊥) (s : Setting) (past : Past)
+    (all bytes : List ℕ) (h : HearsOut s past all core head bytes) where
   abbrev failed_out : OutNow s past core
-  failed_out = out_now s past all core head bytes h
+  failed_out = out_now s past all core head bytes h ticket
 
-  abbrev failed_answer : Answered past head
+  abbrev failed_answer : AnsweredWith failed_out.unlinks past head
   failed_answer =
-      answered_out s past core head failed_out.asking failed_out.order failed_out.split failed_out.out failed_out.plain (now_heard s past all core head bytes h failed_out).same
+      answered_out s past core head bytes failed_out.asking failed_out.order failed_out.split h.rests.kept.lawful failed_out.out failed_out.plain
+      (now_heard s past all core head bytes h failed_out)
 
   pub failed_hears : Hears s past all core head bytes
   failed_hears = now_hears s past all core head bytes h failed_out
@@ -152,7 +299,7 @@ module _ (core : HubCore) (head : RetSubmitHead) (failed : head.status ≢ pos 0
 
   failed_comes : Comes s past core.active failed_out.out.number failed_out.order head bytes
   failed_comes =
-      out_comes s past core failed_out.asking failed_out.order failed_out.split head bytes failed_out.out (now_heard s past all core head bytes h failed_out).same
+      out_comes s past core failed_out.asking failed_out.order failed_out.split head bytes failed_out.out (now_heard s past all core head bytes h failed_out).found
       (plain_submit failed_out.order failed_out.plain).0 (now_heard s past all core head bytes h failed_out).may (ends_failed s past head bytes failed_answer there no_success)
 
   failed_got : got core.active (took past head bytes) ≡ got core.active past
@@ -268,7 +415,17 @@ module _ (core : HubCore) (head : RetSubmitHead) (failed : head.status ≢ pos 0
 
 -- ---- no ticket is live, and nothing is out
 
-pub idle_hears : (s : Setting) (past : Past) (all : List ℕ) (core : HubCore) (head : RetSubmitHead) (bytes : List ℕ) → HearsOut s past all core head bytes → core.phase ≡ phase.Idle → ⊥
-idle_hears s past all core head bytes h is =
-    let i : IsIdle past core = subst (λ (p : Phase). Stands p s past core) is (h.rests.stands h.running) in
-    none_sent s past all core head bytes h i.nothing
+pub none_hears : (s : Setting) (past : Past) (all : List ℕ) (core : HubCore) (head : RetSubmitHead) (bytes : List ℕ) → HearsOut s past all core head bytes
+    → (core.phase ≡ phase.Message → ⊥) → (core.phase ≡ phase.Request → ⊥) → (core.phase ≡ phase.Response → ⊥)
+    → ((submit : Submit) → core.phase ≡ phase.Unlink (race.Out submit) → ⊥) → ((at : Repair) → core.phase ≡ phase.Recovery at → ⊥) → ⊥
+none_hears s past all core head bytes h message request response racing repairing = by core.phase refl (h.rests.stands h.running)
+  where
+    by : (p : Phase) → core.phase ≡ p → Stands p s past core → ⊥
+    by phase.Idle e i = none_sent s past all core head bytes h i.nothing
+    by phase.Message e m = message e
+    by phase.Request e m = request e
+    by phase.Response e m = response e
+    by (phase.Unlink (race.Out submit)) e m = racing submit e
+    by (phase.Unlink (race.Missed need)) e m = only_unlink s past all core head bytes _ h m.out.alone refl
+    by (phase.Unlink race.Settled) e m = only_unlink s past all core head bytes _ h m.out.alone refl
+    by (phase.Recovery at) e m = repairing at e

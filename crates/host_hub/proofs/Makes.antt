@@ -169,14 +169,14 @@ module _ (s : Setting) (past : Past) (all : List ℕ) (core : HubCore) (head : R
   abbrev part_order : Order
   part_order = Part m.tag m.text (nat_le (length m.asking.message) (PART_MAX * core.parts))
 
-  pub part_heard : HeardOut s past head bytes m.out.number part_order
+  pub part_heard : HeardOut s past head bytes core.active m.out.number part_order
   part_heard = heard_out s past all core head bytes m.asking part_order m.split h m.out tt
 
   pub part_hears : Hears s past all core head bytes
   part_hears = hears_out s past all core head bytes m.asking part_order m.split h m.out tt
 
   abbrev part_answer : Answered past head
-  part_answer = answered_out s past core head m.asking part_order m.split m.out tt part_heard.same
+  part_answer = answered_out s past core head bytes m.asking part_order m.split h.rests.kept.lawful m.out tt part_heard
 
   pub part_short : head.actual < core.asked → ends_by s past (down.RetSubmit head bytes) ≡ Some (end.PeerFault (record { layer = layer.Urb; name = name.ActualLength; offset = 24 }))
   part_short few =
@@ -186,7 +186,7 @@ module _ (s : Setting) (past : Past) (all : List ℕ) (core : HubCore) (head : R
   module _ (enough : core.asked ≤ head.actual) where
     part_comes : Comes s past core.active m.out.number part_order head bytes
     part_comes =
-        out_comes s past core m.asking part_order m.split head bytes m.out part_heard.same refl part_heard.may
+        out_comes s past core m.asking part_order m.split head bytes m.out part_heard.found refl part_heard.may
         (ends_fine s past head bytes part_answer fine
         ∙ ap as_end (whole_out (size_of s.ends part_order) head.actual (subst (λ (n : ℕ). n ≤ head.actual) m.out.whole enough)))
 

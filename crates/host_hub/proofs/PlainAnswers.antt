@@ -29,21 +29,28 @@ use Rattle.host_hub.proofs.Entries.{Answers, answers_submit}
 use Rattle.host_hub.proofs.Lists.{differ, none_left, none_right, own, same}
 use Rattle.host_hub.proofs.Plain.{AtEnd, AtPart, AtRead, AtRequest, HasCome, InHand, IsMade, IsUnmade, NoneOut, OneOut, Out, Stage, Stands, Told, plain_quiet}
 use Rattle.host_hub.proofs.PlainWrites.{still_plain}
+use Rattle.host_hub.specs.Stands.{AreUnlinks}
 
 -- ---- an answer is taken
 
-pub record Answered (past : Past) (head : RetSubmitHead) : Type 0 where
+-- these unlinks of it are left
+pub record AnsweredWith (unlinks : List Sent) (past : Past) (head : RetSubmitHead) : Type 0 where
   pub ticket : ℕ
   pub number : ℕ
   pub order : Order
   pub plain : IsPlainOrder order
   pub is : head.seqnum ≡ number
   pub found : find head.seqnum (outstanding past) ≡ Some (record { number = number; owner = Of ticket; order = order })
-  pub was : outstanding past ≡ record { number = number; owner = Of ticket; order = order } ∷ []
-  pub none_left : others head.seqnum (outstanding past) ≡ []
+  pub names : AreUnlinks ticket number unlinks
+  pub was : outstanding past ≡ unlinks ++ record { number = number; owner = Of ticket; order = order } ∷ []
+  pub none_left : others head.seqnum (outstanding past) ≡ unlinks
   pub hand : in_hand past ≡ Some ticket
   pub lives : has ticket (live past) ≡ true
   pub last_is : last ticket past ≡ Some order
+
+-- none is
+abbrev pub Answered : Past → RetSubmitHead → Type 0
+Answered past head = AnsweredWith [] past head
 
 pub answered_one : (s : Setting) (past : Past) (head : RetSubmitHead) (bytes : List ℕ) → Lawful s past → MayTake (crossings s past) (down.RetSubmit head bytes) → Out past → Answered past head
 answered_one s past head bytes h may (NoneOut e) = absurd (no (answers_submit s past head bytes h may))
@@ -73,6 +80,7 @@ answered_one s past head bytes h may (OneOut t n k p e hand lives l) = by (n == 
       plain = p;
       is = sym (eqb-true n head.seqnum f);
       found = ap (λ (xs : List Sent). find head.seqnum xs) e ∙ rw f refl;
+      names = tt;
       was = e;
       none_left = ap (λ (xs : List Sent). others head.seqnum xs) e ∙ rw f refl;
       hand = hand;
@@ -81,7 +89,7 @@ answered_one s past head bytes h may (OneOut t n k p e hand lives l) = by (n == 
     }
 
 -- what it makes of the pieces of its ticket
-pub pieces_took : (past : Past) (head : RetSubmitHead) (bytes : List ℕ) (a : Answered past head) → head.status ≡ pos 0
+pub pieces_took : {us : List Sent} (past : Past) (head : RetSubmitHead) (bytes : List ℕ) (a : AnsweredWith us past head) → head.status ≡ pos 0
     → pieces a.ticket (Took (down.RetSubmit head bytes) ∷ past) ≡ answered a.order head bytes (pieces a.ticket past)
 pieces_took past head bytes a e =
     ap (λ (o : Option Sent). answered_for a.ticket o head bytes (pieces a.ticket past)) a.found ∙ rw (own a.ticket) refl

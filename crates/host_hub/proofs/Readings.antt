@@ -191,7 +191,7 @@ module _ (laws : Assembles) (core : HubCore) (head : RetSubmitHead) (is : core.p
   abbrev old_piece : Piece
   old_piece = now_response.piece
 
-  pub response_heard : HeardOut s past head bytes now_response.out.number Read
+  pub response_heard : HeardOut s past head bytes core.active now_response.out.number Read
   response_heard = heard_out s past all core head bytes now_response.asking Read false h now_response.out tt
 
   response_here : Hears s past all core head bytes
@@ -201,7 +201,7 @@ module _ (laws : Assembles) (core : HubCore) (head : RetSubmitHead) (is : core.p
   response_hears a = hears_placed s past all core head bytes a response_here
 
   abbrev response_answer : Answered past head
-  response_answer = answered_out s past core head now_response.asking Read false now_response.out tt response_heard.same
+  response_answer = answered_out s past core head bytes now_response.asking Read false h.rests.kept.lawful now_response.out tt response_heard
 
   response_says : Says old_piece.tag old_piece.size old_piece.bytes bytes (nat_lt head.actual BULK_IN_SUBMIT) said
   response_says =
@@ -224,7 +224,7 @@ module _ (laws : Assembles) (core : HubCore) (head : RetSubmitHead) (is : core.p
   module _ (good : IsGood said) where
     read_comes : Comes s past core.active now_response.out.number Read head bytes
     read_comes =
-        out_comes s past core now_response.asking Read false head bytes now_response.out response_heard.same refl response_heard.may
+        out_comes s past core now_response.asking Read false head bytes now_response.out response_heard.found refl response_heard.may
         (ends_fine s past head bytes response_answer fine ∙ ap as_end (read_refused ∙ good_none said good))
 
     read_pieces : pieces core.active (took past head bytes) ≡ extended head bytes old_piece ∷ now_response.earlier
@@ -357,7 +357,7 @@ pub few_bytes : (core : HubCore) (head : RetSubmitHead) → core.phase ≡ phase
     → (read : List ℕ) → read ≡ bytes → length read < 2 ^ 32
 few_bytes core head is s past all bytes h read same =
     let m : IsInResponse s past core = in_response s past all core head bytes h is in
-    let o : HeardOut s past head bytes m.out.number Read = heard_out s past all core head bytes m.asking Read false h m.out tt in
+    let o : HeardOut s past head bytes core.active m.out.number Read = heard_out s past all core head bytes m.asking Read false h m.out tt in
     omega (arith, ap (λ (l : List ℕ). length l) same, o.returned, o.within)
 
 pub now_holds : {s : Setting} {past : Past} {all : List ℕ} {core : HubCore} {head : RetSubmitHead} {bytes : List ℕ} → (h : HearsOut s past all core head bytes) → (is : core.phase ≡ phase.Response)

@@ -48,14 +48,14 @@ module _ (core : HubCore) (head : RetSubmitHead) (is : core.phase ≡ phase.Requ
     abbrev request_order : Order
     request_order = Request now_request.tag now_request.size
 
-    pub request_heard : HeardOut s past head bytes now_request.out.number request_order
+    pub request_heard : HeardOut s past head bytes core.active now_request.out.number request_order
     request_heard = heard_out s past all core head bytes now_request.asking request_order false h now_request.out tt
 
     pub request_hears : Hears s past all core head bytes
     request_hears = hears_out s past all core head bytes now_request.asking request_order false h now_request.out tt
 
     abbrev request_answer : Answered past head
-    request_answer = answered_out s past core head now_request.asking request_order false now_request.out tt request_heard.same
+    request_answer = answered_out s past core head bytes now_request.asking request_order false h.rests.kept.lawful now_request.out tt request_heard
 
     pub request_short : head.actual < core.asked → ends_by s past (down.RetSubmit head bytes) ≡ Some (end.PeerFault (record { layer = layer.Urb; name = name.ActualLength; offset = 24 }))
     request_short few =
@@ -68,7 +68,7 @@ module _ (core : HubCore) (head : RetSubmitHead) (is : core.phase ≡ phase.Requ
     module _ (enough : core.asked ≤ head.actual) where
       request_comes : Comes s past core.active now_request.out.number request_order head bytes
       request_comes =
-          out_comes s past core now_request.asking request_order false head bytes now_request.out request_heard.same refl request_heard.may
+          out_comes s past core now_request.asking request_order false head bytes now_request.out request_heard.found refl request_heard.may
           (ends_fine s past head bytes request_answer fine
           ∙ ap as_end (whole_out (size_of s.ends request_order) head.actual (subst (λ (n : ℕ). n ≤ head.actual) now_request.out.whole enough)))
 

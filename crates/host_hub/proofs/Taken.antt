@@ -1,6 +1,6 @@
 -- an answer to the submit of the active ticket is taken
 use Rattle.std.specs.Prelude.{slice_set}
-use Rattle.std.proofs.Common.{◌≡◌, ◌≤◌, ℕ, pos, ◌+◌, ◌-◌, Bool, false, List, [], ◌∷◌, ◌++◌, length, Some, None, refl, sym, ◌∙◌, ap, arith}
+use Rattle.std.proofs.Common.{◌≡◌, ◌≤◌, ℕ, pos, ◌+◌, ◌-◌, Bool, false, List, [], ◌∷◌, ◌++◌, length, Some, None, refl, sym, ◌∙◌, ap, arith, Option}
 use Rattle.usbip_wire.specs.declared.ret_submit.RetSubmitHead.{RetSubmitHead}
 use Rattle.usbip_wire.specs.Down as down
 use Rattle.host_urbs.specs.Held.{Held, Follows}
@@ -22,13 +22,14 @@ use Rattle.host_hub.specs.Shown.{ShowsBook, ShowsTicket}
 use Rattle.host_hub.specs.Steps.{Comes, took}
 use Rattle.host_hub.specs.Knows.{Knows}
 use Rattle.host_hub.specs.Queued.{Queued}
-use Rattle.host_hub.specs.Stands.{IsOut, Rests}
+use Rattle.host_hub.specs.Stands.{IsOut, Rests, OutWith}
 use Rattle.host_hub.specs.Writes.{GoesOn}
 use Rattle.host_hub.proofs.Clean.{clean_answers}
 use Rattle.host_hub.proofs.Lists.{differ, own}
 use Rattle.host_hub.proofs.Stepping.{answer_works, no_unlinks_behind}
 use Rattle.host_hub.specs.BookRoom.{first_open_from, open_from, opens}
 use Rattle.host_hub.proofs.Knowing.{anew_opens, each_set, known_first, set_length}
+use Rattle.host_hub.specs.declared.outcome.Outcome.{Outcome}
 
 -- ---- the submit that it answers
 
@@ -39,16 +40,13 @@ one_found t n k m xs is same = rw is (rw same (rw (own n) refl))
 pub none_left : (t n : ℕ) (k : Order) (m : ℕ) (xs : List Sent) → xs ≡ record { number = n; owner = Of t; order = k } ∷ [] → m ≡ n → others m xs ≡ []
 none_left t n k m xs is same = rw is (rw same (rw (own n) refl))
 
-pub out_found : (s : Setting) (past : Past) (core : HubCore) (asking : Asking) (order : Order) (split : Bool) (m : ℕ) → (o : IsOut s past core asking order split) → m ≡ o.number
-    → find m (outstanding past) ≡ Some (record { number = o.number; owner = Of core.active; order = order })
-out_found s past core asking order split m o same = one_found core.active o.number order m (outstanding past) o.alone same
-
-pub out_comes : (s : Setting) (past : Past) (core : HubCore) (asking : Asking) (order : Order) (split : Bool) (head : RetSubmitHead) (bytes : List ℕ)
-    → (o : IsOut s past core asking order split) → head.seqnum ≡ o.number → is_listen order ≡ false → MayTake (crossings s past) (down.RetSubmit head bytes)
+pub out_comes : {us : List Sent} {stop : Option Outcome} (s : Setting) (past : Past) (core : HubCore) (asking : Asking) (order : Order) (split : Bool) (head : RetSubmitHead) (bytes : List ℕ)
+    → (o : OutWith us stop s past core asking order split) → find head.seqnum (outstanding past) ≡ Some (record { number = o.number; owner = Of core.active; order = order })
+    → is_listen order ≡ false → MayTake (crossings s past) (down.RetSubmit head bytes)
     → ends_by s past (down.RetSubmit head bytes) ≡ None → Comes s past core.active o.number order head bytes
-out_comes s past core asking order split head bytes o same plain may good = record {
+out_comes s past core asking order split head bytes o found plain may good = record {
   turn = o.turn;
-  found = out_found s past core asking order split head.seqnum o same;
+  found = found;
   plain = plain;
   may = may;
   good = good;

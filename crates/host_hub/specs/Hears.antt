@@ -12,6 +12,8 @@ use Rattle.host_hub.specs.declared.hub_core.HubCore.{HubCore}
 use Rattle.host_transfers.specs.Piece.{eom_of}
 use Rattle.host_hub.specs.declared.hub_core.Phase.{Phase}
 use Rattle.host_hub.specs.declared.hub_core.Phase.TheVariants as phase
+use Rattle.host_hub.specs.declared.hub_core.Race.TheVariants as race
+use Rattle.host_hub.specs.declared.hub_core.Submit.TheVariants as raced
 use Rattle.host_hub.specs.declared.kind.Kind.TheVariants as kind
 use Rattle.host_hub.specs.declared.outcome.Outcome.TheVariants as outcome
 use Rattle.host_hub.specs.Order.{Read, Setting, is_listen, number_of}
@@ -125,6 +127,7 @@ pub record IsPieceEnd (core : HubCore) (eom : Bool) : Type 0 where
 -- what another status than 0 makes of a ticket: EPIPE says that the endpoint stalled
 abbrev pub endpoint_out : Ends → Phase → ℕ
 endpoint_out ends phase.Response = number_of ends.bulk_in
+endpoint_out ends (phase.Unlink (race.Out raced.Read)) = number_of ends.bulk_in
 endpoint_out ends _ = number_of ends.bulk_out
 
 abbrev pub failed_as : Ends → Phase → (status : ℤ) → Outcome
