@@ -36,6 +36,7 @@ pub mod Entries
 pub mod Stopping
 pub mod Cancelling
 pub mod Dropping
+pub mod RecoverySteps
 pub mod Recovering
 pub mod Rows
 pub mod WorkedAsks

@@ -135,7 +135,7 @@ recovery_begins s past w may = record {
 
 -- ---- its submit is written, and the hub waits
 
-as_law : (s : Setting) (past : Past) (submit : Submit) → Recovering past (order_of submit) → WriteLaw s past Recovery (order_of submit)
+pub as_law : (s : Setting) (past : Past) (submit : Submit) → Recovering past (order_of submit) → WriteLaw s past Recovery (order_of submit)
 as_law s past (Ask request) law = law
 as_law s past (Clear endpoint) law = law
 as_law s past Read law = law

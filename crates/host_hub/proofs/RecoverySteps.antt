@@ -1,0 +1,343 @@
+-- a recovery goes on
+use Rattle.std.proofs.Common.{pos, ℤ, ◌≡◌, ◌≢◌, ◌⊎◌, ◌≤◌, ◌<◌, ℕ, ◌+◌, Bool, true, false, List, [], ◌∷◌, ◌++◌, length, Option, Some, None, refl, sym, subst, ◌∙◌, ap, arith, append_assoc}
+use Rattle.std.specs.Prelude.{◌==◌, ◌&&◌, ◌↔◌, is_some, slice_get, if◌then◌else◌}
+use Rattle.usbip_wire.specs.Down as down
+use Rattle.usbip_wire.specs.declared.ret_submit.RetSubmitHead.{RetSubmitHead}
+use Rattle.host_recover.specs.Letter.{BulkIn}
+use Rattle.tmc_wire.specs.declared.class_request.ClassRequest.{ClassRequest}
+use Rattle.tmc_wire.specs.ControlTable.{TagFits}
+use Rattle.host_urbs.specs.declared.limits.TheConstants.{LAST_SUBMIT}
+use Rattle.host_urbs.specs.Held.{Follows, Held}
+use Rattle.host_urbs.specs.Record as urbs
+use Rattle.host_recover.specs.declared.need.Need.{Need}
+use Rattle.host_recover.specs.declared.want.Heard.{Heard}
+use Rattle.host_recover.specs.declared.want.Heard.TheVariants as hearing
+use Rattle.host_recover.specs.declared.want.Want.{Want}
+use Rattle.host_recover.specs.declared.want.Want.TheVariants as want
+use Rattle.host_recover.specs.Letter as recovery
+use Rattle.host_recover.specs.Letter.{Letter}
+use Rattle.host_recover.specs.Next.{IsNext}
+use Rattle.host_recover.specs.Recover.{Answer, AreSeen, Follows as RecoveryFollows, HasHeard, IsStuck, IsStuckAt, Recovering as RecoveringNow, Wants}
+use Rattle.host_recover.specs.Words.{Has, words_of}
+use Rattle.tmc_wire.specs.declared.class_request.ClassRequest.TheVariants as class
+use Rattle.host_hub.specs.declared.hub_core.HubCore.{HubCore}
+use Rattle.host_hub.specs.declared.hub_core.Phase.{Phase}
+use Rattle.host_hub.specs.declared.hub_core.Phase.TheVariants as phase
+use Rattle.host_hub.specs.declared.hub_core.Repair.{Repair}
+use Rattle.host_hub.specs.declared.outcome.End.{End}
+use Rattle.host_hub.specs.declared.outcome.End.TheVariants as end
+use Rattle.host_hub.specs.BookSeen.{Seen}
+use Rattle.host_hub.specs.Order.{Order, Setting, is_bulk, is_read, is_unlink, message_of}
+use Rattle.host_hub.specs.Order as order
+use Rattle.host_hub.specs.Record.{Past, Recovers, Recovery, Stopped, Wrote, Took, Fell, Asked, Cancelled, Cleared, GaveUp, Settled, next}
+use Rattle.host_hub.specs.Crossings.{crossings}
+use Rattle.host_hub.specs.Hand.{ended, in_hand}
+use Rattle.host_hub.specs.Outstanding.{Sent, busy, find, outstanding}
+use Rattle.host_hub.specs.Book.{live, or_else}
+use Rattle.host_hub.specs.Calls.{All, IsOwn}
+use Rattle.host_hub.specs.Ends.{end_due, fault_end}
+use Rattle.host_hub.specs.Joined.{IsPlain}
+use Rattle.std.specs.Ordering.{int_eq}
+use Rattle.host_hub.specs.Made.{stalled}
+use Rattle.std.proofs.lemmas.Bool.Decides.{Decides-int_eq}
+use Rattle.host_hub.specs.Knows.{Knows}
+use Rattle.host_hub.specs.Law.{ByNumbers, IsHandOver, Kept, MayRecover, Recovering}
+use Rattle.host_hub.specs.Letters.{is_ticket_submit, letters, order_of}
+use Rattle.host_hub.specs.Plan.{last_tag}
+use Rattle.host_hub.specs.Queued.{Queued}
+use Rattle.host_hub.specs.Recovery.{IsWhole, IsWholeFor, MayCome, MayComeFor, clears, halt_after, in_halted, is_same, is_called, is_served, notify_halted, running, serves, wanted}
+use Rattle.host_hub.specs.Repairs.{Calls, IsFree, Resumes, WantsNext}
+use Rattle.host_hub.specs.Shown.{ShowsTicket}
+use Rattle.host_hub.specs.Stands.{GoesTo, IsRepair, Rests}
+use Rattle.host_hub.specs.Steps.{MayWriteNext, Working, recovers_with, settle_all}
+use Rattle.host_hub.specs.Writes.{Done, Puts}
+use Rattle.host_hub.proofs.Begins.{same_device, same_next, stopped_goes}
+use Rattle.host_hub.proofs.Endings.{stopped_kept}
+use Rattle.host_hub.proofs.Queues.{queued_wrote}
+use Rattle.host_hub.proofs.Recovering.{as_law, recovery_begins, recovery_writes}
+
+-- ---- what a record says while a recovery runs
+
+-- nothing that is plain begins one
+plain_rests : (past : Past) → All IsPlain past → running past ≡ None
+plain_rests [] h = refl
+plain_rests (Wrote n o k ∷ past) h = step (is_ticket_submit o k) (plain_rests past h.1)
+  where
+    step : (b : Bool) → running past ≡ None → (if b then None else running past) ≡ None
+    step true e = refl
+    step false e = e
+plain_rests (Recovers ∷ past) h = absurd h.0
+plain_rests (Cancelled t ∷ past) h = absurd h.0
+plain_rests (Cleared w ∷ past) h = absurd h.0
+plain_rests (x ∷ past) h = plain_rests past h.1
+
+pub not_plain : (past : Past) (n : Need) → running past ≡ Some n → All IsPlain past → ⊥
+not_plain past n runs plain = absurd (no (sym (plain_rests past plain) ∙ runs))
+  where
+    no : None ≡ Some n → ⊥
+    no k = cc
+
+runs_served : (past : Past) (n : Need) → running past ≡ Some n → is_served past ≡ true
+runs_served [] n e = refl
+runs_served (Wrote m o k ∷ past) n e = step (is_ticket_submit o k) (runs_served past n) e
+  where
+    step : (b : Bool) → (running past ≡ Some n → is_served past ≡ true) → (if b then None else running past) ≡ Some n → (if b then false else is_served past) ≡ true
+    step true again f = absurd (no f)
+      where
+        no : None ≡ Some n → ⊥
+        no k = cc
+    step false again f = again f
+runs_served (Recovers ∷ past) n e = refl
+runs_served (x ∷ past) n e = runs_served past n e
+
+-- it is over
+pub wants_done : (s : Setting) (past : Past) (sent : List ℕ) (core : HubCore) → WantsNext s past sent core want.Done → Done s past sent core
+wants_done s past sent core w = record {
+  knows = w.free.knows;
+  working = w.free.working;
+  running = w.free.runs;
+  hand = w.free.hand;
+  none_out = w.free.none_out;
+  recovered = (
+    subst (λ (o : Option Need). IsWholeFor o (letters past)) (sym w.running) (w.follows.done.0 refl),
+    rw w.free.called (rw (runs_served past core.recover.need w.running) refl),
+  );
+  queue = w.free.queue;
+}
+
+-- ---- its next submit is written
+
+serves_none : (o : Order) → serves o false ≡ false
+serves_none (order.Class class.Clear) = refl
+serves_none o = refl
+
+-- what is known behind it
+knows_repaired : (s : Setting) (past : Past) (sent : List ℕ) (core : HubCore) (submit : recovery.Submit) (u : Held) → Knows s past sent core → Puts s (order_of submit) core.urbs u
+    → Knows s (recovers_with s past (order_of submit)) sent (record core { urbs = u })
+knows_repaired s past sent core submit u k puts = record {
+  shallow = k.shallow;
+  first_number = k.first_number;
+  interface = k.interface;
+  device = same_device s (order_of submit) core.urbs u puts ∙ k.device;
+  follows = subst (λ (n : ℕ). Follows s.first (urbs.Wrote (message_of s n (order_of submit)) ∷ crossings s past) sent u) (same_next s past sent core k)
+      (puts.recorded (crossings s past) sent k.follows);
+  shows = record { count = k.shows.count; each = λ t one e. shown t one (k.shows.each t one e); entries = k.shows.entries; service = k.shows.service };
+  marks = k.marks;
+  all_started = k.all_started;
+  starts = k.starts;
+  all_born = k.all_born;
+  limit_sum = k.limit_sum;
+  tag = by submit;
+  answers = k.answers;
+  over = k.over;
+  proper = k.proper;
+  few = k.few;
+  lives = k.lives;
+  turn = k.turn;
+  room = k.room;
+}
+  where
+    by : (x : recovery.Submit) → core.tags ≡ last_tag (recovers_with s past (order_of x))
+    by (recovery.Ask request) = k.tag
+    by (recovery.Clear endpoint) = k.tag
+    by recovery.Read = k.tag
+
+    shown : (t : ℕ) (one : Seen) → ShowsTicket past t one → ShowsTicket (recovers_with s past (order_of submit)) t one
+    shown t one h = record { asking = h.asking; last = h.last; bytes = h.bytes; outcome = h.outcome }
+
+-- what is known does not hang on the recovery, nor on where the hub stands
+pub knows_place_repaired : (s : Setting) (past : Past) (sent : List ℕ) (core : HubCore) (p : Phase) → Knows s past sent core → Knows s past sent (record core { phase = p })
+knows_place_repaired s past sent core p k = record {
+  shallow = k.shallow;
+  first_number = k.first_number;
+  interface = k.interface;
+  device = k.device;
+  follows = k.follows;
+  shows = k.shows;
+  marks = k.marks;
+  all_started = k.all_started;
+  starts = k.starts;
+  all_born = k.all_born;
+  limit_sum = k.limit_sum;
+  tag = k.tag;
+  answers = k.answers;
+  over = k.over;
+  proper = k.proper;
+  few = k.few;
+  lives = k.lives;
+  turn = k.turn;
+  room = k.room;
+}
+
+knows_recover : (s : Setting) (past : Past) (sent : List ℕ) (core : HubCore) (r : RecoveringNow) → Knows s past sent core → Knows s past sent (record core { recover = r })
+knows_recover s past sent core r k = record {
+  shallow = k.shallow;
+  first_number = k.first_number;
+  interface = k.interface;
+  device = k.device;
+  follows = k.follows;
+  shows = k.shows;
+  marks = k.marks;
+  all_started = k.all_started;
+  starts = k.starts;
+  all_born = k.all_born;
+  limit_sum = k.limit_sum;
+  tag = k.tag;
+  answers = k.answers;
+  over = k.over;
+  proper = k.proper;
+  few = k.few;
+  lives = k.lives;
+  turn = k.turn;
+  room = k.room;
+}
+
+pub free_aside : (s : Setting) (past : Past) (sent : List ℕ) (core : HubCore) (r : RecoveringNow) → IsFree s past sent core → IsFree s past sent (record core { recover = r })
+free_aside s past sent core r f = record {
+  knows = knows_recover s past sent core r f.knows;
+  working = f.working;
+  runs = f.runs;
+  hand = f.hand;
+  none_out = f.none_out;
+  called = f.called;
+  quiet = f.quiet;
+  queue = f.queue;
+}
+
+-- no endpoint was seen halted: the hub would have to end
+none_due : (a b : Option End) → or_else a b ≡ None → (a ≡ None) × (b ≡ None)
+none_due None b e = (refl, e)
+none_due (Some x) b e = absurd (no e)
+  where
+    no : Some x ≡ None → ⊥
+    no k = cc
+
+not_halted : (x : Option Sent) (head : RetSubmitHead) (before : Bool) → fault_end x head.status ≡ None → before ≡ false → halt_after BulkIn is_read x head before ≡ false
+not_halted None head before fault e = e
+not_halted (Some x) head before fault e = by x.order (int_eq head.status stalled) refl fault
+  where
+    fine : int_eq head.status stalled ≡ true → int_eq head.status (pos 0) ≡ false
+    fine k = ap (λ (z : ℤ). int_eq z (pos 0)) ((Decides-int_eq head.status stalled).0 k)
+
+    clear_by : (c : Bool) → (if c then false else before) ≡ false
+    clear_by true = refl
+    clear_by false = e
+
+    by : (o : Order) (b : Bool) → int_eq head.status stalled ≡ b → (if is_bulk o then (if int_eq head.status (pos 0) then None else Some (end.DeviceFault head.status)) else None) ≡ None
+        → (if is_read o && b then true else if clears BulkIn o then false else before) ≡ false
+    by order.Read true k f = absurd (no (sym (ap (λ (c : Bool). if c then None else Some (end.DeviceFault head.status)) (fine k)) ∙ f))
+      where
+        no : Some (end.DeviceFault head.status) ≡ None → ⊥
+        no h = cc
+    by order.Read false k f = e
+    by (order.ClearHalt endpoint) b k f = clear_by (is_same BulkIn endpoint)
+    by (order.Part tag text eom) b k f = e
+    by (order.Request tag size) b k f = e
+    by (order.Trigger tag) b k f = e
+    by order.Listen b k f = e
+    by (order.Class request) b k f = e
+    by (order.Unlink target) b k f = e
+
+pub none_halted : (past : Past) → end_due past ≡ None → in_halted past ≡ false
+none_halted [] e = refl
+none_halted (Took (down.RetSubmit head bytes) ∷ past) e =
+    let both : (end_due past ≡ None) × (fault_end (find head.seqnum (outstanding past)) head.status ≡ None) =
+    none_due (end_due past) (fault_end (find head.seqnum (outstanding past)) head.status) e in
+    not_halted (find head.seqnum (outstanding past)) head (in_halted past) both.1 (none_halted past both.0)
+none_halted (GaveUp ∷ past) e = none_halted past (none_due (end_due past) (Some end.GivenUp) e).0
+none_halted (x ∷ past) e = none_halted past e
+
+-- ---- it may be written
+
+may_come : (s : Setting) (past : Past) (sent : List ℕ) (core : HubCore) (wants : Want) (submit : recovery.Submit) → WantsNext s past sent core wants
+    → core.recover.awaits ≡ Answer submit → Recovering past (order_of submit)
+may_come s past sent core wants submit w awaits = record {
+  free = ap busy w.free.none_out;
+  next = record {
+    submit = submit;
+    is = refl;
+    next = subst (λ (o : Option Need). MayComeFor o past submit) (sym w.running)
+        (subst (λ (b : Bool). IsNext core.recover.need (letters past) b (notify_halted past) submit) (sym (none_halted past w.free.working.works.free))
+        (subst (λ (b : Bool). IsNext core.recover.need (letters past) false b submit) (sym w.free.quiet)
+        (w.follows.next submit awaits (record { bulk_in = λ e. refl; notify = λ e. (refl, refl) }))));
+  };
+}
+
+no_unlink : (submit : recovery.Submit) → is_unlink (order_of submit) ≡ false
+no_unlink (recovery.Ask request) = refl
+no_unlink (recovery.Clear endpoint) = refl
+no_unlink recovery.Read = refl
+
+-- or there is no number for it
+pub wants_exhausted : (s : Setting) (past : Past) (sent : List ℕ) (core new : HubCore) (wants : Want) (submit : recovery.Submit) → WantsNext s past sent core wants
+    → core.recover.awaits ≡ Answer submit → LAST_SUBMIT < core.urbs.next → new.end ≡ Some end.Exhausted
+    → Knows s (settle_all end.Exhausted (live past) (Stopped end.Exhausted ∷ past)) sent new → GoesTo s past sent new
+wants_exhausted s past sent core new wants submit w awaits none is k =
+    stopped_goes s past sent new end.Exhausted refl is k
+    (stopped_kept s past end.Exhausted w.free.working.lawful w.free.working.works.running
+    (ByNumbers refl (record {
+      owner = Recovery;
+      order = order_of submit;
+      submit = no_unlink submit;
+      works = w.free.working.works;
+      law = as_law s past submit (may_come s past sent core wants submit w awaits);
+      none_left = subst (λ (n : ℕ). LAST_SUBMIT < n) (same_next s past sent core w.free.knows) none;
+    })))
+
+over_wrote : (o : Option ℕ) (n : ℕ) (k : Order) (past : Past) → IsHandOver o past → IsHandOver o (Wrote n Recovery k ∷ past)
+over_wrote None n k past h = tt
+over_wrote (Some t) n k past h = h
+
+pub wants_goes : (s : Setting) (past : Past) (sent : List ℕ) (core : HubCore) (u : Held) (at : Repair) (submit : recovery.Submit) (wants : Want) → WantsNext s past sent core wants
+    → core.recover.awaits ≡ Answer submit → IsRepair at submit → Puts s (order_of submit) core.urbs u → GoesTo s past sent (record core { urbs = u; phase = phase.Recovery at })
+wants_goes s past sent core u at submit wants w awaits is puts =
+    let knows : Knows s (recovers_with s past (order_of submit)) sent (record core { urbs = u }) = knows_repaired s past sent core submit u w.free.knows puts in
+    record {
+      more = Wrote (next s.first past) Recovery (order_of submit) ∷ [];
+      by_itself = (tt, tt);
+      plain = λ before. absurd (not_plain past core.recover.need w.running before);
+      rests = record {
+        knows = knows_place_repaired s (recovers_with s past (order_of submit)) sent (record core { urbs = u }) (phase.Recovery at) knows;
+        kept = recovery_writes s past submit w.free.working w.free.hand (may_come s past sent core wants submit w awaits) knows.follows.lawful.1;
+        stands = λ e. record {
+          repairs = record {
+            hand = over_wrote (in_hand past) (next s.first past) (order_of submit) past w.free.hand;
+            called = ap (serves (order_of submit)) w.free.called ∙ serves_none (order_of submit);
+            runs = w.running;
+            ends = w.ends;
+            heard = w.follows.heard w.goes_on;
+            quiet = w.free.quiet;
+            queue = queued_wrote (message_of s core.urbs.next (order_of submit)) core.urbs u puts.written;
+          };
+          submit = submit;
+          is = is;
+          number = next s.first past;
+          alone = ap (λ (l : List Sent). record { number = next s.first past; owner = Recovery; order = order_of submit } ∷ l) w.free.none_out;
+          awaits = awaits;
+          fits = λ request e. w.fits request (awaits ∙ ap Answer e);
+        };
+      };
+    }
+
+-- ---- it hears, and begins
+
+pub resumes_wants : (s : Setting) (past : Past) (sent : List ℕ) (core new : HubCore) (hears : Heard) (wants : Want) → (r : Resumes s past sent core hears)
+    → RecoveryFollows (letters past) false false wants new.recover → Wants new.recover.ends new.recover.awaits wants
+    → ((status : ℕ) → wants ≡ want.Stuck status → IsStuckAt core.recover.awaits hears status)
+    → ((request : ClassRequest) → new.recover.awaits ≡ Answer (recovery.Ask request) → TagFits request)
+    → new.recover.need ≡ core.recover.need → new.recover.ends ≡ core.recover.ends → new ≡ record core { recover = new.recover } → WantsNext s past sent new wants
+resumes_wants s past sent core new hears wants r follows wanted_now stuck fits need ends rest = record {
+  free = subst (λ (c : HubCore). IsFree s past sent c) (sym rest) (free_aside s past sent core new.recover r.free);
+  running = r.running ∙ ap Some (sym need);
+  ends = ends ∙ r.ends;
+  follows = follows;
+  wants = wanted_now;
+  fits = fits;
+  goes_on = stuck_never wants refl;
+}
+  where
+    stuck_never : (x : Want) → wants ≡ x → IsStuck wants → ⊥
+    stuck_never (want.Stuck status) e k = let a : IsStuckAt core.recover.awaits hears status = stuck status e in r.plain a.answer a.answered
+    stuck_never want.Done e k = subst IsStuck e k
+    stuck_never want.Drain e k = subst IsStuck e k
+    stuck_never (want.Control setup) e k = subst IsStuck e k
