@@ -1,13 +1,18 @@
 -- a recovery goes on
 use Rattle.std.proofs.Common.{pos, ℤ, ◌≡◌, ◌≢◌, ◌⊎◌, ◌≤◌, ◌<◌, ℕ, ◌+◌, Bool, true, false, List, [], ◌∷◌, ◌++◌, length, Option, Some, None, refl, sym, subst, ◌∙◌, ap, arith, append_assoc}
-use Rattle.std.specs.Prelude.{◌==◌, ◌&&◌, ◌↔◌, is_some, slice_get, if◌then◌else◌}
+use Rattle.std.specs.Prelude.{replicate, ◌==◌, ◌&&◌, ◌↔◌, is_some, slice_get, if◌then◌else◌}
 use Rattle.usbip_wire.specs.Down as down
 use Rattle.usbip_wire.specs.declared.ret_submit.RetSubmitHead.{RetSubmitHead}
 use Rattle.host_recover.specs.Letter.{BulkIn}
 use Rattle.tmc_wire.specs.declared.class_request.ClassRequest.{ClassRequest}
 use Rattle.tmc_wire.specs.ControlTable.{TagFits}
 use Rattle.host_urbs.specs.declared.limits.TheConstants.{LAST_SUBMIT}
-use Rattle.host_urbs.specs.Held.{Follows, Held}
+use Rattle.host_urbs.specs.Held.{Follows, Held, submit_by, wrote}
+use Rattle.usbip_wire.specs.Up as up
+use Rattle.usbip_wire.specs.declared.urb.Dir.TheVariants.{In}
+use Rattle.usb_setup.specs.declared.ends.Ends.{Ends}
+use Rattle.tmc_base.specs.declared.limits.TheConstants.{BULK_IN_SUBMIT}
+use Rattle.host_recover.specs.Want.{want_of}
 use Rattle.host_urbs.specs.Record as urbs
 use Rattle.host_recover.specs.declared.need.Need.{Need}
 use Rattle.host_recover.specs.declared.want.Heard.{Heard}
@@ -17,7 +22,7 @@ use Rattle.host_recover.specs.declared.want.Want.TheVariants as want
 use Rattle.host_recover.specs.Letter as recovery
 use Rattle.host_recover.specs.Letter.{Letter}
 use Rattle.host_recover.specs.Next.{IsNext}
-use Rattle.host_recover.specs.Recover.{Answer, AreSeen, Follows as RecoveryFollows, HasHeard, IsStuck, IsStuckAt, Recovering as RecoveringNow, Wants}
+use Rattle.host_recover.specs.Recover.{Answer, Awaits, Start, Nothing, AreSeen, Follows as RecoveryFollows, HasHeard, IsStuck, IsStuckAt, Recovering as RecoveringNow, Wants}
 use Rattle.host_recover.specs.Words.{Has, words_of}
 use Rattle.tmc_wire.specs.declared.class_request.ClassRequest.TheVariants as class
 use Rattle.host_hub.specs.declared.hub_core.HubCore.{HubCore}
@@ -27,7 +32,7 @@ use Rattle.host_hub.specs.declared.hub_core.Repair.{Repair}
 use Rattle.host_hub.specs.declared.outcome.End.{End}
 use Rattle.host_hub.specs.declared.outcome.End.TheVariants as end
 use Rattle.host_hub.specs.BookSeen.{Seen}
-use Rattle.host_hub.specs.Order.{Order, Setting, is_bulk, is_read, is_unlink, message_of}
+use Rattle.host_hub.specs.Order.{Order, Setting, is_bulk, is_read, is_unlink, message_of, number_of}
 use Rattle.host_hub.specs.Order as order
 use Rattle.host_hub.specs.Record.{Past, Recovers, Recovery, Stopped, Wrote, Took, Fell, Asked, Cancelled, Cleared, GaveUp, Settled, next}
 use Rattle.host_hub.specs.Crossings.{crossings}
@@ -51,9 +56,9 @@ use Rattle.host_hub.specs.Shown.{ShowsTicket}
 use Rattle.host_hub.specs.Stands.{GoesTo, IsRepair, Rests}
 use Rattle.host_hub.specs.Steps.{MayWriteNext, Working, recovers_with, settle_all}
 use Rattle.host_hub.specs.Writes.{Done, Puts}
-use Rattle.host_hub.proofs.Begins.{same_device, same_next, stopped_goes}
+use Rattle.host_hub.proofs.Begins.{none_entries, same_device, same_next, stopped_goes}
 use Rattle.host_hub.proofs.Endings.{stopped_kept}
-use Rattle.host_hub.proofs.Queues.{queued_wrote}
+use Rattle.host_hub.proofs.Queues.{queued_none, queued_wrote}
 use Rattle.host_hub.proofs.Recovering.{as_law, recovery_begins, recovery_writes}
 
 -- ---- what a record says while a recovery runs
@@ -341,3 +346,40 @@ resumes_wants s past sent core new hears wants r follows wanted_now stuck fits n
     stuck_never want.Done e k = subst IsStuck e k
     stuck_never want.Drain e k = subst IsStuck e k
     stuck_never (want.Control setup) e k = subst IsStuck e k
+
+-- ---- what is wanted is what is awaited
+
+-- a read
+pub drain_awaits : (ends : Ends) (awaits : Awaits) → Wants ends awaits want.Drain → awaits ≡ Answer recovery.Read
+drain_awaits ends Start h = absurd h
+drain_awaits ends Nothing h = absurd h
+drain_awaits ends (Answer recovery.Read) h = refl
+drain_awaits ends (Answer (recovery.Ask request)) h = absurd (no h)
+  where
+    no : want.Drain ≡ want_of ends (recovery.Ask request) → ⊥
+    no k = cc
+drain_awaits ends (Answer (recovery.Clear endpoint)) h = absurd (no h)
+  where
+    no : want.Drain ≡ want_of ends (recovery.Clear endpoint) → ⊥
+    no k = cc
+
+pub drain_puts : (s : Setting) (past : Past) (sent : List ℕ) (core : HubCore) (ep : ℕ) (u : Held) → Knows s past sent core → ep ≡ number_of core.ends.bulk_in
+    → u ≡ wrote (submit_by core.urbs In ep BULK_IN_SUBMIT (replicate 8 0) []) core.urbs
+    → ((first : ℕ) (before : urbs.Past) (front : List ℕ) → Follows first before front core.urbs
+    → Follows first (urbs.Wrote (submit_by core.urbs In ep BULK_IN_SUBMIT (replicate 8 0) []) ∷ before) front u)
+    → Puts s order.Read core.urbs u
+drain_puts s past sent core ep u k number written recorded = record {
+  written = written ∙ ap (λ (m : up.Message). wrote m core.urbs) same;
+  recorded = λ before front f. subst (λ (m : up.Message). Follows s.first (urbs.Wrote m ∷ before) front u) same (recorded s.first before front f);
+}
+  where
+    same : submit_by core.urbs In ep BULK_IN_SUBMIT (replicate 8 0) [] ≡ message_of s core.urbs.next order.Read
+    same =
+        ap (λ (d : ℕ). up.Submit (record { seqnum = core.urbs.next; devid = d; dir = In; ep = ep; length = BULK_IN_SUBMIT; setup = replicate 8 0 }) []) k.device
+        ∙ ap (λ (e : ℕ). up.Submit (record { seqnum = core.urbs.next; devid = s.devid; dir = In; ep = e; length = BULK_IN_SUBMIT; setup = replicate 8 0 }) [])
+        (number ∙ ap (λ (e : Ends). number_of e.bulk_in) k.interface)
+
+pub free_entries : (s : Setting) (past : Past) (sent : List ℕ) (core : HubCore) → IsFree s past sent core → (core.urbs.entries ≡ []) × (core.urbs.outbox ≡ [])
+free_entries s past sent core f =
+    let none : core.urbs.entries ≡ [] = none_entries s past sent core f.working.lawful f.knows f.none_out in
+    (none, queued_none core.urbs none f.queue)
