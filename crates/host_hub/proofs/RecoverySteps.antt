@@ -5,6 +5,7 @@ use Rattle.usbip_wire.specs.Down as down
 use Rattle.usbip_wire.specs.declared.ret_submit.RetSubmitHead.{RetSubmitHead}
 use Rattle.host_recover.specs.Letter.{BulkIn}
 use Rattle.tmc_wire.specs.declared.class_request.ClassRequest.{ClassRequest}
+use Rattle.tmc_wire.specs.declared.class_answer.ClassAnswer.{ClassAnswer}
 use Rattle.tmc_wire.specs.ControlTable.{TagFits}
 use Rattle.host_urbs.specs.declared.limits.TheConstants.{LAST_SUBMIT}
 use Rattle.host_urbs.specs.Held.{Follows, Held, submit_by, wrote}
@@ -22,7 +23,7 @@ use Rattle.host_recover.specs.declared.want.Want.TheVariants as want
 use Rattle.host_recover.specs.Letter as recovery
 use Rattle.host_recover.specs.Letter.{Letter}
 use Rattle.host_recover.specs.Next.{IsNext}
-use Rattle.host_recover.specs.Recover.{Answer, Awaits, Start, Nothing, AreSeen, Follows as RecoveryFollows, HasHeard, IsStuck, IsStuckAt, Recovering as RecoveringNow, Wants}
+use Rattle.host_recover.specs.Recover.{Answer, IsAwaited, behind, Awaits, Start, Nothing, AreSeen, Follows as RecoveryFollows, HasHeard, IsStuck, IsStuckAt, Recovering as RecoveringNow, Wants}
 use Rattle.host_recover.specs.Words.{Has, words_of}
 use Rattle.tmc_wire.specs.declared.class_request.ClassRequest.TheVariants as class
 use Rattle.host_hub.specs.declared.hub_core.HubCore.{HubCore}
@@ -56,7 +57,7 @@ use Rattle.host_hub.specs.Shown.{ShowsTicket}
 use Rattle.host_hub.specs.Stands.{GoesTo, IsRepair, Rests}
 use Rattle.host_hub.specs.Steps.{MayWriteNext, Working, recovers_with, settle_all}
 use Rattle.host_hub.specs.Writes.{Done, Puts}
-use Rattle.host_hub.proofs.Begins.{none_entries, same_device, same_next, stopped_goes}
+use Rattle.host_hub.proofs.Begins.{none_entries, one_added, same_device, same_next, stopped_goes}
 use Rattle.host_hub.proofs.Endings.{stopped_kept}
 use Rattle.host_hub.proofs.Queues.{queued_none, queued_wrote}
 use Rattle.host_hub.proofs.Recovering.{as_law, recovery_begins, recovery_writes}
@@ -383,3 +384,89 @@ pub free_entries : (s : Setting) (past : Past) (sent : List ℕ) (core : HubCore
 free_entries s past sent core f =
     let none : core.urbs.entries ≡ [] = none_entries s past sent core f.working.lawful f.knows f.none_out in
     (none, queued_none core.urbs none f.queue)
+
+-- what is wanted is a submit, but where it is over
+pub record Awaited (core : HubCore) : Type 0 where
+  pub submit : recovery.Submit
+  pub awaits : core.recover.awaits ≡ Answer submit
+
+pub some_awaited : (core : HubCore) (wants : Want) → Wants core.recover.ends core.recover.awaits wants → (IsStuck wants → ⊥) → (wants ≡ want.Done → ⊥) → Awaited core
+some_awaited core wants h unstuck undone = by core.recover.awaits refl h
+  where
+    over : (x : Want) → wants ≡ x → Wants core.recover.ends Nothing x → Awaited core
+    over want.Done e k = absurd (undone e)
+    over (want.Stuck status) e k = absurd (subst (λ (x : Want). IsStuck x → ⊥) e unstuck tt)
+    over want.Drain e k = absurd k
+    over (want.Control setup) e k = absurd k
+
+    by : (a : Awaits) → core.recover.awaits ≡ a → Wants core.recover.ends a wants → Awaited core
+    by Start e k = absurd k
+    by (Answer submit) e k = record { submit = submit; awaits = e }
+    by Nothing e k = over wants refl k
+
+knows_begun : (s : Setting) (past : Past) (sent : List ℕ) (core : HubCore) → Knows s past sent core → Knows s (Recovers ∷ past) sent core
+knows_begun s past sent core k = record {
+  shallow = k.shallow;
+  first_number = k.first_number;
+  interface = k.interface;
+  device = k.device;
+  follows = k.follows;
+  shows = record { count = k.shows.count; each = λ t one e. shown t one (k.shows.each t one e); entries = k.shows.entries; service = k.shows.service };
+  marks = k.marks;
+  all_started = k.all_started;
+  starts = k.starts;
+  all_born = k.all_born;
+  limit_sum = k.limit_sum;
+  tag = k.tag;
+  answers = k.answers;
+  over = k.over;
+  proper = k.proper;
+  few = k.few;
+  lives = k.lives;
+  turn = k.turn;
+  room = k.room;
+}
+  where
+    shown : (t : ℕ) (one : Seen) → ShowsTicket past t one → ShowsTicket (Recovers ∷ past) t one
+    shown t one h = record { asking = h.asking; last = h.last; bytes = h.bytes; outcome = h.outcome }
+
+-- ---- it begins
+
+over_recovers : (o : Option ℕ) (past : Past) → IsHandOver o past → IsHandOver o (Recovers ∷ past)
+over_recovers None past h = tt
+over_recovers (Some t) past h = h
+
+pub calls_resumes : (s : Setting) (past : Past) (sent : List ℕ) (core : HubCore) (called : Need) (r : RecoveringNow) → Calls s past sent core (Some called)
+    → r ≡ record { need = called; ends = core.ends; awaits = Start; left = words_of called } → HasHeard [] r
+    → Resumes s (Recovers ∷ past) sent (record core { recover = r }) hearing.Start
+calls_resumes s past sent core called r c is heard = record {
+  free = free_aside s (Recovers ∷ past) sent core r (record {
+    knows = knows_begun s past sent core c.free.knows;
+    working = recovery_begins s past c.free.working (record { hand = c.free.hand; free = ap busy c.free.none_out; whole = c.whole; need = ap is_some c.wants });
+    runs = c.free.runs;
+    hand = over_recovers (in_hand past) past c.free.hand;
+    none_out = c.free.none_out;
+    called = c.free.called;
+    quiet = c.free.quiet;
+    queue = c.free.queue;
+  });
+  running = c.wants ∙ ap (λ (x : RecoveringNow). Some x.need) (sym is);
+  ends = ap (λ (x : RecoveringNow). x.ends) is ∙ c.free.knows.interface;
+  awaited = subst (λ (x : RecoveringNow). IsAwaited x.awaits hearing.Start) (sym is) refl;
+  before = [];
+  heard = heard;
+  letters = subst (λ (x : RecoveringNow). [] ≡ behind [] x.awaits hearing.Start) (sym is) refl;
+  plain = λ answer e. class_never answer e;
+}
+  where
+    class_never : (answer : ClassAnswer) → hearing.Start ≡ hearing.Class answer → ⊥
+    class_never answer e = cc
+
+pub begun_goes : (s : Setting) (past : Past) (sent : List ℕ) (core new : HubCore) (called : Need) → Calls s past sent core (Some called) → GoesTo s (Recovers ∷ past) sent new
+    → GoesTo s past sent new
+begun_goes s past sent core new called c g = record {
+  more = g.more ++ Recovers ∷ [];
+  by_itself = one_added IsOwn g.more Recovers g.by_itself tt;
+  plain = λ before. absurd (c.cancelled called refl before);
+  rests = subst (λ (p : Past). Rests s p sent new) (sym (append_assoc g.more (Recovers ∷ []) past)) g.rests;
+}

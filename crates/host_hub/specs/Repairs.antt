@@ -20,6 +20,8 @@ use Rattle.host_hub.specs.Law.{IsHandOver}
 use Rattle.host_hub.specs.Steps.{Working}
 use Rattle.host_hub.specs.Knows.{Knows}
 use Rattle.host_hub.specs.Queued.{Queued}
+use Rattle.host_hub.specs.Calls.{All}
+use Rattle.host_hub.specs.Joined.{IsPlain}
 
 -- nothing is out, the ticket in hand is settled, and no clear was called for
 pub record IsFree (s : Setting) (past : Past) (sent : List ℕ) (core : HubCore) : Type 0 where
@@ -37,6 +39,8 @@ pub record Calls (s : Setting) (past : Past) (sent : List ℕ) (core : HubCore) 
   pub free : IsFree s past sent core
   pub whole : IsWhole past
   pub wants : wanted past ≡ need
+  -- a cancel came before
+  pub cancelled : (called : Need) → need ≡ Some called → All IsPlain past → ⊥
 
 pub record IsCalling (core : HubCore) (need : Option Need) : Type 0 where
   pub setting : Setting
