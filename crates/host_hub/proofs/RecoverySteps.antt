@@ -1,19 +1,22 @@
 -- a recovery goes on
-use Rattle.std.proofs.Common.{pos, ℤ, ◌≡◌, ◌≢◌, ◌⊎◌, ◌≤◌, ◌<◌, ℕ, ◌+◌, Bool, true, false, List, [], ◌∷◌, ◌++◌, length, Option, Some, None, refl, sym, subst, ◌∙◌, ap, arith, append_assoc}
+use Rattle.std.proofs.Common.{bit_and, pos, ℤ, ◌≡◌, ◌≢◌, ◌⊎◌, ◌≤◌, ◌<◌, ℕ, ◌+◌, Bool, true, false, List, [], ◌∷◌, ◌++◌, length, Option, Some, None, refl, sym, subst, ◌∙◌, ap, arith, append_assoc}
 use Rattle.std.specs.Prelude.{replicate, ◌==◌, ◌&&◌, ◌↔◌, is_some, slice_get, if◌then◌else◌}
 use Rattle.usbip_wire.specs.Down as down
 use Rattle.usbip_wire.specs.declared.ret_submit.RetSubmitHead.{RetSubmitHead}
 use Rattle.host_recover.specs.Letter.{BulkIn}
 use Rattle.tmc_wire.specs.declared.class_request.ClassRequest.{ClassRequest}
 use Rattle.tmc_wire.specs.declared.class_answer.ClassAnswer.{ClassAnswer}
-use Rattle.tmc_wire.specs.ControlTable.{TagFits}
+use Rattle.tmc_wire.specs.ControlTable.{IsRow, TagFits, row}
 use Rattle.host_urbs.specs.declared.limits.TheConstants.{LAST_SUBMIT}
 use Rattle.host_urbs.specs.Held.{Follows, Held, submit_by, wrote}
 use Rattle.usbip_wire.specs.Up as up
-use Rattle.usbip_wire.specs.declared.urb.Dir.TheVariants.{In}
+use Rattle.usbip_wire.specs.declared.urb.Dir.TheVariants.{In, Out}
 use Rattle.usb_setup.specs.declared.ends.Ends.{Ends}
 use Rattle.tmc_base.specs.declared.limits.TheConstants.{BULK_IN_SUBMIT}
-use Rattle.host_recover.specs.Want.{want_of}
+use Rattle.host_recover.specs.Want.{address_of, clear_halt_setup, want_of}
+use Rattle.usb_setup.specs.declared.setup.Setup.{Setup}
+use Rattle.usb_setup.specs.Setup.{setup_layout}
+use Rattle.usbip_wire.specs.declared.urb.Dir.{Dir}
 use Rattle.host_urbs.specs.Record as urbs
 use Rattle.host_recover.specs.declared.need.Need.{Need}
 use Rattle.host_recover.specs.declared.want.Heard.{Heard}
@@ -33,7 +36,7 @@ use Rattle.host_hub.specs.declared.hub_core.Repair.{Repair}
 use Rattle.host_hub.specs.declared.outcome.End.{End}
 use Rattle.host_hub.specs.declared.outcome.End.TheVariants as end
 use Rattle.host_hub.specs.BookSeen.{Seen}
-use Rattle.host_hub.specs.Order.{Order, Setting, is_bulk, is_read, is_unlink, message_of, number_of}
+use Rattle.host_hub.specs.Order.{Order, Setting, is_bulk, is_read, is_unlink, message_of, number_of, way_of}
 use Rattle.host_hub.specs.Order as order
 use Rattle.host_hub.specs.Record.{Past, Recovers, Recovery, Stopped, Wrote, Took, Fell, Asked, Cancelled, Cleared, GaveUp, Settled, next}
 use Rattle.host_hub.specs.Crossings.{crossings}
@@ -470,3 +473,104 @@ begun_goes s past sent core new called c g = record {
   plain = λ before. absurd (c.cancelled called refl before);
   rests = subst (λ (p : Past). Rests s p sent new) (sym (append_assoc g.more (Recovers ∷ []) past)) g.rests;
 }
+
+-- ---- a control submit
+
+-- the setup of a submit on endpoint 0
+abbrev pub setup_for : Ends → recovery.Submit → Setup
+setup_for ends (recovery.Ask request) = row ends request
+setup_for ends (recovery.Clear endpoint) = clear_halt_setup (address_of ends endpoint)
+setup_for ends recovery.Read = clear_halt_setup 0
+
+abbrev pub IsControl : recovery.Submit → Type 0
+IsControl recovery.Read = ⊥
+IsControl submit = Unit {0}
+
+pub record ControlAwaited (core : HubCore) (setup : Setup) : Type 0 where
+  pub submit : recovery.Submit
+  pub awaits : core.recover.awaits ≡ Answer submit
+  pub control : IsControl submit
+  pub is : setup ≡ setup_for core.recover.ends submit
+
+pub control_awaits : (core : HubCore) (setup : Setup) → Wants core.recover.ends core.recover.awaits (want.Control setup) → ControlAwaited core setup
+control_awaits core setup h = by core.recover.awaits refl h
+  where
+    same : (other : Setup) → want.Control setup ≡ want.Control other → setup ≡ other
+    same other k = cc
+
+    no : want.Control setup ≡ want.Drain → ⊥
+    no k = cc
+
+    by : (a : Awaits) → core.recover.awaits ≡ a → Wants core.recover.ends a (want.Control setup) → ControlAwaited core setup
+    by Start e k = absurd k
+    by Nothing e k = absurd k
+    by (Answer (recovery.Ask request)) e k = record { submit = recovery.Ask request; awaits = e; control = tt; is = same (row core.recover.ends request) k }
+    by (Answer (recovery.Clear endpoint)) e k =
+        record { submit = recovery.Clear endpoint; awaits = e; control = tt; is = same (clear_halt_setup (address_of core.recover.ends endpoint)) k }
+    by (Answer recovery.Read) e k = absurd (no k)
+
+-- data goes to the host exactly where bit 7 says so
+row_in : (ends : Ends) (request : ClassRequest) → bit_and (row ends request).request_type 128 ≡ 128
+row_in ends (class.AbortOut tag) = refl
+row_in ends class.CheckOut = refl
+row_in ends (class.AbortIn tag) = refl
+row_in ends class.CheckIn = refl
+row_in ends class.Clear = refl
+row_in ends class.CheckClear = refl
+row_in ends class.Capabilities = refl
+row_in ends class.Pulse = refl
+row_in ends (class.ReadStatus tag) = refl
+row_in ends (class.Ren true) = refl
+row_in ends (class.Ren false) = refl
+row_in ends class.GoLocal = refl
+row_in ends class.Lockout = refl
+
+pub way_out : (ends : Ends) (submit : recovery.Submit) → IsControl submit → bit_and (setup_for ends submit).request_type 128 ≡ 0 → way_of (order_of submit) ≡ Out
+way_out ends (recovery.Ask request) c e = absurd (omega (arith, e, row_in ends request))
+way_out ends (recovery.Clear endpoint) c e = refl
+way_out ends recovery.Read c e = absurd c
+
+pub way_in : (ends : Ends) (submit : recovery.Submit) → IsControl submit → (bit_and (setup_for ends submit).request_type 128 ≡ 0 → ⊥) → way_of (order_of submit) ≡ In
+way_in ends (recovery.Ask request) c e = refl
+way_in ends (recovery.Clear endpoint) c e = absurd (e refl)
+way_in ends recovery.Read c e = absurd c
+
+pub control_puts : (s : Setting) (past : Past) (sent : List ℕ) (core : HubCore) (submit : recovery.Submit) (setup : Setup) (dir : Dir) (size : ℕ) (bytes : List ℕ) (u : Held)
+    → Knows s past sent core → core.recover.ends ≡ s.ends → IsControl submit → setup ≡ setup_for core.recover.ends submit → dir ≡ way_of (order_of submit) → size ≡ setup.length
+    → bytes ≡ setup_layout setup → u ≡ wrote (submit_by core.urbs dir 0 size bytes []) core.urbs
+    → ((first : ℕ) (before : urbs.Past) (front : List ℕ) → Follows first before front core.urbs
+    → Follows first (urbs.Wrote (submit_by core.urbs dir 0 size bytes []) ∷ before) front u)
+    → Puts s (order_of submit) core.urbs u
+control_puts s past sent core submit setup dir size bytes u k ends control is way length_is bytes_are written recorded = record {
+  written = written ∙ ap (λ (m : up.Message). wrote m core.urbs) same;
+  recorded = λ before front f. subst (λ (m : up.Message). Follows s.first (urbs.Wrote m ∷ before) front u) same (recorded s.first before front f);
+}
+  where
+    made : (devid : ℕ) (d : Dir) (x : Setup) → up.Message
+    made devid d x = up.Submit (record { seqnum = core.urbs.next; devid = devid; dir = d; ep = 0; length = x.length; setup = setup_layout x }) []
+
+    by : (x : recovery.Submit) → IsControl x → made s.devid (way_of (order_of x)) (setup_for s.ends x) ≡ message_of s core.urbs.next (order_of x)
+    by (recovery.Ask request) c = refl
+    by (recovery.Clear endpoint) c = refl
+    by recovery.Read c = absurd c
+
+    same : submit_by core.urbs dir 0 size bytes [] ≡ message_of s core.urbs.next (order_of submit)
+    same =
+        ap (λ (n : ℕ). up.Submit (record { seqnum = core.urbs.next; devid = core.urbs.devid; dir = dir; ep = 0; length = n; setup = bytes }) []) length_is
+        ∙ (ap (λ (l : List ℕ). up.Submit (record { seqnum = core.urbs.next; devid = core.urbs.devid; dir = dir; ep = 0; length = setup.length; setup = l }) []) bytes_are
+        ∙ (ap (λ (n : ℕ). made n dir setup) k.device
+        ∙ (ap (λ (d : Dir). made s.devid d setup) way
+        ∙ (ap (made s.devid (way_of (order_of submit))) (is ∙ ap (λ (e : Ends). setup_for e submit) ends) ∙ by submit control))))
+
+-- which request it is
+pub repair_class : (ends : Ends) (submit : recovery.Submit) (request : ClassRequest) → ((r : ClassRequest) → submit ≡ recovery.Ask r → TagFits r) → IsControl submit
+    → IsRow ends request (setup_for ends submit) → ((r : ClassRequest) → IsRow ends r (setup_for ends submit) → r ≡ request) → submit ≡ recovery.Ask request
+repair_class ends (recovery.Ask r) request fits c at only = ap recovery.Ask (only r (record { fits = fits r refl; is = refl }))
+repair_class ends (recovery.Clear endpoint) request fits c at only = absurd (omega (arith, ap (λ (x : Setup). bit_and x.request_type 128) at.is, row_in ends request))
+repair_class ends recovery.Read request fits c at only = absurd c
+
+pub repair_clear : (ends : Ends) (submit : recovery.Submit) → ((r : ClassRequest) → submit ≡ recovery.Ask r → TagFits r) → IsControl submit
+    → ((r : ClassRequest) → IsRow ends r (setup_for ends submit) → ⊥) → (endpoint : recovery.Endpoint) × (submit ≡ recovery.Clear endpoint)
+repair_clear ends (recovery.Ask r) fits c none = absurd (none r (record { fits = fits r refl; is = refl }))
+repair_clear ends (recovery.Clear endpoint) fits c none = (endpoint, refl)
+repair_clear ends recovery.Read fits c none = absurd c
