@@ -1,7 +1,8 @@
-use Rattle.std.proofs.Common.{◌≡◌, ◌∙◌, ℕ, List, [], Some, length, refl, sym, subst, ap, arith}
+use Rattle.std.proofs.Common.{◌≡◌, ◌∙◌, ℕ, List, [], Some, length, bit_and, refl, sym, subst, ap, arith}
 use Rattle.host_urbs.specs.declared.entry.Entry.{Entry}
 use Rattle.usbip_wire.specs.declared.urb.Dir.{Dir}
 use Rattle.host_recover.specs.Letter as recovery
+use Rattle.host_recover.specs.Recover as recovery_of
 use Rattle.host_recover.specs.declared.want.Want.TheVariants as want
 use Rattle.tmc_wire.specs.declared.class_request.ClassRequest.{ClassRequest}
 use Rattle.tmc_wire.specs.ControlTable.{IsRow}
@@ -31,6 +32,9 @@ submit-requires-clause-room c =
     let f = free_entries k.setting k.past k.sent c.args.self.now k.wants.free in
     omega (arith, ap (λ (l : List ℕ). length l) f.1)
 
+same : (x y : ClassRequest) → Some x ≡ Some y → x ≡ y
+same x y e = cc
+
 pub returns-clause-goes : goal.returns-clause-goes
 returns-clause-goes c = λ s past sent w.
     let a : ControlAwaited c.args.self.now c.args.setup = control_awaits c.args.self.now c.args.setup w.wants in
@@ -41,11 +45,34 @@ returns-clause-goes c = λ s past sent w.
     let row_of : (r : ClassRequest) → IsRow c.args.self.now.recover.ends r (setup_for c.args.self.now.recover.ends a.submit) → IsRow c.args.self.now.ends r c.args.setup =
     λ r at. subst (λ (e : Ends). IsRow e r c.args.setup) (w.ends ∙ sym w.free.knows.interface)
     (subst (λ (x : Setup). IsRow c.args.self.now.recover.ends r x) (sym a.is) at) in
-    let fits : (r : ClassRequest) → a.submit ≡ recovery.Ask r → _ = λ r e. w.fits r (a.awaits ∙ ap _ e) in
+    let row_to : (r : ClassRequest) → IsRow c.args.self.now.ends r c.args.setup → IsRow c.args.self.now.recover.ends r (setup_for c.args.self.now.recover.ends a.submit) =
+    λ r at. subst (λ (x : Setup). IsRow c.args.self.now.recover.ends r x) a.is
+    (subst (λ (e : Ends). IsRow e r c.args.setup) (w.free.knows.interface ∙ sym w.ends) at) in
+    let fits : (r : ClassRequest) → a.submit ≡ recovery.Ask r → _ = λ r e. w.fits r (a.awaits ∙ ap recovery_of.Answer e) in
     let is : IsRepair c.match-read_class.self a.submit = elim c.match-read_class.branch [
-      | in-Some b ↦ ?
-      | in-None b ↦ ?
+      | in-Some b ↦ subst (λ (x : Repair). IsRepair x a.submit) (sym b.self-is)
+        (repair_class c.args.self.now.recover.ends a.submit b.in-Some.request fits a.control
+        (row_to b.in-Some.request ((c.read_class.ensures.some b.in-Some.request).0 b.in-Some.is))
+        (λ r at. same r b.in-Some.request (sym ((c.read_class.ensures.some r).1 (row_of r at)) ∙ b.in-Some.is)))
+      | in-None b ↦ subst (λ (x : Repair). IsRepair x a.submit) (sym b.self-is)
+        (repair_clear c.args.self.now.recover.ends a.submit fits a.control
+        (λ r at. c.read_class.ensures.none.0 b.in-None.is r (row_of r at)))
     ] in
     wants_goes s past sent c.args.self.now c.submit.new.self c.match-read_class.self a.submit (want.Control c.args.setup) w a.awaits is
     (control_puts s past sent c.args.self.now a.submit c.args.setup c.if-setup-eq0.dir c.from.result c.to_bytes.result c.submit.new.self w.free.knows w.ends a.control a.is way
     c.from.ensures c.to_bytes.ensures c.submit.ensures.written c.submit.ensures.recorded)
+
+pub returns-clause-leaves : goal.returns-clause-leaves
+returns-clause-leaves c =
+    let k = c.requires.wanted in
+    let f = free_entries k.setting k.past k.sent c.args.self.now k.wants.free in
+    record {
+      keeps = record {
+        first = refl;
+        ends = refl;
+        turned = refl;
+        births = refl;
+        short = λ h. room_short c.args.self.now.urbs c.submit.new.self c.if-setup-eq0.dir 0 _ c.to_bytes.result [] (ap (λ (l : List ℕ). length l) c.to_bytes.ensures) (omega (arith, ap (λ (l : List ℕ). length l) f.1)) c.submit.ensures.written;
+      };
+      reader = refl;
+    }
