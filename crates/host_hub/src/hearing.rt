@@ -65,9 +65,13 @@ impl HubCore {
             Phase::Message => self.part_answered(head),
             Phase::Request => self.request_answered(head),
             Phase::Response => self.read_answered(head),
-            Phase::Unlink(Race::Out(submit)) => self.race_answered(submit, head),
+            Phase::Unlink(race) => match race {
+                Race::Out(submit) => self.race_answered(submit, head),
+                Race::Missed(_) => unreachable!(),
+                Race::Settled => unreachable!(),
+            },
             Phase::Recovery(repair) => self.repair_answered(repair, head),
-            Phase::Idle | Phase::Unlink(_) => unreachable!(),
+            Phase::Idle => unreachable!(),
         }
     }
 
